@@ -1,0 +1,19 @@
+-- Digests out of bytes.
+use Rattle.std.specs.Prelude.{◌≡◌, ℕ, zero, suc, List, [], ◌∷◌, length, refl}
+use Rattle.std.proofs.Common.{ap}
+use Rattle.tpol_base.specs.declared.digest.Digest32.{Digest32}
+
+-- the first n bytes, with zero bytes where there are fewer
+abbrev pub front : ℕ → List ℕ → List ℕ
+front zero bytes = []
+front (suc n) [] = 0 ∷ front n []
+front (suc n) (byte ∷ bytes) = byte ∷ front n bytes
+
+pub length-front : (n : ℕ) (bytes : List ℕ) → length (front n bytes) ≡ n
+length-front zero bytes = refl
+length-front (suc n) [] = ap suc (length-front n [])
+length-front (suc n) (byte ∷ bytes) = ap suc (length-front n bytes)
+
+-- the digest of the first 32 bytes
+unfoldable pub digest_of_bytes : List ℕ → Digest32
+digest_of_bytes bytes = record { bytes = front 32 bytes; whole = length-front 32 bytes }

@@ -1,0 +1,69 @@
+ghost use Rattle.std.specs.Prelude.{◌≡◌};
+ghost use Rattle.tpol_base.specs.Compare.{compare_of_number, number_of_compare};
+
+/// The comparison of PolicyNV and PolicyCounterTimer (TPM 2.0 Part 2, TPM_EO), numbered 0 to 11 in this
+/// order. Operands are compared as big-endian numbers, signed ones in two's complement.
+#[derive(Clone, Copy, Debug, PartialEq, Eq)]
+pub enum Compare {
+    Eq,
+    Neq,
+    SignedGt,
+    UnsignedGt,
+    SignedLt,
+    UnsignedLt,
+    SignedGe,
+    UnsignedGe,
+    SignedLe,
+    UnsignedLe,
+    BitSet,
+    BitClear,
+}
+
+/// Every comparison, by its number.
+const COMPARISONS: [Compare; 12] = [
+    Compare::Eq,
+    Compare::Neq,
+    Compare::SignedGt,
+    Compare::UnsignedGt,
+    Compare::SignedLt,
+    Compare::UnsignedLt,
+    Compare::SignedGe,
+    Compare::UnsignedGe,
+    Compare::SignedLe,
+    Compare::UnsignedLe,
+    Compare::BitSet,
+    Compare::BitClear,
+];
+
+impl Compare {
+    /// The comparison's number in TPM_EO.
+    pub fn number(self) -> u16
+        ensures { result ≡ number_of_compare self }
+    {
+        match self {
+            Compare::Eq => 0,
+            Compare::Neq => 1,
+            Compare::SignedGt => 2,
+            Compare::UnsignedGt => 3,
+            Compare::SignedLt => 4,
+            Compare::UnsignedLt => 5,
+            Compare::SignedGe => 6,
+            Compare::UnsignedGe => 7,
+            Compare::SignedLe => 8,
+            Compare::UnsignedLe => 9,
+            Compare::BitSet => 10,
+            Compare::BitClear => 11,
+        }
+    }
+
+    /// The comparison of this number in TPM_EO; `None` from 12 on.
+    #[tactic(auto, unfolding(crate::specs::Compare::compare_of_number))]
+    pub fn from_number(number: u16) -> Option<Compare>
+        ensures { result ≡ compare_of_number number }
+    {
+        COMPARISONS
+            .iter()
+            .copied()
+            .find(|compare| compare.number() == number)
+    }
+}

@@ -1,0 +1,59 @@
+//! Small types that every crate of fapipol uses, and the three traits of the outside: where a document
+//! comes from, where lines go, and where documents are kept.
+//!
+//! Contracts above see a `Sequence` as a list, a `Text` as its bytes, and an object of the outside by two
+//! things: what it tells of its content, and the count of its faults, which never falls. A call of the
+//! outside answers `Failed` only where that count rose in the call.
+#![tactic(auto)]
+
+mod check;
+mod compare;
+mod cursor;
+mod digest;
+mod document;
+mod failing;
+mod folder_shelf;
+mod memory_shelf;
+mod memory_sink;
+mod memory_source;
+mod name;
+mod no_memory;
+mod outside;
+mod policy_name;
+mod rc;
+mod sequence;
+mod std_sink;
+mod std_source;
+mod text;
+
+pub use check::Check;
+pub use compare::Compare;
+pub use cursor::Cursor;
+pub use digest::Digest32;
+pub use document::Document;
+pub use failing::Failing;
+pub use folder_shelf::FolderShelf;
+pub use memory_shelf::{MemoryShelf, most_handed_out};
+pub use memory_sink::MemorySink;
+pub use memory_source::MemorySource;
+pub use name::Name;
+pub use no_memory::NoMemory;
+pub use outside::{Failed, Lapse, Shelf, Sink, Source};
+pub use policy_name::is_policy_name;
+pub use rc::Rc;
+pub use sequence::Sequence;
+pub use std_sink::StdSink;
+pub use std_source::StdSource;
+pub use text::Text;
+
+/// Bytes; contracts see the list of them.
+pub type Blob = Sequence<u8>;
+
+/// A list of texts.
+pub type Texts = Sequence<Text>;
+
+/// A list of SHA-256 digests.
+pub type Digests = Sequence<Digest32>;
+
+#[cfg(test)]
+mod tests;

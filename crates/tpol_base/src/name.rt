@@ -1,0 +1,42 @@
+ghost use Rattle.std.specs.Prelude.{◌≡◌, IfSome, IfNone, IfOk, length};
+ghost use Rattle.tpol_base.specs.Name.{name_bytes, name_of_bytes};
+ghost use Rattle.tpol_base.specs.declared.name.Name.{Name as EntityName};
+
+use crate::{Blob, Digest32, NoMemory};
+
+/// The Name of an entity (TPM 2.0 Part 1, "Names"). Its bytes are nothing, the four bytes of a handle
+/// (hierarchies, PCRs, sessions), or the two bytes `000b` of SHA-256 and a digest (objects and indices).
+#[derive(Clone, Copy, PartialEq, Eq)]
+pub enum Name {
+    Empty,
+    Handle(u32),
+    Hash(Digest32),
+}
+
+impl Name {
+    /// The Name that these bytes are; `None` exactly where they are of none of the three forms.
+    pub fn from_bytes(bytes: &[u8]) -> Option<Name>
+        ensures value { result ≡ name_of_bytes bytes.now }
+        ensures some { IfSome result (λ name. name_bytes name ≡ bytes.now) }
+        ensures none { IfNone result ((name : EntityName) → name_bytes name ≡ bytes.now → ⊥) }
+    {
+        match bytes.len() {
+            0 => Some(Name::Empty),
+            4 => Some(Name::Handle(u32::from_be_bytes([bytes[0], bytes[1], bytes[2], bytes[3]]))),
+            34 => hash_name(bytes),
+            _ => None,
+        }
+    }
+}
+
+fn hash_name(bytes: &[u8]) -> Option<Name>
+    requires { length bytes.now ≡ 34 }
+    ensures value { result ≡ name_of_bytes bytes.now }
+    ensures some { IfSome result (λ name. name_bytes name ≡ bytes.now) }
+    ensures none { IfNone result ((name : EntityName) → name_bytes name ≡ bytes.now → ⊥) }
+{
+    if bytes[0] != 0 || bytes[1] != 11 {
+        return None;
+    }
+    Some(Name::Hash(Digest32::from_slice(&bytes[2..])))
+}

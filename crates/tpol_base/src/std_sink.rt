@@ -1,0 +1,39 @@
+ghost use Rattle.std.specs.Prelude.{None};
+
+use crate::{Failed, Sink};
+use std::io::Write;
+
+/// Standard output, or any other writer of std, as a sink. It raises its count at each `Err` of the writer
+/// and at each write that takes nothing of a piece that is not empty, and tells nothing of the content.
+#[derive(Drop)]
+pub struct StdSink<W: Write> {
+    writer: W,
+    faults: u64,
+}
+
+impl<W: Write> StdSink<W> {
+    /// A sink over a writer that has not failed.
+    pub fn new(writer: W) -> StdSink<W> {
+        StdSink { writer, faults: 0 }
+    }
+}
+
+impl<W: Write> Sink for StdSink<W> {
+    ghost contents = { λ _. None };
+
+    ghost faults = { λ s. s.faults };
+
+    fn write(&mut self, bytes: &[u8]) -> Result<(), Failed> {
+        let mut written = 0;
+        while written < bytes.len() {
+            match self.writer.write(&bytes[written..]) {
+                Ok(count) if count > 0 => written += count,
+                _ => {
+                    self.faults = self.faults.saturating_add(1);
+                    return Err(Failed);
+                }
+            }
+        }
+        Ok(())
+    }
+}
