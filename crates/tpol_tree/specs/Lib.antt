@@ -1,0 +1,3 @@
+pub mod BranchCounts
+pub mod Closed
+pub mod Erased

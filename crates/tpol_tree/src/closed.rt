@@ -1,0 +1,191 @@
+ghost use Rattle.std.specs.Prelude.{◌≡◌, IfOk};
+
+use std::alloc::Global;
+use tpol_base::{Blob, Compare, Digest32, Digests, Name, NoMemory, Text};
+
+/// One policy assertion with every argument given: what one policy command of TPM 2.0 Part 3 adds to a
+/// policy's digest.
+#[derive(Drop)]
+pub enum Assertion {
+    /// PolicyPCR: the selected PCRs (bit n for PCR n), the SHA-256 of their values joined in rising order,
+    /// and the values themselves, which are empty in a fact.
+    Pcr {
+        mask: u32,
+        pcr_digest: Digest32,
+        values: Digests,
+    },
+    /// PolicyNV: the index's Name and the comparison of its content from `offset` with `operand`.
+    Nv {
+        index: Name,
+        operand: Blob,
+        offset: u16,
+        operation: Compare,
+    },
+    /// PolicySecret: the authorizing entity's Name, policyRef, an optional cpHashA, and the expiration in
+    /// seconds (0 for none).
+    Secret {
+        entity: Name,
+        policy_ref: Blob,
+        cp_hash: Option<Digest32>,
+        expiration: i32,
+    },
+    /// PolicySigned: the key's Name, policyRef, an optional cpHashA, and the expiration in seconds.
+    Signed {
+        key: Name,
+        policy_ref: Blob,
+        cp_hash: Option<Digest32>,
+        expiration: i32,
+    },
+    /// PolicyCounterTimer: the comparison of the TPM's time information from `offset` with `operand`.
+    CounterTimer {
+        operand: Blob,
+        offset: u16,
+        operation: Compare,
+    },
+    /// PolicyCommandCode: the code of the one command that is allowed.
+    CommandCode(u32),
+    /// PolicyLocality: a set of localities, bit n for locality n.
+    Locality(u8),
+    /// PolicyCpHash: the digest of the command's parameters.
+    CpHash(Digest32),
+    /// PolicyNameHash: the digest of the Names of the command's handles.
+    NameHash(Digest32),
+    /// PolicyNvWritten: whether the index has to be written.
+    NvWritten(bool),
+    /// PolicyAuthValue: the entity's authorization value, proved by an HMAC.
+    AuthValue,
+    /// PolicyPassword: the entity's authorization value in plain.
+    Password,
+    /// PolicyPhysicalPresence: physical presence at the use.
+    PhysicalPresence,
+    /// PolicyDuplicationSelect: the Names of the object and of its new parent; `include` says whether the
+    /// object's Name is part of the digest.
+    Duplication {
+        object: Name,
+        parent: Name,
+        include: bool,
+    },
+}
+
+impl Assertion {
+    /// A copy of this assertion.
+    pub fn try_clone(&self, alloc: Global) -> Result<Assertion, NoMemory>
+        ensures { IfOk result (λ copy. copy ≡ self.now) }
+    {
+        Ok(match self {
+            Assertion::Pcr {
+                mask,
+                pcr_digest,
+                values,
+            } => Assertion::Pcr {
+                mask: *mask,
+                pcr_digest: *pcr_digest,
+                values: Digests::from_slice(alloc, values.as_slice())?,
+            },
+            Assertion::Nv {
+                index,
+                operand,
+                offset,
+                operation,
+            } => Assertion::Nv {
+                index: *index,
+                operand: Blob::from_slice(alloc, operand.as_slice())?,
+                offset: *offset,
+                operation: *operation,
+            },
+            Assertion::Secret {
+                entity,
+                policy_ref,
+                cp_hash,
+                expiration,
+            } => Assertion::Secret {
+                entity: *entity,
+                policy_ref: Blob::from_slice(alloc, policy_ref.as_slice())?,
+                cp_hash: *cp_hash,
+                expiration: *expiration,
+            },
+            Assertion::Signed {
+                key,
+                policy_ref,
+                cp_hash,
+                expiration,
+            } => Assertion::Signed {
+                key: *key,
+                policy_ref: Blob::from_slice(alloc, policy_ref.as_slice())?,
+                cp_hash: *cp_hash,
+                expiration: *expiration,
+            },
+            Assertion::CounterTimer {
+                operand,
+                offset,
+                operation,
+            } => Assertion::CounterTimer {
+                operand: Blob::from_slice(alloc, operand.as_slice())?,
+                offset: *offset,
+                operation: *operation,
+            },
+            Assertion::CommandCode(code) => Assertion::CommandCode(*code),
+            Assertion::Locality(localities) => Assertion::Locality(*localities),
+            Assertion::CpHash(digest) => Assertion::CpHash(*digest),
+            Assertion::NameHash(digest) => Assertion::NameHash(*digest),
+            Assertion::NvWritten(written) => Assertion::NvWritten(*written),
+            Assertion::AuthValue => Assertion::AuthValue,
+            Assertion::Password => Assertion::Password,
+            Assertion::PhysicalPresence => Assertion::PhysicalPresence,
+            Assertion::Duplication {
+                object,
+                parent,
+                include,
+            } => Assertion::Duplication {
+                object: *object,
+                parent: *parent,
+                include: *include,
+            },
+        })
+    }
+}
+
+/// A policy with every Name, digest and argument given.
+#[derive(Drop)]
+#[cycle(closed)]
+pub struct Closed {
+    pub elements: ClosedElements,
+}
+
+/// A list of elements.
+#[derive(Drop)]
+#[cycle(closed)]
+pub enum ClosedElements {
+    End,
+    More(Box<ClosedElement>, Box<ClosedElements>),
+}
+
+/// An element of a closed policy.
+#[derive(Drop)]
+#[cycle(closed)]
+pub enum ClosedElement {
+    /// One assertion.
+    Assert(Assertion),
+    /// PolicyOR over 2 to 8 branches.
+    Or(ClosedBranches),
+    /// PolicyAuthorize: any policy that this key approved under this policyRef.
+    Authorize { key: Name, policy_ref: Blob },
+    /// PolicyAuthorizeNV: the policy whose digest this index holds.
+    AuthorizeNv { index: Name },
+}
+
+/// A list of branches.
+#[derive(Drop)]
+#[cycle(closed)]
+pub enum ClosedBranches {
+    End,
+    More(Box<ClosedBranch>, Box<ClosedBranches>),
+}
+
+/// A branch of an OR.
+#[derive(Drop)]
+#[cycle(closed)]
+pub struct ClosedBranch {
+    pub name: Text,
+    pub policy: Closed,
+}
