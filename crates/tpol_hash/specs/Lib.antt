@@ -1,0 +1,3 @@
+pub mod Hmac
+pub mod Messages
+pub mod Sha256

@@ -1,0 +1,48 @@
+//! SHA-256 of a message that comes in pieces.
+
+ghost use Rattle.std.specs.Prelude.{◌≡◌, ℕ, List, [], ◌++◌};
+ghost use Rattle.tpol_hash.specs.Messages.{Holds};
+ghost use Rattle.tpol_hash.specs.Sha256.{digest_of_bytes};
+
+use sha2::{Digest, Sha256};
+use tpol_base::Digest32;
+
+/// A running SHA-256 (FIPS 180-4).
+#[derive(Drop)]
+pub struct Hasher {
+    sha: Sha256,
+}
+
+impl Hasher {
+    /// A hasher of the empty message.
+    pub fn new() -> Hasher
+        ensures empty { Holds result [] }
+    {
+        Hasher { sha: Sha256::new() }
+    }
+
+    /// Adds bytes to the message.
+    pub fn put(&mut self, bytes: &[u8])
+        ensures longer { (m : List ℕ) → Holds self.old m → Holds self.new (m ++ bytes.now) }
+    {
+        self.sha.update(bytes);
+    }
+
+    /// The digest of the message.
+    pub fn done(self) -> Digest32
+        ensures digest { (m : List ℕ) → Holds self m → result ≡ digest_of_bytes m }
+    {
+        Digest32 {
+            bytes: self.sha.finalize(),
+        }
+    }
+}
+
+/// The SHA-256 digest of a message.
+pub fn hash(bytes: &[u8]) -> Digest32
+    ensures digest { result ≡ digest_of_bytes bytes.now }
+{
+    let mut hasher = Hasher::new();
+    hasher.put(bytes);
+    hasher.done()
+}
