@@ -1,0 +1,5 @@
+mod BytesLemmas
+mod NumbersLemmas
+mod SpellingLemmas
+mod WordsLemmas
+mod Worked

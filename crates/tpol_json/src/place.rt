@@ -1,0 +1,78 @@
+ghost use Rattle.std.specs.Prelude.{◌≡◌, IfOk};
+
+use std::alloc::Global;
+use tpol_base::{NoMemory, Sequence, Text};
+
+/// One step into a JSON value.
+#[derive(Drop)]
+pub enum PlaceStep {
+    /// To the member of an object that has this name.
+    Member(Text),
+    /// To the item of a list at this position, counted from 0.
+    Item(u32),
+}
+
+impl PlaceStep {
+    /// A copy of this step.
+    pub fn try_clone(&self, alloc: Global) -> Result<PlaceStep, NoMemory>
+        ensures { IfOk result (λ step. step ≡ self.now) }
+    {
+        match self {
+            PlaceStep::Member(name) => Ok(PlaceStep::Member(name.try_clone(alloc)?)),
+            PlaceStep::Item(index) => Ok(PlaceStep::Item(*index)),
+        }
+    }
+}
+
+/// The steps from the root of a document, outermost first.
+pub type PlaceSteps = Sequence<PlaceStep>;
+
+/// Where in a document something stands. Without a step it is the document itself.
+#[derive(Drop)]
+pub struct Place {
+    pub steps: PlaceSteps,
+}
+
+impl Place {
+    ghost use Rattle.tpol_json.specs.Places.{root, at_member, at_item};
+
+    /// The document itself; it takes no memory.
+    pub fn root(alloc: Global) -> Place
+        ensures { result ≡ root }
+    {
+        Place {
+            steps: Sequence::new(alloc),
+        }
+    }
+
+    /// A copy of this place.
+    pub fn try_clone(&self, alloc: Global) -> Result<Place, NoMemory>
+        ensures { IfOk result (λ place. place ≡ self.now) }
+    {
+        let mut steps = Sequence::new(alloc);
+        for step in self.steps.as_slice() {
+            steps.push(step.try_clone(alloc)?)?;
+        }
+        Ok(Place { steps })
+    }
+
+    /// The place of a member of what stands here.
+    pub fn member(&self, alloc: Global, name: &str) -> Result<Place, NoMemory>
+        ensures { IfOk result (λ place. place ≡ at_member self.now name.now) }
+    {
+        let mut place = self.try_clone(alloc)?;
+        place
+            .steps
+            .push(PlaceStep::Member(Text::from_str(alloc, name)?))?;
+        Ok(place)
+    }
+
+    /// The place of an item of the list that stands here; items count from 0.
+    pub fn item(&self, alloc: Global, index: u32) -> Result<Place, NoMemory>
+        ensures { IfOk result (λ place. place ≡ at_item self.now index) }
+    {
+        let mut place = self.try_clone(alloc)?;
+        place.steps.push(PlaceStep::Item(index))?;
+        Ok(place)
+    }
+}
