@@ -1,0 +1,12 @@
+pub mod Digests
+pub mod Extents
+pub mod Joined
+pub mod Limits
+pub mod Listings
+pub mod Measures
+pub mod Meeting
+pub mod Products
+pub mod Soundness
+pub mod TermLaws
+pub mod Weights
+pub mod Worked

@@ -1,0 +1,20 @@
+use Rattle.std.proofs.Common.{◌≡◌, sym, ap, ◌∙◌, subst}
+use Rattle.std.specs.Prelude.{All}
+use Rattle.std.proofs.lemmas.Result.{IfOk-weaker}
+use Rattle.tpol_tree.specs.declared.path.Path.{Path}
+use Rattle.tpol_digest.specs.Digest.{digest_of_moves, policy_digest}
+use Rattle.tpol_digest.specs.Paths.{paths_of}
+use Rattle.tpol_digest.specs.Sound.{IsSound}
+use Rattle.tpol_digest.proofs.Meeting.{paths_of_meet}
+use Rattle.tpol_digest.proofs.Soundness.{paths_of_sound}
+use Rattle.tpol_digest.proofs.all_paths.paths.Goals as goal
+
+pub returns-clause-digest : goal.returns-clause-digest
+returns-clause-digest c =
+    let meets = All (λ (path : Path). digest_of_moves path.moves ≡ policy_digest c.args.policy.now) in
+    IfOk-weaker c.checked_paths.result (λ all. all ≡ paths_of c.args.policy.now c.as_slice.result.now) meets (λ all h. subst meets (sym h) (paths_of_meet c.args.policy.now c.as_slice.result.now)) c.checked_paths.ensures.list
+
+pub returns-clause-sound : goal.returns-clause-sound
+returns-clause-sound c = λ well.
+    let sound = All (λ (path : Path). IsSound path.moves) in
+    IfOk-weaker c.checked_paths.result (λ all. all ≡ paths_of c.args.policy.now c.as_slice.result.now) sound (λ all h. subst sound (sym (h ∙ ap (paths_of c.args.policy.now) c.as_slice.ensures)) (paths_of_sound c.args.policy.now c.args.approvals.now well)) c.checked_paths.ensures.list

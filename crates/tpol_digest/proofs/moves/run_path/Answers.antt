@@ -1,0 +1,10 @@
+use Rattle.std.proofs.Common.{refl, ap, ◌∙◌}
+use Rattle.tpol_digest.specs.Term.{bytes_of_term, term_of_moves}
+use Rattle.tpol_digest.proofs.TermLaws.{digest_of_moves-term}
+use Rattle.tpol_digest.proofs.moves.run_path.Goals as goal
+
+pub returns-clause-term : goal.returns-clause-term
+returns-clause-term c =
+    c.digest_after_moves.ensures
+    ∙ digest_of_moves-term c.as_slice.result.now _ refl
+    ∙ ap (λ moves. bytes_of_term (term_of_moves moves)) c.as_slice.ensures

@@ -1,0 +1,9 @@
+pub mod Digest
+pub mod Extent
+pub mod Inputs
+pub mod Paths
+pub mod Sound
+pub mod Stage
+pub mod StageBytes
+pub mod Term
+pub mod WellFormed

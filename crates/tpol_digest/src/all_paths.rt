@@ -1,0 +1,84 @@
+ghost use Rattle.std.specs.Prelude.{◌≡◌, ◌<◌, ◌≤◌, ◌↔◌, All, Any, IfOk, IsErrOf, length, min};
+ghost use Rattle.tpol_digest.specs.Digest.{digest_of_moves, policy_digest};
+ghost use Rattle.tpol_digest.specs.Paths.{paths_of};
+ghost use Rattle.tpol_digest.specs.Sound.{IsSound};
+ghost use Rattle.tpol_digest.specs.WellFormed.{HaveBranchCounts, IsWellFormed};
+
+use crate::TreeFault;
+use crate::counting::extent_of_elements;
+use crate::extent::{MAX_MOVES, MAX_PATHS};
+use crate::listing::paths_of_policy;
+use std::alloc::Global;
+use tpol_tree::{Approvals, ApprovedDoc, Closed};
+
+// How many approvals may lie inside one another.
+const MAX_LEVELS: u8 = 4;
+
+/// All ways through a policy, in document order: earlier choices vary slowest. Each branch of an OR is a
+/// way, and then the OR; each approved document that an AUTHORIZE or AUTHORIZENV accepts is one, and then
+/// the approval; last comes the way by a policy that no listed document has. At most four approvals lie
+/// inside one another.
+///
+/// Every way gives the policy's digest. Where the policy with its approvals is well formed, each OR and
+/// each approval on it meets the digest before it. An outside path begins with its approval of the zero
+/// digest.
+///
+/// `TooManyPaths` comes for more than 4,096 paths, and `TooLong` for at most 4,096 of which one has more
+/// than 512 moves; neither makes a list.
+pub fn paths(
+    alloc: Global,
+    policy: &Closed,
+    approvals: &Approvals,
+) -> Result<tpol_tree::Paths, TreeFault>
+    requires branches { HaveBranchCounts policy.now approvals.now }
+    ensures list { IfOk result (λ all. all ≡ paths_of policy.now approvals.now) }
+    ensures too_many { IsErrOf result TreeFault.TooManyPaths ↔ (4096 < length (paths_of policy.now approvals.now)) }
+    ensures too_long { IsErrOf result TreeFault.TooLong
+        ↔ ((length (paths_of policy.now approvals.now) ≤ 4096)
+        × Any (λ path. 512 < length path.moves) (paths_of policy.now approvals.now)) }
+
+    // All branches meet.
+    ensures digest { IfOk result (All (λ path. digest_of_moves path.moves ≡ policy_digest policy.now)) }
+    ensures sound { IsWellFormed policy.now approvals.now → IfOk result (All (λ path. IsSound path.moves)) }
+{
+    checked_paths(alloc, policy, approvals.as_slice())
+}
+
+/// The number of ways through a policy, as `paths` lists them, or 4,097 where there are more than 4,096.
+/// It takes no memory.
+pub fn count_paths(policy: &Closed, approvals: &Approvals) -> u64
+    requires branches { HaveBranchCounts policy.now approvals.now }
+    ensures { result ≡ min (length (paths_of policy.now approvals.now)) 4097 }
+{
+    count_in(policy, approvals.as_slice())
+}
+
+fn checked_paths(
+    alloc: Global,
+    policy: &Closed,
+    documents: &[ApprovedDoc],
+) -> Result<tpol_tree::Paths, TreeFault>
+    requires branches { HaveBranchCounts policy.now documents.now }
+    ensures list { IfOk result (λ all. all ≡ paths_of policy.now documents.now) }
+    ensures too_many { IsErrOf result TreeFault.TooManyPaths ↔ (4096 < length (paths_of policy.now documents.now)) }
+    ensures too_long { IsErrOf result TreeFault.TooLong
+        ↔ ((length (paths_of policy.now documents.now) ≤ 4096)
+        × Any (λ path. 512 < length path.moves) (paths_of policy.now documents.now)) }
+{
+    let extent = extent_of_elements(documents, MAX_LEVELS, &policy.elements);
+    if extent.paths > MAX_PATHS {
+        return Err(TreeFault::TooManyPaths);
+    }
+    if extent.moves > MAX_MOVES {
+        return Err(TreeFault::TooLong);
+    }
+    let all = paths_of_policy(alloc, documents, MAX_LEVELS, &policy.elements)?;
+    Ok(all)
+}
+
+fn count_in(policy: &Closed, documents: &[ApprovedDoc]) -> u64
+    requires branches { HaveBranchCounts policy.now documents.now }
+    ensures { result ≡ min (length (paths_of policy.now documents.now)) 4097 }
+{
+    extent_of_elements(documents, MAX_LEVELS, &policy.elements).paths
+}

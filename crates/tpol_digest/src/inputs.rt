@@ -1,0 +1,255 @@
+// The strings that are hashed for a digest, in order of making.
+
+ghost use Rattle.std.specs.Prelude.{◌≡◌, ◌++◌, IfOk, OnOk};
+ghost use Rattle.std.specs.Option.{option_map, option_to_list};
+ghost use Rattle.tpol_hash.specs.Sha256.{digest_of_bytes};
+ghost use Rattle.tpol_digest.specs.Digest.{first_string, digest_after};
+ghost use Rattle.tpol_digest.specs.Inputs as spec;
+ghost use Rattle.tpol_digest.specs.Sound.{moves_of_facts};
+ghost use Rattle.tpol_digest.specs.Stage.{joined, stage_of};
+ghost use Rattle.tpol_digest.specs.StageBytes.{stage_value};
+
+use crate::moves::digest_after_move;
+use crate::path_parts::zero;
+use crate::policy::{digest_after_element, push_branch_digests};
+use crate::stage::{
+    StageBytes, stage_of_approve, stage_of_approve_nv, stage_of_assertion, stage_of_or,
+};
+use std::alloc::Global;
+use tpol_base::{Blob, Digest32, Digests, NoMemory};
+use tpol_hash::{Inputs, hash};
+use tpol_tree::{
+    Approvals, Assertion, Closed, ClosedBranches, ClosedElement, ClosedElements, Fact, Facts, Move,
+};
+
+/// Every string that is hashed for a policy's digest, inner ones included, in order of making: in the
+/// order of the elements, the PCR values joined or the comparison before the string that uses its hash,
+/// and the first of two hashes before the second; the branches of an OR stand before the OR's own string.
+/// Then come those of each approved document, in the order of the approvals.
+pub fn inputs_of(alloc: Global, policy: &Closed, approvals: &Approvals) -> Result<Inputs, NoMemory>
+    ensures { IfOk result (λ inputs. inputs ≡ spec.inputs_of_policy policy.now approvals.now) }
+{
+    let mut inputs = Inputs::new(alloc);
+    push_elements(alloc, &mut inputs, &policy.elements, zero())?;
+    for document in approvals.as_slice() {
+        push_elements(alloc, &mut inputs, &document.closed.elements, zero())?;
+    }
+    Ok(inputs)
+}
+
+/// The same of the moves of facts. A fact has no values of PCRs, so there is no string of them.
+pub fn inputs_of_facts(alloc: Global, facts: &Facts) -> Result<Inputs, NoMemory>
+    ensures { IfOk result (λ inputs. inputs ≡ spec.inputs_of_facts facts.now) }
+{
+    let mut inputs = Inputs::new(alloc);
+    push_facts(alloc, &mut inputs, facts.as_slice(), zero())?;
+    Ok(inputs)
+}
+
+// The string of a stage's first hash.
+fn string_of_first(alloc: Global, stage: &StageBytes, before: &Digest32) -> Result<Blob, NoMemory>
+    ensures { IfOk result (λ string. string ≡ first_string (stage_value stage.now) before.now) }
+{
+    let mut string = if stage.fresh {
+        Blob::from_slice(alloc, &Digest32::ZERO.bytes)?
+    } else {
+        Blob::from_slice(alloc, &before.bytes)?
+    };
+    string.extend_from_slice(&stage.code.to_be_bytes())?;
+    if let Some(inner) = &stage.inner {
+        string.extend_from_slice(&hash(inner.as_slice()).bytes)?;
+    }
+    string.extend_from_slice(stage.rest.as_slice())?;
+    Ok(string)
+}
+
+// Adds the string of a second hash, if there is one, at the end.
+fn push_second(
+    alloc: Global,
+    inputs: &mut Inputs,
+    first: &Digest32,
+    policy_ref: &Option<Blob>,
+) -> Result<(), NoMemory>
+    ensures { OnOk result (inputs.new ≡ inputs.old
+        ++ option_to_list (option_map (λ behind. first.now.bytes ++ behind) policy_ref.now)) }
+{
+    match policy_ref {
+        None => Ok(()),
+        Some(behind) => {
+            let mut string = Blob::from_slice(alloc, &first.bytes)?;
+            string.extend_from_slice(behind.as_slice())?;
+            inputs.push(string)
+        }
+    }
+}
+
+// Adds a copy of a string, if there is one, at the end.
+fn push_inner(alloc: Global, inputs: &mut Inputs, inner: &Option<Blob>) -> Result<(), NoMemory>
+    ensures { OnOk result (inputs.new ≡ inputs.old ++ option_to_list inner.now) }
+{
+    match inner {
+        None => Ok(()),
+        Some(string) => inputs.push(Blob::from_slice(alloc, string.as_slice())?),
+    }
+}
+
+// Adds the strings of a stage at the end.
+fn push_strings(
+    alloc: Global,
+    inputs: &mut Inputs,
+    stage: &StageBytes,
+    before: &Digest32,
+) -> Result<(), NoMemory>
+    ensures { OnOk result (inputs.new ≡ inputs.old ++ spec.strings_of (stage_value stage.now) before.now) }
+{
+    push_inner(alloc, inputs, &stage.inner)?;
+    let string = string_of_first(alloc, stage, before)?;
+    let first = hash(string.as_slice());
+    inputs.push(string)?;
+    push_second(alloc, inputs, &first, &stage.policy_ref)
+}
+
+// Adds the joined values of a PCR assertion at the end.
+fn push_pcr_values(
+    alloc: Global,
+    inputs: &mut Inputs,
+    assertion: &Assertion,
+) -> Result<(), NoMemory>
+    ensures { OnOk result (inputs.new ≡ inputs.old ++ spec.pcr_values assertion.now) }
+{
+    match assertion {
+        Assertion::Pcr {
+            mask: _,
+            pcr_digest: _,
+            values,
+        } => {
+            let string = joined_digests(alloc, values)?;
+            inputs.push(string)
+        }
+        _ => Ok(()),
+    }
+}
+
+// The bytes of digests, joined.
+fn joined_digests(alloc: Global, digests: &Digests) -> Result<Blob, NoMemory>
+    ensures { IfOk result (λ bytes. bytes ≡ joined digests.now) }
+{
+    let mut bytes = Blob::new(alloc);
+    for digest in digests.as_slice() {
+        bytes.extend_from_slice(&digest.bytes)?;
+    }
+    Ok(bytes)
+}
+
+// Adds the strings of elements at the end.
+#[cycle(inputs)]
+fn push_elements(
+    alloc: Global,
+    inputs: &mut Inputs,
+    elements: &ClosedElements,
+    before: Digest32,
+) -> Result<(), NoMemory>
+    ensures { OnOk result (inputs.new ≡ inputs.old ++ spec.inputs_at elements.now before) }
+{
+    match elements {
+        ClosedElements::End => Ok(()),
+        ClosedElements::More(element, rest) => {
+            push_element(alloc, inputs, element, before)?;
+            push_elements(alloc, inputs, rest, digest_after_element(element, before))
+        }
+    }
+}
+
+// Adds the strings of one element at the end.
+#[cycle(inputs)]
+fn push_element(
+    alloc: Global,
+    inputs: &mut Inputs,
+    element: &ClosedElement,
+    before: Digest32,
+) -> Result<(), NoMemory>
+    ensures { OnOk result (inputs.new ≡ inputs.old ++ spec.inputs_at_element element.now before) }
+{
+    match element {
+        ClosedElement::Assert(assertion) => {
+            push_pcr_values(alloc, inputs, assertion)?;
+            let stage = stage_of_assertion(alloc, assertion)?;
+            push_strings(alloc, inputs, &stage, &before)
+        }
+        ClosedElement::Or(branches) => {
+            push_branches(alloc, inputs, branches, before)?;
+            let mut digests = Digests::new(alloc);
+            push_branch_digests(&mut digests, branches, before)?;
+            let stage = stage_of_or(alloc, &digests)?;
+            push_strings(alloc, inputs, &stage, &before)
+        }
+        ClosedElement::Authorize { key, policy_ref } => {
+            let stage = stage_of_approve(alloc, key, policy_ref)?;
+            push_strings(alloc, inputs, &stage, &before)
+        }
+        ClosedElement::AuthorizeNv { index } => {
+            let stage = stage_of_approve_nv(alloc, index)?;
+            push_strings(alloc, inputs, &stage, &before)
+        }
+    }
+}
+
+// Adds the strings of branches at the end.
+#[cycle(inputs)]
+fn push_branches(
+    alloc: Global,
+    inputs: &mut Inputs,
+    branches: &ClosedBranches,
+    before: Digest32,
+) -> Result<(), NoMemory>
+    ensures { OnOk result (inputs.new ≡ inputs.old ++ spec.inputs_at_branches branches.now before) }
+{
+    match branches {
+        ClosedBranches::End => Ok(()),
+        ClosedBranches::More(branch, rest) => {
+            push_elements(alloc, inputs, &branch.policy.elements, before)?;
+            push_branches(alloc, inputs, rest, before)
+        }
+    }
+}
+
+// Adds the strings of one move at the end.
+fn push_move(
+    alloc: Global,
+    inputs: &mut Inputs,
+    act: &Move,
+    before: &Digest32,
+) -> Result<(), NoMemory>
+    ensures { OnOk result (inputs.new ≡ inputs.old ++ spec.strings_of (stage_of act.now) before.now) }
+{
+    let stage = match act {
+        Move::Assert(assertion) => stage_of_assertion(alloc, assertion)?,
+        Move::Or(digests) => stage_of_or(alloc, digests)?,
+        Move::Approve {
+            key,
+            policy_ref,
+            approved: _,
+            signature: _,
+        } => stage_of_approve(alloc, key, policy_ref)?,
+        Move::ApproveNv { index, approved: _ } => stage_of_approve_nv(alloc, index)?,
+    };
+    push_strings(alloc, inputs, &stage, before)
+}
+
+// Adds the strings of the moves of facts at the end.
+fn push_facts(
+    alloc: Global,
+    inputs: &mut Inputs,
+    facts: &[Fact],
+    before: Digest32,
+) -> Result<(), NoMemory>
+    ensures { OnOk result (inputs.new ≡ inputs.old ++ spec.inputs_of_moves before (moves_of_facts facts.now)) }
+{
+    match facts.split_first() {
+        None => Ok(()),
+        Some((fact, rest)) => {
+            push_move(alloc, inputs, &fact.act, &before)?;
+            push_facts(alloc, inputs, rest, digest_after_move(before, &fact.act))
+        }
+    }
+}

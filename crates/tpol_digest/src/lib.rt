@@ -1,0 +1,31 @@
+//! The digests of policies (TPM 2.0 Part 3, the policy commands), the ways through a policy, and the
+//! strings that are hashed for it.
+//!
+//! The layers above cite the definitions of `specs/`: `Stage`, what a move hashes, as data, from which the
+//! digest, the strings and a `Term`, what is hashed as a tree, follow; `policy_digest` and `digest_of_moves`;
+//! `paths_of`; `IsSound` and `IsWellFormed`. The theorem that all branches meet stands on `paths`.
+#![tactic(auto)]
+
+mod all_paths;
+mod approval;
+mod assertion;
+mod command_code;
+mod counting;
+mod extent;
+mod fault;
+mod inputs;
+mod listing;
+mod moves;
+mod path_parts;
+mod policy;
+mod stage;
+#[cfg(test)]
+mod tests;
+mod update;
+
+pub use all_paths::{count_paths, paths};
+pub use assertion::extend;
+pub use fault::TreeFault;
+pub use inputs::{inputs_of, inputs_of_facts};
+pub use moves::{run_facts, run_path};
+pub use policy::{approve_digest, approve_nv_digest, digest_of, or_digest};

@@ -1,0 +1,258 @@
+// What a move hashes, as bytes; the strings of its hashes follow from it.
+
+ghost use Rattle.std.specs.Prelude.{◌≡◌, ◌++◌, [], IfOk};
+ghost use Rattle.tpol_base.specs.Name.{name_bytes};
+ghost use Rattle.tpol_digest.specs.Stage as spec;
+ghost use Rattle.tpol_digest.specs.StageBytes.{stage_value};
+
+use crate::command_code;
+use std::alloc::Global;
+use tpol_base::{Blob, Compare, Digest32, Digests, Name, NoMemory};
+use tpol_tree::Assertion;
+
+// The new digest is H(H(start || code || H(inner) || rest) || policy_ref), where the parts that are None
+// are left out, and the start is 32 zero bytes where `fresh` holds and else the digest before.
+#[derive(Drop)]
+pub struct StageBytes {
+    pub fresh: bool,
+    pub code: u32,
+    pub inner: Option<Blob>,
+    pub rest: Blob,
+    pub policy_ref: Option<Blob>,
+}
+
+// The bytes of a Name.
+fn blob_of_name(alloc: Global, name: &Name) -> Result<Blob, NoMemory>
+    ensures { IfOk result (λ bytes. bytes ≡ name_bytes name.now) }
+{
+    match name {
+        Name::Empty => Ok(Blob::new(alloc)),
+        Name::Handle(handle) => Blob::from_slice(alloc, &handle.to_be_bytes()),
+        Name::Hash(digest) => {
+            let mut bytes = Blob::from_slice(alloc, &[0x00, 0x0b])?;
+            bytes.extend_from_slice(&digest.bytes)?;
+            Ok(bytes)
+        }
+    }
+}
+
+// A command that hashes these bytes behind its code.
+fn one_hash(code: u32, rest: Blob) -> StageBytes
+    ensures { stage_value result ≡ spec.one_hash code rest }
+{
+    StageBytes {
+        fresh: false,
+        code,
+        inner: None,
+        rest,
+        policy_ref: None,
+    }
+}
+
+// A command that hashes a Name, and then the first digest with the policyRef.
+fn two_hashes(
+    alloc: Global,
+    code: u32,
+    name: &Name,
+    policy_ref: &Blob,
+) -> Result<StageBytes, NoMemory>
+    ensures { IfOk result (λ stage. stage_value stage
+        ≡ spec.two_hashes code (name_bytes name.now) policy_ref.now) }
+{
+    let rest = blob_of_name(alloc, name)?;
+    let second = Blob::from_slice(alloc, policy_ref.as_slice())?;
+    Ok(StageBytes {
+        fresh: false,
+        code,
+        inner: None,
+        rest,
+        policy_ref: Some(second),
+    })
+}
+
+// A command that compares an operand, and hashes the digest of the comparison in front of the rest.
+fn comparison(
+    alloc: Global,
+    code: u32,
+    operand: &Blob,
+    offset: u16,
+    operation: Compare,
+    rest: Blob,
+) -> Result<StageBytes, NoMemory>
+    ensures { IfOk result (λ stage. stage_value stage
+        ≡ spec.hash_of_inner code (spec.comparison operand.now offset operation) rest) }
+{
+    let mut inner = Blob::from_slice(alloc, operand.as_slice())?;
+    inner.extend_from_slice(&offset.to_be_bytes())?;
+    inner.extend_from_slice(&operation.number().to_be_bytes())?;
+    Ok(StageBytes {
+        fresh: false,
+        code,
+        inner: Some(inner),
+        rest,
+        policy_ref: None,
+    })
+}
+
+fn pcr(alloc: Global, mask: u32, pcr_digest: &Digest32) -> Result<StageBytes, NoMemory>
+    ensures { IfOk result (λ stage. stage_value stage
+        ≡ spec.one_hash 0x17f (spec.pcr_selection mask ++ pcr_digest.now.bytes)) }
+{
+    let [first, second, third, _] = mask.to_le_bytes();
+    let selection = [
+        0x00, 0x00, 0x00, 0x01, 0x00, 0x0b, 0x03, first, second, third,
+    ];
+    let mut rest = Blob::from_slice(alloc, &selection)?;
+    rest.extend_from_slice(&pcr_digest.bytes)?;
+    Ok(one_hash(command_code::POLICY_PCR, rest))
+}
+
+fn duplication(
+    alloc: Global,
+    object: &Name,
+    parent: &Name,
+    include: bool,
+) -> Result<StageBytes, NoMemory>
+    ensures { IfOk result (λ stage. stage_value stage
+        ≡ spec.one_hash 0x188 (spec.duplication include (name_bytes object.now) (name_bytes parent.now))) }
+{
+    let second = blob_of_name(alloc, parent)?;
+    let mut rest = if include {
+        blob_of_name(alloc, object)?
+    } else {
+        Blob::new(alloc)
+    };
+    rest.extend_from_slice(second.as_slice())?;
+    rest.extend_from_slice(&[u8::from(include)])?;
+    Ok(one_hash(command_code::POLICY_DUPLICATION_SELECT, rest))
+}
+
+// What an assertion hashes.
+pub fn stage_of_assertion(alloc: Global, assertion: &Assertion) -> Result<StageBytes, NoMemory>
+    ensures { IfOk result (λ stage. stage_value stage ≡ spec.stage_of_assertion assertion.now) }
+{
+    match assertion {
+        Assertion::Pcr {
+            mask,
+            pcr_digest,
+            values: _,
+        } => pcr(alloc, *mask, pcr_digest),
+        Assertion::Nv {
+            index,
+            operand,
+            offset,
+            operation,
+        } => {
+            let rest = blob_of_name(alloc, index)?;
+            comparison(
+                alloc,
+                command_code::POLICY_NV,
+                operand,
+                *offset,
+                *operation,
+                rest,
+            )
+        }
+        Assertion::Secret {
+            entity,
+            policy_ref,
+            cp_hash: _,
+            expiration: _,
+        } => two_hashes(alloc, command_code::POLICY_SECRET, entity, policy_ref),
+        Assertion::Signed {
+            key,
+            policy_ref,
+            cp_hash: _,
+            expiration: _,
+        } => two_hashes(alloc, command_code::POLICY_SIGNED, key, policy_ref),
+        Assertion::CounterTimer {
+            operand,
+            offset,
+            operation,
+        } => {
+            let rest = Blob::new(alloc);
+            comparison(
+                alloc,
+                command_code::POLICY_COUNTER_TIMER,
+                operand,
+                *offset,
+                *operation,
+                rest,
+            )
+        }
+        Assertion::Duplication {
+            object,
+            parent,
+            include,
+        } => duplication(alloc, object, parent, *include),
+        Assertion::CommandCode(code) => {
+            hashed(
+                alloc,
+                command_code::POLICY_COMMAND_CODE,
+                &code.to_be_bytes(),
+            )
+        }
+        Assertion::Locality(localities) => hashed(
+            alloc,
+            command_code::POLICY_LOCALITY,
+            &[*localities],
+        ),
+        Assertion::CpHash(digest) => hashed(alloc, command_code::POLICY_CP_HASH, &digest.bytes),
+        Assertion::NameHash(digest) => hashed(alloc, command_code::POLICY_NAME_HASH, &digest.bytes),
+        Assertion::NvWritten(written) => {
+            hashed(
+                alloc,
+                command_code::POLICY_NV_WRITTEN,
+                &[u8::from(*written)],
+            )
+        }
+        Assertion::AuthValue | Assertion::Password => {
+            hashed(alloc, command_code::POLICY_AUTH_VALUE, &[])
+        }
+        Assertion::PhysicalPresence => hashed(alloc, command_code::POLICY_PHYSICAL_PRESENCE, &[]),
+    }
+}
+
+// A command that hashes a copy of these bytes behind its code.
+fn hashed(alloc: Global, code: u32, rest: &[u8]) -> Result<StageBytes, NoMemory>
+    ensures { IfOk result (λ stage. stage_value stage ≡ spec.one_hash code rest.now) }
+{
+    let rest = Blob::from_slice(alloc, rest)?;
+    Ok(one_hash(code, rest))
+}
+
+// What an OR hashes.
+pub fn stage_of_or(alloc: Global, digests: &Digests) -> Result<StageBytes, NoMemory>
+    ensures { IfOk result (λ stage. stage_value stage ≡ spec.stage_of_or digests.now) }
+{
+    let mut rest = Blob::new(alloc);
+    for digest in digests.as_slice() {
+        rest.extend_from_slice(&digest.bytes)?;
+    }
+    let mut stage = one_hash(command_code::POLICY_OR, rest);
+    stage.fresh = true;
+    Ok(stage)
+}
+
+// What an AUTHORIZE hashes.
+pub fn stage_of_approve(
+    alloc: Global,
+    key: &Name,
+    policy_ref: &Blob,
+) -> Result<StageBytes, NoMemory>
+    ensures { IfOk result (λ stage. stage_value stage ≡ spec.stage_of_approve key.now policy_ref.now) }
+{
+    let mut stage = two_hashes(alloc, command_code::POLICY_AUTHORIZE, key, policy_ref)?;
+    stage.fresh = true;
+    Ok(stage)
+}
+
+// What an AUTHORIZENV hashes.
+pub fn stage_of_approve_nv(alloc: Global, index: &Name) -> Result<StageBytes, NoMemory>
+    ensures { IfOk result (λ stage. stage_value stage ≡ spec.stage_of_approve_nv index.now) }
+{
+    let rest = blob_of_name(alloc, index)?;
+    let mut stage = one_hash(command_code::POLICY_AUTHORIZE_NV, rest);
+    stage.fresh = true;
+    Ok(stage)
+}

@@ -1,0 +1,331 @@
+//! Digests that a TPM 2.0 and a FAPI gave for the same policies, and lists of paths.
+
+ghost use Rattle.std.specs.Prelude.{◌≡◌, IfOk};
+ghost use Rattle.tpol_tree.specs.Closed.{HasBranchCounts, ElementHasBranchCounts};
+
+use crate::{
+    TreeFault, count_paths, digest_of, extend, inputs_of, inputs_of_facts, paths, run_facts,
+};
+use std::alloc::Global;
+use std::process::Abort;
+use std::test::Fail;
+use tpol_base::{Blob, Compare, Digest32, Digests, Name, NoMemory, Text};
+use tpol_hash::hash;
+use tpol_tree::{
+    Approvals, Assertion, Closed, ClosedBranch, ClosedBranches, ClosedElement, ClosedElements,
+    Fact, Facts, Move,
+};
+
+const OWNER: Name = Name::Handle(0x4000_0001);
+
+const ENDORSEMENT: Name = Name::Handle(0x4000_000b);
+
+// The digests of the Names of an index and of a key.
+const AUTH_VALUE: &[u8; 32] = b"\x8f\xcd\x21\x69\xab\x92\x69\x4e\x0c\x63\x3f\x1a\xb7\x72\x84\x2b\
+              \x82\x41\xbb\xc2\x02\x88\x98\x1f\xc7\xac\x1e\xdd\xc1\xfd\xdb\x0e";
+
+const SECRET_ENDORSEMENT: &[u8; 32] =
+    b"\x83\x71\x97\x67\x44\x84\xb3\xf8\x1a\x90\xcc\x8d\x46\xa5\xd7\x24\
+              \xfd\x52\xd7\x6e\x06\x52\x0b\x64\xf2\xa1\xda\x1b\x33\x14\x69\xaa";
+
+const SECRET_OWNER: &[u8; 32] = b"\x0d\x84\xf5\x5d\xaf\x6e\x43\xac\x97\x96\x6e\x62\xc9\xbb\x98\x9d\
+              \x33\x97\x77\x7d\x25\xc5\xf7\x49\x86\x80\x55\xd6\x53\x94\xf9\x52";
+
+const SECRET_REF: &[u8; 32] = b"\xd2\x17\x96\x90\x86\xdb\x4b\x5e\x5b\xd1\xe6\x9a\xb1\xf8\x69\x96\
+              \x36\xe9\x57\x8a\x83\x45\xf6\x15\x8b\xe4\xdd\xbb\x04\x1d\x43\x77";
+
+const CODE_DUPLICATE: &[u8; 32] =
+    b"\xbe\xf5\x6b\x8c\x1c\xc8\x4e\x11\xed\xd7\x17\x52\x8d\x2c\xd9\x93\
+              \x56\xbd\x2b\xbf\x8f\x01\x52\x09\xc3\xf8\x4a\xee\xab\xa8\xe8\xa2";
+
+const CODE_NV_WRITE: &[u8; 32] = b"\x1c\x4f\x71\x07\xdc\xaf\x23\xce\x00\x75\x64\x48\x50\x85\x58\x68\
+              \x31\x04\xbd\x9e\x20\x3e\x93\x74\x9c\x22\x7b\x45\x12\x70\x43\x8f";
+
+const COUNTER_TIMER: &[u8; 32] = b"\x20\xda\xd6\x45\x5a\x6b\xa8\x86\xdc\x79\x38\xf1\x0b\x9b\xde\x80\
+              \x1d\x59\xe0\x8f\x80\x13\xf4\xff\x5a\x23\x5f\x2b\x80\xb5\x2d\x11";
+
+const CP_HASH: &[u8; 32] = b"\xce\x72\x83\x3f\xb0\x7c\xb3\x30\x16\x36\xcd\xa2\xca\x02\xf2\xc6\
+              \x21\x7b\xf5\xda\xe7\xc5\xa3\xce\xda\x86\xa5\x88\xfa\xea\x5c\xb1";
+
+const LOCALITY_0: &[u8; 32] = b"\xdd\xee\x6a\xf1\x4b\xf3\xc4\xe8\x12\x7c\xed\x87\xbc\xf9\xa5\x7e\
+              \x1c\x0c\x8d\xdb\x5e\x67\x73\x5c\x85\x05\xf9\x6f\x07\xb8\xdb\xb8";
+
+const LOCALITY_0_3: &[u8; 32] = b"\x12\x60\x9c\x6a\x0e\x15\x86\x70\x02\x70\x07\x9a\x09\xbe\x09\xdf\
+              \xd3\x76\xaf\x86\xcc\x4c\x59\x02\x33\xa5\x5d\xc0\x27\x5d\x87\x4e";
+
+const NV: &[u8; 32] = b"\xbf\x3b\x68\x99\xa0\x4b\x37\x17\x3e\x68\xb0\x74\x52\x01\x33\x81\
+              \xbc\x01\x68\x52\x31\x81\xd5\xf9\xfc\xd2\xf4\x4a\xc2\x2b\xa7\xdd";
+
+const NV_WRITTEN: &[u8; 32] = b"\xf7\x88\x7d\x15\x8a\xe8\xd3\x8b\xe0\xac\x53\x19\xf3\x7a\x9e\x07\
+              \x61\x8b\xf5\x48\x85\x45\x3c\x7a\x54\xdd\xb0\xc6\xa6\x19\x3b\xeb";
+
+const PCR_0: &[u8; 32] = b"\xab\x36\x7c\x16\x98\xdb\xea\x75\x97\xab\x1f\x55\xea\x60\xcc\xc6\
+              \x04\xad\xd2\xe0\x6a\x40\x83\x9a\x02\x9b\x9d\x51\x85\x56\x99\xa6";
+
+const PCR_8: &[u8; 32] = b"\x2a\x90\xac\x03\x19\x65\x73\xf1\x29\xe7\x0a\x9e\x04\x48\x5b\xff\
+              \x58\x1d\x28\x90\xfe\x58\x82\xd3\xc2\x66\x72\x90\xd8\x4b\x49\x7b";
+
+const NINE: &[u8; 32] = b"\x0a\x00\x3a\x97\x37\x74\x3b\x09\xaa\xeb\xd3\x0f\x10\x6f\xf7\x00\
+              \x74\xc6\x07\x07\xd2\x44\x92\xa9\x25\x29\x25\x4a\x05\x2e\xde\x74";
+
+const OR_OF_INDEX: &[u8; 32] = b"\xca\x3d\x0a\x99\xa2\xb9\x39\x06\xf7\xa3\x34\x24\x14\xef\xcf\xb3\
+              \xa3\x85\xd4\x4c\xd1\xfd\x45\x90\x89\xd1\x9b\x50\x71\xc0\xb7\xa0";
+
+const OR_BEHIND: &[u8; 32] = b"\xad\x58\xf8\x86\xe7\x95\x09\x10\xe3\x4b\x95\x24\x93\xd1\xc9\xee\
+              \x06\x39\xe4\xaa\x31\xc0\xc2\x01\x36\x0a\x41\xbc\xd3\x80\xeb\x96";
+
+const AUTHORIZE: &[u8; 32] = b"\x34\x05\x2b\xda\xc7\x36\x4d\xd4\xed\xdf\xc2\x83\xdd\xdb\xb4\x75\
+              \xf2\x7f\x4e\x20\x13\x19\x86\x81\x5e\x05\xe7\x1a\x7d\x7f\xe1\x54";
+
+const TWO_STAGES: &[u8; 32] = b"\x99\xc5\x4c\xba\xa2\xe2\x6a\x73\x3c\x27\x93\x05\x58\x87\xea\xb0\
+              \xeb\xb5\x75\xf9\x84\xab\x79\x7a\x94\xc4\x3e\x10\x38\xb1\xfc\x78";
+
+const INDEX: &[u8; 32] = b"\x0c\x9d\x71\x7e\x9c\x3f\xe6\x9f\xda\x41\x76\x94\x50\xbb\x14\x59\
+              \x57\xf8\xb3\x61\x0e\x08\x4d\xbf\x65\x59\x1a\x5d\x11\xec\xd8\x3f";
+
+const KEY: &[u8; 32] = b"\x0f\xb3\x7b\x52\xfb\x77\xd5\x6d\x3b\x9e\xe9\xa5\x92\xe0\xbb\xfb\
+              \x07\x20\xc7\x8d\x12\x3e\x8f\x63\x04\x09\x37\x79\x0a\xb7\x18\xd1";
+
+fn secret(alloc: Global, entity: Name, policy_ref: &[u8]) -> Result<Assertion, NoMemory> {
+    Ok(Assertion::Secret {
+        entity,
+        policy_ref: Blob::from_slice(alloc, policy_ref)?,
+        cp_hash: None,
+        expiration: 0,
+    })
+}
+
+fn pcr(alloc: Global, mask: u32, value: &[u8; 32]) -> Assertion {
+    Assertion::Pcr {
+        mask,
+        pcr_digest: hash(value),
+        values: Digests::new(alloc),
+    }
+}
+
+fn timer(alloc: Global, operand: &[u8], offset: u16) -> Result<Assertion, NoMemory> {
+    Ok(Assertion::CounterTimer {
+        operand: Blob::from_slice(alloc, operand)?,
+        offset,
+        operation: Compare::UnsignedGe,
+    })
+}
+
+fn gives(rt: &impl Abort, assertion: Assertion, digest: &[u8; 32]) {
+    assert_eq!(rt; &extend(Digest32::ZERO, &assertion).bytes, digest);
+}
+
+#[test]
+fn assertions_alone(rt: HostRuntime) -> Result<(), Fail> {
+    let alloc = rt.alloc();
+    gives(&rt, Assertion::AuthValue, AUTH_VALUE);
+    gives(&rt, Assertion::Password, AUTH_VALUE);
+    gives(&rt, Assertion::CommandCode(0x14b), CODE_DUPLICATE);
+    gives(&rt, Assertion::CommandCode(0x137), CODE_NV_WRITE);
+    gives(&rt, Assertion::Locality(0x01), LOCALITY_0);
+    gives(&rt, Assertion::Locality(0x09), LOCALITY_0_3);
+    gives(
+        &rt,
+        Assertion::CpHash(Digest32 { bytes: [0xab; 32] }),
+        CP_HASH,
+    );
+    gives(&rt, Assertion::NvWritten(true), NV_WRITTEN);
+    gives(&rt, secret(alloc, ENDORSEMENT, &[])?, SECRET_ENDORSEMENT);
+    gives(&rt, secret(alloc, OWNER, &[])?, SECRET_OWNER);
+    gives(&rt, secret(alloc, ENDORSEMENT, &[0x5a; 64])?, SECRET_REF);
+    gives(&rt, timer(alloc, &[0; 8], 8)?, COUNTER_TIMER);
+    gives(&rt, pcr(alloc, 0x01, &[0xff; 32]), PCR_0);
+    gives(&rt, pcr(alloc, 0x100, &[0; 32]), PCR_8);
+    let nv = Assertion::Nv {
+        index: Name::Hash(Digest32 { bytes: *INDEX }),
+        operand: Blob::from_slice(alloc, &[0x80])?,
+        offset: 0,
+        operation: Compare::BitSet,
+    };
+    gives(&rt, nv, NV);
+    Ok(())
+}
+
+fn before(
+    alloc: Global,
+    element: ClosedElement,
+    rest: ClosedElements,
+) -> Result<ClosedElements, NoMemory>
+    ensures { IfOk result (λ all. ElementHasBranchCounts element → HasBranchCounts rest → HasBranchCounts all) }
+{
+    Ok(ClosedElements::More(Box::new(alloc, element)?, Box::new(alloc, rest)?))
+}
+
+fn assert_before(
+    alloc: Global,
+    assertion: Assertion,
+    rest: ClosedElements,
+) -> Result<ClosedElements, NoMemory>
+    ensures { IfOk result (λ all. HasBranchCounts rest → HasBranchCounts all) }
+{
+    before(alloc, ClosedElement::Assert(assertion), rest)
+}
+
+fn branch(alloc: Global, name: &str, elements: ClosedElements) -> Result<ClosedBranch, NoMemory>
+    ensures { IfOk result (λ branch. branch.policy.elements ≡ elements) }
+{
+    Ok(ClosedBranch {
+        name: Text::from_str(alloc, name)?,
+        policy: Closed { elements },
+    })
+}
+
+// An OR of the branches "a" and "b".
+fn either(
+    alloc: Global,
+    first: ClosedElements,
+    second: ClosedElements,
+) -> Result<ClosedElement, NoMemory>
+    ensures { IfOk result (λ element. HasBranchCounts first → HasBranchCounts second → ElementHasBranchCounts element) }
+{
+    let first = branch(alloc, "a", first)?;
+    let second = branch(alloc, "b", second)?;
+    let last = ClosedBranches::More(
+        Box::new(alloc, second)?,
+        Box::new(alloc, ClosedBranches::End)?,
+    );
+    let branches = ClosedBranches::More(Box::new(alloc, first)?, Box::new(alloc, last)?);
+    Ok(ClosedElement::Or(branches))
+}
+
+#[test]
+fn documents(rt: HostRuntime) -> Result<(), Fail> {
+    let alloc = rt.alloc();
+    let mut nine = assert_before(alloc, Assertion::AuthValue, ClosedElements::End)?;
+    nine = assert_before(alloc, Assertion::PhysicalPresence, nine)?;
+    nine = assert_before(alloc, Assertion::CommandCode(0x15e), nine)?;
+    nine = assert_before(alloc, Assertion::NvWritten(true), nine)?;
+    nine = assert_before(
+        alloc,
+        Assertion::CpHash(Digest32 { bytes: [0x11; 32] }),
+        nine,
+    )?;
+    nine = assert_before(alloc, secret(alloc, ENDORSEMENT, &[])?, nine)?;
+    nine = assert_before(alloc, timer(alloc, &[0], 0)?, nine)?;
+    nine = assert_before(alloc, pcr(alloc, 0x100, &[0; 32]), nine)?;
+    nine = assert_before(alloc, Assertion::Locality(31), nine)?;
+    assert_eq!(rt; &digest_of(&Closed { elements: nine }).bytes, NINE);
+
+    let unseal = assert_before(alloc, Assertion::CommandCode(0x15e), ClosedElements::End)?;
+    let authorize = ClosedElement::Authorize {
+        key: Name::Hash(Digest32 { bytes: *KEY }),
+        policy_ref: Blob::new(alloc),
+    };
+    let policy = Closed {
+        elements: before(alloc, authorize, unseal)?,
+    };
+    assert_eq!(rt; &digest_of(&policy).bytes, AUTHORIZE);
+    Ok(())
+}
+
+#[test]
+fn branches(rt: HostRuntime) -> Result<(), Fail> {
+    let alloc = rt.alloc();
+    let none = Approvals::new(alloc);
+
+    // The branches of an OR start from the digest before it.
+    let value = assert_before(alloc, Assertion::AuthValue, ClosedElements::End)?;
+    let locality = assert_before(alloc, Assertion::Locality(1), ClosedElements::End)?;
+    let or = before(alloc, either(alloc, value, locality)?, ClosedElements::End)?;
+    let policy = Closed {
+        elements: assert_before(alloc, Assertion::CommandCode(0x15e), or)?,
+    };
+    assert_eq!(rt; &digest_of(&policy).bytes, OR_BEHIND);
+    let all = paths(alloc, &policy, &none)?;
+    assert_eq!(rt; all.len(), 2);
+    for path in all.as_slice() {
+        assert_eq!(rt; path.steps.len(), 1);
+        assert_eq!(rt; path.moves.len(), 3);
+        assert!(rt; !path.outside);
+    }
+
+    // An AUTHORIZENV that no document meets has its outside path alone.
+    let key = assert_before(alloc, secret(alloc, ENDORSEMENT, &[])?, ClosedElements::End)?;
+    let authorize = ClosedElement::AuthorizeNv {
+        index: Name::Hash(Digest32 { bytes: *INDEX }),
+    };
+    let index = before(alloc, authorize, ClosedElements::End)?;
+    let policy = Closed {
+        elements: before(alloc, either(alloc, key, index)?, ClosedElements::End)?,
+    };
+    assert_eq!(rt; &digest_of(&policy).bytes, OR_OF_INDEX);
+    let all = paths(alloc, &policy, &none)?;
+    assert_eq!(rt; all.len(), 2);
+    assert!(rt; !all.as_slice()[0].outside);
+    assert!(rt; all.as_slice()[1].outside);
+    Ok(())
+}
+
+fn ors(alloc: Global, count: u8) -> Result<ClosedElements, NoMemory>
+    ensures { IfOk result (λ elements. HasBranchCounts elements) }
+{
+    let mut elements = ClosedElements::End;
+    for _ in 0..count {
+        let value = assert_before(alloc, Assertion::AuthValue, ClosedElements::End)?;
+        let locality = assert_before(alloc, Assertion::Locality(1), ClosedElements::End)?;
+        elements = before(alloc, either(alloc, value, locality)?, elements)?;
+    }
+    Ok(elements)
+}
+
+#[test]
+fn limits(rt: HostRuntime) -> Result<(), Fail> {
+    let alloc = rt.alloc();
+    let none = Approvals::new(alloc);
+    let twelve = Closed {
+        elements: ors(alloc, 12)?,
+    };
+    assert_eq!(rt; count_paths(&twelve, &none), 4096);
+    assert_eq!(rt; paths(alloc, &twelve, &none)?.len(), 4096);
+    let thirteen = Closed {
+        elements: ors(alloc, 13)?,
+    };
+    assert_eq!(rt; count_paths(&thirteen, &none), 4097);
+    assert_eq!(rt;
+        paths(alloc, &thirteen, &none).err(),
+        Some(TreeFault::TooManyPaths)
+    );
+    Ok(())
+}
+
+#[test]
+fn strings(rt: HostRuntime) -> Result<(), Fail> {
+    let alloc = rt.alloc();
+    let policy_ref = [0x00, 0x00, 0x01, 0x6c, 0x00, 0x00, 0x01, 0x5e];
+    let owner = assert_before(
+        alloc,
+        secret(alloc, OWNER, &policy_ref)?,
+        ClosedElements::End,
+    )?;
+    let value = assert_before(alloc, Assertion::AuthValue, ClosedElements::End)?;
+    let policy = Closed {
+        elements: before(alloc, either(alloc, owner, value)?, ClosedElements::End)?,
+    };
+    let inputs = inputs_of(alloc, &policy, &Approvals::new(alloc))?;
+    assert_eq!(rt; inputs.len(), 4);
+    let mut first = [0; 40];
+    first[34] = 0x01;
+    first[35] = 0x51;
+    first[36] = 0x40;
+    first[39] = 0x01;
+    assert_eq!(rt; inputs.as_slice()[0].as_slice(), first.as_slice());
+
+    let mut facts = Facts::new(alloc)?;
+    facts.push(Fact {
+        event: 1,
+        act: Move::Assert(secret(alloc, OWNER, &policy_ref)?),
+        cp_hash: None,
+        deadline: None,
+    });
+    assert_eq!(rt; inputs_of_facts(alloc, &facts)?.len(), 2);
+    assert!(rt; run_facts(&facts) == hash(inputs.as_slice()[1].as_slice()));
+    facts.clear();
+    assert!(rt; run_facts(&facts) == Digest32::ZERO);
+    assert_eq!(rt; &digest_of(&policy).bytes, TWO_STAGES);
+    Ok(())
+}

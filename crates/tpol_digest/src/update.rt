@@ -1,0 +1,70 @@
+// The update of a policy digest, of which each policy command has its own (TPM 2.0 Part 3): the hash of
+// the digest before, the command's code and its arguments, and in some commands a second hash.
+
+ghost use Rattle.std.specs.Prelude.{◌≡◌, ◌++◌, ℕ, List};
+ghost use Rattle.std.specs.Int.{to_be_bytes, w16, w32};
+ghost use Rattle.tpol_base.specs.Name.{name_bytes};
+ghost use Rattle.tpol_hash.specs.Sha256.{digest_of_bytes};
+ghost use Rattle.tpol_hash.specs.Messages.{Holds};
+ghost use Rattle.tpol_digest.specs.Stage.{comparison, one_hash, two_hashes};
+ghost use Rattle.tpol_digest.specs.Digest.{after_stage};
+
+use tpol_base::{Blob, Compare, Digest32, Name};
+use tpol_hash::Hasher;
+
+// A hasher that holds the digest before and the command's code.
+pub fn start(old: &Digest32, code: u32) -> Hasher
+    ensures { Holds result (old.now.bytes ++ to_be_bytes w32 code) }
+{
+    let mut hasher = Hasher::new();
+    hasher.put(&old.bytes);
+    hasher.put(&code.to_be_bytes());
+    hasher
+}
+
+// Puts the bytes of a Name.
+pub fn put_name(hasher: &mut Hasher, name: &Name)
+    ensures { (m : List ℕ) → Holds hasher.old m → Holds hasher.new (m ++ name_bytes name.now) }
+{
+    match name {
+        Name::Empty => {}
+        Name::Handle(handle) => hasher.put(&handle.to_be_bytes()),
+        Name::Hash(digest) => {
+            hasher.put(&[0x00, 0x0b]);
+            hasher.put(&digest.bytes);
+        }
+    }
+}
+
+// The digest after a command that hashes these bytes behind its code.
+pub fn hash_once(old: &Digest32, code: u32, rest: &[u8]) -> Digest32
+    ensures { result ≡ after_stage (one_hash code rest.now) old.now }
+{
+    let mut hasher = start(old, code);
+    hasher.put(rest);
+    hasher.done()
+}
+
+// The digest after a command that hashes a Name, and then the first digest with the policyRef.
+pub fn hash_twice(old: &Digest32, code: u32, name: &Name, policy_ref: &Blob) -> Digest32
+    ensures { result ≡ after_stage (two_hashes code (name_bytes name.now) policy_ref.now) old.now }
+{
+    let mut hasher = start(old, code);
+    put_name(&mut hasher, name);
+    let first = hasher.done();
+    let mut second = Hasher::new();
+    second.put(&first.bytes);
+    second.put(policy_ref.as_slice());
+    second.done()
+}
+
+// The digest of what PolicyNV and PolicyCounterTimer compare with, and how.
+pub fn comparison_digest(operand: &Blob, offset: u16, operation: Compare) -> Digest32
+    ensures { result ≡ digest_of_bytes (comparison operand.now offset operation) }
+{
+    let mut hasher = Hasher::new();
+    hasher.put(operand.as_slice());
+    hasher.put(&offset.to_be_bytes());
+    hasher.put(&operation.number().to_be_bytes());
+    hasher.done()
+}
