@@ -1,0 +1,4 @@
+pub mod Areas
+pub mod Directories
+pub mod Paths
+pub mod Setups

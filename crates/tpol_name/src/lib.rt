@@ -1,0 +1,25 @@
+//! What a policy names: the public areas of objects and NV indices with their Names, the entities and
+//! values that a machine starts from (`Setup`) or shows (`Sight`), and the directory of its entities.
+//!
+//! The layers above take from here the Names, the comparison of paths, and the conditions `IsSetup` and
+//! `IsSight`, which the calls over setups and sights have.
+#![tactic(auto)]
+
+mod areas;
+mod entries;
+mod listing;
+mod paths;
+mod setup;
+mod sight;
+#[cfg(test)]
+mod tests;
+
+pub use areas::{
+    NvPublic, ObjectPublic, Scheme, WRITTEN, index_name_of_parts, nv_name, object_name,
+    object_name_of_parts, written,
+};
+pub use entries::{DirEntry, Directory, IndexEntry, Indices, ObjectEntry, Objects};
+pub use listing::directory;
+pub use paths::same_path;
+pub use setup::Setup;
+pub use sight::{Sight, opening_sight};

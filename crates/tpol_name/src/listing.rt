@@ -1,0 +1,75 @@
+ghost use Rattle.std.specs.Prelude.{◌≡◌, ◌++◌, IfOk, OnOk, map};
+ghost use Rattle.tpol_name.specs.Directories.{directory_of, line_of_index, line_of_object};
+
+use crate::{
+    DirEntry, Directory, IndexEntry, ObjectEntry, Setup, WRITTEN, index_name_of_parts, object_name,
+};
+use std::alloc::Global;
+use tpol_base::{NoMemory, Sequence};
+
+/// The directory of a setup: its objects and then its indices, in order. The Name of an index is that
+/// which it has once it is written.
+pub fn directory(alloc: Global, setup: &Setup) -> Result<Directory, NoMemory>
+    ensures lines { IfOk result (λ lines. lines ≡ directory_of setup.now) }
+{
+    let mut lines = Sequence::new(alloc);
+    list_objects(alloc, &mut lines, setup.objects.as_slice())?;
+    list_indices(alloc, &mut lines, setup.indices.as_slice())?;
+    Ok(lines)
+}
+
+// Adds a line for each object.
+fn list_objects(
+    alloc: Global,
+    lines: &mut Directory,
+    objects: &[ObjectEntry],
+) -> Result<(), NoMemory>
+    ensures { OnOk result (lines.new ≡ lines.old ++ map line_of_object objects.now) }
+{
+    for object in objects {
+        lines.push(object_line(alloc, object)?)?;
+    }
+    Ok(())
+}
+
+// Adds a line for each index.
+fn list_indices(
+    alloc: Global,
+    lines: &mut Directory,
+    indices: &[IndexEntry],
+) -> Result<(), NoMemory>
+    ensures { OnOk result (lines.new ≡ lines.old ++ map line_of_index indices.now) }
+{
+    for index in indices {
+        lines.push(index_line(alloc, index)?)?;
+    }
+    Ok(())
+}
+
+fn object_line(alloc: Global, object: &ObjectEntry) -> Result<DirEntry, NoMemory>
+    ensures { IfOk result (λ line. line ≡ line_of_object object.now) }
+{
+    Ok(DirEntry {
+        path: object.path.try_clone(alloc)?,
+        handle: object.handle,
+        name: object_name(&object.public),
+        attributes: object.public.attributes,
+    })
+}
+
+fn index_line(alloc: Global, index: &IndexEntry) -> Result<DirEntry, NoMemory>
+    ensures { IfOk result (λ line. line ≡ line_of_index index.now) }
+{
+    let public = &index.public;
+    Ok(DirEntry {
+        path: index.path.try_clone(alloc)?,
+        handle: public.index,
+        name: index_name_of_parts(
+            public.index,
+            public.attributes | WRITTEN,
+            public.auth_policy.as_slice(),
+            public.size,
+        ),
+        attributes: public.attributes,
+    })
+}

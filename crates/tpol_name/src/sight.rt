@@ -1,0 +1,51 @@
+ghost use Rattle.std.specs.Prelude.{◌≡◌, IfOk};
+ghost use Rattle.tpol_name.specs.Setups.{IsSetup, IsSight, first_sight};
+
+use crate::entries::{copy_indices, copy_objects};
+use crate::{Indices, Objects, Setup};
+use std::alloc::Global;
+use tpol_base::{Blob, Digests, NoMemory};
+
+/// The number of sessions that a machine can keep alive.
+const SESSIONS: u32 = 64;
+
+/// What a machine shows at one moment, its secret values too: the values of a `Setup` as they are now, and
+/// how many sessions can still be started.
+#[derive(Drop)]
+pub struct Sight {
+    pub objects: Objects,
+    pub indices: Indices,
+    pub owner: Blob,
+    pub endorsement: Blob,
+    pub lockout: Blob,
+    pub pcrs: Digests,
+    pub pcr_counter: u32,
+    pub time: u64,
+    pub reset_count: u32,
+    pub restart_count: u32,
+    pub safe: bool,
+    pub presence: bool,
+    pub free_sessions: u32,
+}
+
+/// What a machine shows that just started from this setup.
+pub fn opening_sight(alloc: Global, setup: &Setup) -> Result<Sight, NoMemory>
+    ensures sight { IfOk result (λ sight. sight ≡ first_sight setup.now) }
+    ensures condition { IsSetup setup.now → IfOk result IsSight }
+{
+    Ok(Sight {
+        objects: copy_objects(alloc, setup.objects.as_slice())?,
+        indices: copy_indices(alloc, setup.indices.as_slice())?,
+        owner: Blob::from_slice(alloc, setup.owner.as_slice())?,
+        endorsement: Blob::from_slice(alloc, setup.endorsement.as_slice())?,
+        lockout: Blob::from_slice(alloc, setup.lockout.as_slice())?,
+        pcrs: Digests::from_slice(alloc, setup.pcrs.as_slice())?,
+        pcr_counter: setup.pcr_counter,
+        time: setup.time,
+        reset_count: setup.reset_count,
+        restart_count: setup.restart_count,
+        safe: setup.safe,
+        presence: setup.presence,
+        free_sessions: SESSIONS,
+    })
+}
