@@ -1,0 +1,4 @@
+pub mod EachFault
+pub mod ErasedLemmas
+pub mod WellFormedLemmas
+mod Worked

@@ -1,0 +1,137 @@
+-- A filled policy without faults is well formed.
+use Rattle.std.proofs.Common.{◌≡◌, ◌+◌, ℕ, Bool, true, false, List, [], ◌∷◌, ◌++◌, IsTrue, codes, refl, rules, sym, ap, subst}
+use Rattle.std.specs.Prelude.{Option}
+use Rattle.tpol_digest.specs.WellFormed.{HasPcrDigest, IsWellFormedPolicy}
+use Rattle.tpol_fill.specs.declared.fault.FillFault.{FillFault}
+use Rattle.tpol_tree.specs.BranchCounts.{BranchesHaveBranches, EachOrHasBranches, ElementHasBranches}
+use Rattle.tpol_tree.specs.BranchCounts as written
+use Rattle.tpol_fill.specs.Erased.{erased_elements}
+use Rattle.tpol_fill.specs.Filling.{branches_faults, element_faults, elements_faults, filled_branches, filled_element, filled_elements, void_prefix}
+use Rattle.tpol_json.specs.declared.place.Place.{Place}
+use Rattle.tpol_json.specs.Places.{at_item, at_member}
+use Rattle.tpol_name.specs.declared.sight.Sight.{Sight}
+use Rattle.tpol_tree.specs.declared.closed.Closed.{Closed}
+use Rattle.tpol_tree.specs.declared.policy.Branches.{Branches}
+use Rattle.tpol_tree.specs.declared.policy.Branches.TheVariants.{More' as MoreBranches', End as EndBranches}
+use Rattle.tpol_tree.specs.declared.policy.Element.{Element}
+use Rattle.tpol_tree.specs.declared.policy.Element.TheVariants.{Or, Pcr, Nv, Secret, Signed, Authorize, AuthorizeNv, Locality, CommandCode, CpHash, NameHash, CounterTimer, Duplication, NvWritten, AuthValue, Password, PhysicalPresence}
+use Rattle.tpol_tree.specs.declared.policy.Elements.{Elements}
+use Rattle.tpol_tree.specs.declared.policy.Elements.TheVariants.{More', End}
+use Rattle.tpol_tree.specs.declared.wishes.PcrWish.TheVariants.{Values, Current}
+use Rattle.tpol_tree.specs.Closed.{ApprovalsLead, ApprovalsLeadBranches, ApprovalsLeadElement, BranchesHaveBranchCounts, EachAssertion, EachAssertionOfBranches, EachAssertionOfElement, ElementHasBranchCounts, HasBranchCounts, IsBranchCount, branch_count}
+use Rattle.tpol_fill.proofs.ErasedLemmas.{counts-erased, each-erased, lead-erased}
+
+-- both parts of an empty list are empty
+no_first : (a b : List FillFault) → a ++ b ≡ [] → a ≡ []
+no_first [] b h = refl
+no_first (x ∷ a) b h = cc
+
+no_second : (a b : List FillFault) → a ++ b ≡ [] → b ≡ []
+no_second [] b h = h
+no_second (x ∷ a) b h = cc
+
+no_void : (leads : Bool) (place : Place) → void_prefix leads place ≡ [] → IsTrue leads
+no_void true place h = search rules
+no_void false place h = cc
+
+mutual
+  lead-filled : (sight : Option Sight) (leads : Bool) (list : Place) (n : ℕ) (elements : Elements) → elements_faults sight leads list n elements ≡ [] → ApprovalsLead leads (filled_elements sight elements)
+  lead-filled sight leads list n End h = tt
+  lead-filled sight leads list n (More' p element q rest) h =
+      (lead_element-filled sight leads (at_item list n) element (no_first _ _ h), lead-filled sight false list (n + 1) rest (no_second _ _ h))
+
+  lead_element-filled : (sight : Option Sight) (leads : Bool) (place : Place) (element : Element) → element_faults sight leads place element ≡ [] → ApprovalsLeadElement leads (filled_element sight element)
+  lead_element-filled sight leads place (Or branches) h = lead_branches-filled sight leads (at_member place (codes "branches")) 0 branches h
+  lead_element-filled sight leads place (Authorize key policy_ref) h = no_void leads place (no_first _ _ h)
+  lead_element-filled sight leads place (AuthorizeNv index) h = no_void leads place (no_first _ _ h)
+  lead_element-filled sight leads place (Pcr wish) h = tt
+  lead_element-filled sight leads place (Nv index operand offset operation) h = tt
+  lead_element-filled sight leads place (Secret entity policy_ref cp_hash expiration) h = tt
+  lead_element-filled sight leads place (Signed key policy_ref cp_hash expiration) h = tt
+  lead_element-filled sight leads place (Locality locality) h = tt
+  lead_element-filled sight leads place (CommandCode code) h = tt
+  lead_element-filled sight leads place (CpHash digest) h = tt
+  lead_element-filled sight leads place (NameHash wish) h = tt
+  lead_element-filled sight leads place (CounterTimer operand offset operation) h = tt
+  lead_element-filled sight leads place (Duplication object parent include) h = tt
+  lead_element-filled sight leads place (NvWritten written) h = tt
+  lead_element-filled sight leads place AuthValue h = tt
+  lead_element-filled sight leads place Password h = tt
+  lead_element-filled sight leads place PhysicalPresence h = tt
+
+  lead_branches-filled : (sight : Option Sight) (leads : Bool) (list : Place) (n : ℕ) (branches : Branches) → branches_faults sight leads list n branches ≡ [] → ApprovalsLeadBranches leads (filled_branches sight branches)
+  lead_branches-filled sight leads list n EndBranches h = tt
+  lead_branches-filled sight leads list n (MoreBranches' p name description elements q rest) h =
+      (lead-filled sight leads (at_member (at_item list n) (codes "policy")) 0 elements (no_first _ _ h), lead_branches-filled sight leads list (n + 1) rest (no_second _ _ h))
+
+mutual
+  pcrs-filled : (sight : Option Sight) (elements : Elements) → EachAssertion HasPcrDigest (filled_elements sight elements)
+  pcrs-filled sight End = tt
+  pcrs-filled sight (More' p element q rest) = (pcrs_element-filled sight element, pcrs-filled sight rest)
+
+  pcrs_element-filled : (sight : Option Sight) (element : Element) → EachAssertionOfElement HasPcrDigest (filled_element sight element)
+  pcrs_element-filled sight (Or branches) = pcrs_branches-filled sight branches
+  pcrs_element-filled sight (Pcr (Values values)) = refl
+  pcrs_element-filled sight (Pcr (Current mask)) = refl
+  pcrs_element-filled sight (Authorize key policy_ref) = tt
+  pcrs_element-filled sight (AuthorizeNv index) = tt
+  pcrs_element-filled sight (Nv index operand offset operation) = tt
+  pcrs_element-filled sight (Secret entity policy_ref cp_hash expiration) = tt
+  pcrs_element-filled sight (Signed key policy_ref cp_hash expiration) = tt
+  pcrs_element-filled sight (Locality locality) = tt
+  pcrs_element-filled sight (CommandCode code) = tt
+  pcrs_element-filled sight (CpHash digest) = tt
+  pcrs_element-filled sight (NameHash wish) = tt
+  pcrs_element-filled sight (CounterTimer operand offset operation) = tt
+  pcrs_element-filled sight (Duplication object parent include) = tt
+  pcrs_element-filled sight (NvWritten written) = tt
+  pcrs_element-filled sight AuthValue = tt
+  pcrs_element-filled sight Password = tt
+  pcrs_element-filled sight PhysicalPresence = tt
+
+  pcrs_branches-filled : (sight : Option Sight) (branches : Branches) → EachAssertionOfBranches HasPcrDigest (filled_branches sight branches)
+  pcrs_branches-filled sight EndBranches = tt
+  pcrs_branches-filled sight (MoreBranches' p name description elements q rest) = (pcrs-filled sight elements, pcrs_branches-filled sight rest)
+
+branch_count-filled : (sight : Option Sight) (branches : Branches) → written.branch_count branches ≡ branch_count (filled_branches sight branches)
+branch_count-filled sight EndBranches = refl
+branch_count-filled sight (MoreBranches' p name description elements q rest) = ap (λ n. n + 1) (branch_count-filled sight rest)
+
+mutual
+  counts-filled : (sight : Option Sight) (elements : Elements) → EachOrHasBranches elements → HasBranchCounts (filled_elements sight elements)
+  counts-filled sight End h = tt
+  counts-filled sight (More' p element q rest) h = (counts_element-filled sight element h.0, counts-filled sight rest h.1)
+
+  counts_element-filled : (sight : Option Sight) (element : Element) → ElementHasBranches element → ElementHasBranchCounts (filled_element sight element)
+  counts_element-filled sight (Or branches) h =
+      (subst IsBranchCount (branch_count-filled sight branches) h.0, counts_branches-filled sight branches h.1)
+  counts_element-filled sight (Pcr wish) h = tt
+  counts_element-filled sight (Authorize key policy_ref) h = tt
+  counts_element-filled sight (AuthorizeNv index) h = tt
+  counts_element-filled sight (Nv index operand offset operation) h = tt
+  counts_element-filled sight (Secret entity policy_ref cp_hash expiration) h = tt
+  counts_element-filled sight (Signed key policy_ref cp_hash expiration) h = tt
+  counts_element-filled sight (Locality locality) h = tt
+  counts_element-filled sight (CommandCode code) h = tt
+  counts_element-filled sight (CpHash digest) h = tt
+  counts_element-filled sight (NameHash wish) h = tt
+  counts_element-filled sight (CounterTimer operand offset operation) h = tt
+  counts_element-filled sight (Duplication object parent include) h = tt
+  counts_element-filled sight (NvWritten written) h = tt
+  counts_element-filled sight AuthValue h = tt
+  counts_element-filled sight Password h = tt
+  counts_element-filled sight PhysicalPresence h = tt
+
+  counts_branches-filled : (sight : Option Sight) (branches : Branches) → BranchesHaveBranches branches → BranchesHaveBranchCounts (filled_branches sight branches)
+  counts_branches-filled sight EndBranches h = tt
+  counts_branches-filled sight (MoreBranches' p name description elements q rest) h =
+      (counts-filled sight elements h.0, counts_branches-filled sight rest h.1)
+
+-- what is filled without faults is well formed
+pub well_formed-filled : (list : Place) (elements : Elements) (sight : Option Sight) (closed : Closed) → EachOrHasBranches elements → elements_faults sight true list 0 elements ≡ [] → erased_elements closed.elements ≡ filled_elements sight elements → IsWellFormedPolicy closed
+well_formed-filled list elements sight closed counts none same =
+    record {
+      approvals_lead = lead-erased true closed.elements (subst (ApprovalsLead true) (sym same) (lead-filled sight true list 0 elements none));
+      pcr_digests = each-erased HasPcrDigest closed.elements (subst (EachAssertion HasPcrDigest) (sym same) (pcrs-filled sight elements));
+      branch_counts = counts-erased closed.elements (subst HasBranchCounts (sym same) (counts-filled sight elements counts));
+    }

@@ -1,0 +1,4 @@
+pub mod Entities
+pub mod Erased
+pub mod Filling
+pub mod Outcome

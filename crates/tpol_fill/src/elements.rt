@@ -1,0 +1,224 @@
+//! Policies, element after element.
+
+ghost use Rattle.std.specs.Prelude.{◌≡◌, IfOk, IfErr, List};
+ghost use Rattle.std.specs.Option.{option_copied};
+ghost use Rattle.tpol_digest.specs.Digest.{policy_digest};
+ghost use Rattle.tpol_digest.specs.Paths.{paths_of};
+ghost use Rattle.tpol_digest.specs.WellFormed.{IsWellFormedPolicy};
+ghost use Rattle.tpol_tree.specs.BranchCounts.{EachOrHasBranches};
+ghost use Rattle.tpol_fill.specs.declared.fault.FillFault.TheVariants.{NoMemory as no_memory};
+ghost use Rattle.tpol_fill.specs.Erased.{erased_branches, erased_element, erased_elements, nowhere};
+ghost use Rattle.tpol_fill.specs.Filling.{FillsBranches, FillsElement, FillsElements, FillsPolicy, filled};
+ghost use Rattle.tpol_tree.specs.declared.closed.ClosedBranches.TheVariants.{More' as MoreBranches'};
+ghost use Rattle.tpol_tree.specs.declared.path.ApprovedDoc.{ApprovedDoc as ApprovedDocument};
+ghost use Rattle.tpol_tree.specs.declared.closed.ClosedElements.TheVariants.{More'};
+
+use crate::FillFault;
+use crate::fault::place_of_item;
+use crate::leaves::{
+    fill_authorize, fill_authorize_nv, fill_duplication, fill_name_hash, fill_nv, fill_pcr,
+    fill_secret, fill_signed,
+};
+use std::alloc::Global;
+use tpol_base::{Blob, Text};
+use tpol_json::Place;
+use tpol_name::Sight;
+use tpol_tree::{
+    Assertion, Branches, Closed, ClosedBranch, ClosedBranches, ClosedElement, ClosedElements,
+    Element, Elements, Policy,
+};
+
+/// The policy with every wish given (see `filled`), or the first place that has no value: places are those
+/// of the document's canonical text, `policy[k]`, then the member.
+///
+/// - `NoSuchPath`: no entity of the wanted kind has the path: any entity or hierarchy for `objectPath` and
+///   `namePaths`, an object for `keyPath` and `newParentPath`, an index for `nvPath`. Without a sight only the
+///   hierarchies `HS`, `HE` and `LOCKOUT` are there.
+/// - `NoSuchPcr`: a PCR above 23, or a current value without a sight.
+/// - `NotKeyedHash`: a key's path or public area is not an HMAC key with the attribute sign.
+/// - `VoidPrefix`: a POLICYAUTHORIZE or POLICYAUTHORIZENV has an element before it in its list, or before a
+///   POLICYOR that encloses it. It comes before the other kinds at that element.
+pub fn fill(alloc: Global, policy: &Policy, sight: Option<&Sight>) -> Result<Closed, FillFault>
+    ensures fills { FillsPolicy (option_copied sight.entry) policy.now result }
+    ensures well_formed { EachOrHasBranches policy.now.elements → IfOk result IsWellFormedPolicy }
+    ensures digest { IfOk result (λ closed.
+        policy_digest closed ≡ policy_digest (filled policy.now (option_copied sight.entry))) }
+    ensures paths { IfOk result (λ closed. (documents : List ApprovedDocument) →
+        paths_of closed documents ≡ paths_of (filled policy.now (option_copied sight.entry)) documents) }
+{
+    let list = Place::root(alloc).member(alloc, "policy")?;
+    match fill_elements(alloc, &policy.elements, sight, true, &list, 0) {
+        Ok(elements) => Ok(Closed { elements }),
+        Err(fault) => Err(fault),
+    }
+}
+
+// The elements of a list that stands at `list`, from the item `index` on. `leads` says whether no element
+// stands before them.
+#[cycle(fill)]
+fn fill_elements(
+    alloc: Global,
+    elements: &Elements,
+    sight: Option<&Sight>,
+    leads: bool,
+    list: &Place,
+    index: usize,
+) -> Result<ClosedElements, FillFault>
+    ensures { FillsElements (option_copied sight.entry) leads list.now index elements.now result }
+{
+    match elements {
+        Elements::End => Ok(ClosedElements::End),
+        Elements::More(element, rest) => {
+            let place = place_of_item(alloc, list, index)?;
+            let Some(next) = index.checked_add(1) else {
+                return Err(FillFault::NoMemory);
+            };
+            match fill_element(alloc, element, sight, leads, &place) {
+                Ok(first) => match fill_elements(alloc, rest, sight, false, list, next) {
+                    Ok(others) => join_elements(alloc, first, others),
+                    Err(fault) => Err(fault),
+                },
+                Err(fault) => Err(fault),
+            }
+        }
+    }
+}
+
+// An element that stands at `place`.
+#[cycle(fill)]
+fn fill_element(
+    alloc: Global,
+    element: &Element,
+    sight: Option<&Sight>,
+    leads: bool,
+    place: &Place,
+) -> Result<ClosedElement, FillFault>
+    ensures { FillsElement (option_copied sight.entry) leads place.now element.now result }
+{
+    match element {
+        Element::Or(branches) => {
+            let list = place.member(alloc, "branches")?;
+            match fill_branches(alloc, branches, sight, leads, &list, 0) {
+                Ok(closed) => Ok(ClosedElement::Or(closed)),
+                Err(fault) => Err(fault),
+            }
+        }
+        Element::Pcr(wish) => fill_pcr(alloc, wish, sight, place),
+        Element::Nv {
+            index,
+            operand,
+            offset,
+            operation,
+        } => fill_nv(alloc, index, operand, *offset, *operation, sight, place),
+        Element::Secret {
+            entity,
+            policy_ref,
+            cp_hash,
+            expiration,
+        } => fill_secret(
+            alloc,
+            entity,
+            policy_ref,
+            *cp_hash,
+            *expiration,
+            sight,
+            place,
+        ),
+        Element::Signed {
+            key,
+            policy_ref,
+            cp_hash,
+            expiration,
+        } => fill_signed(alloc, key, policy_ref, *cp_hash, *expiration, sight, place),
+        Element::Authorize { key, policy_ref } => {
+            fill_authorize(alloc, key, policy_ref, sight, leads, place)
+        }
+        Element::AuthorizeNv { index } => fill_authorize_nv(alloc, index, sight, leads, place),
+        Element::Locality(locality) => Ok(ClosedElement::Assert(Assertion::Locality(*locality))),
+        Element::CommandCode(code) => Ok(ClosedElement::Assert(Assertion::CommandCode(*code))),
+        Element::CpHash(digest) => Ok(ClosedElement::Assert(Assertion::CpHash(*digest))),
+        Element::NameHash(wish) => fill_name_hash(alloc, wish, sight, place),
+        Element::CounterTimer {
+            operand,
+            offset,
+            operation,
+        } => Ok(ClosedElement::Assert(Assertion::CounterTimer {
+            operand: Blob::from_slice(alloc, operand.as_slice())?,
+            offset: *offset,
+            operation: *operation,
+        })),
+        Element::Duplication {
+            object,
+            parent,
+            include,
+        } => fill_duplication(alloc, *object, parent, *include, sight, place),
+        Element::NvWritten(written) => Ok(ClosedElement::Assert(Assertion::NvWritten(*written))),
+        Element::AuthValue => Ok(ClosedElement::Assert(Assertion::AuthValue)),
+        Element::Password => Ok(ClosedElement::Assert(Assertion::Password)),
+        Element::PhysicalPresence => Ok(ClosedElement::Assert(Assertion::PhysicalPresence)),
+    }
+}
+
+// The branches of a list that stands at `list`, from the item `index` on.
+#[cycle(fill)]
+fn fill_branches(
+    alloc: Global,
+    branches: &Branches,
+    sight: Option<&Sight>,
+    leads: bool,
+    list: &Place,
+    index: usize,
+) -> Result<ClosedBranches, FillFault>
+    ensures { FillsBranches (option_copied sight.entry) leads list.now index branches.now result }
+{
+    match branches {
+        Branches::End => Ok(ClosedBranches::End),
+        Branches::More(branch, rest) => {
+            let place = place_of_item(alloc, list, index)?.member(alloc, "policy")?;
+            let Some(next) = index.checked_add(1) else {
+                return Err(FillFault::NoMemory);
+            };
+            let name = branch.name.try_clone(alloc)?;
+            match fill_elements(alloc, &branch.elements, sight, leads, &place, 0) {
+                Ok(elements) => match fill_branches(alloc, rest, sight, leads, list, next) {
+                    Ok(others) => join_branches(alloc, name, elements, others),
+                    Err(fault) => Err(fault),
+                },
+                Err(fault) => Err(fault),
+            }
+        }
+    }
+}
+
+fn join_elements(
+    alloc: Global,
+    first: ClosedElement,
+    others: ClosedElements,
+) -> Result<ClosedElements, FillFault>
+    ensures value { IfOk result (λ closed. erased_elements closed
+        ≡ More' nowhere (erased_element first) nowhere (erased_elements others)) }
+    ensures memory { IfErr result (λ fault. fault ≡ no_memory) }
+{
+    let first = Box::new(alloc, first)?;
+    let others = Box::new(alloc, others)?;
+    Ok(ClosedElements::More(first, others))
+}
+
+fn join_branches(
+    alloc: Global,
+    name: Text,
+    elements: ClosedElements,
+    others: ClosedBranches,
+) -> Result<ClosedBranches, FillFault>
+    ensures value { IfOk result (λ closed. erased_branches closed
+        ≡ MoreBranches' nowhere name (erased_elements elements) nowhere (erased_branches others)) }
+    ensures memory { IfErr result (λ fault. fault ≡ no_memory) }
+{
+    let branch = ClosedBranch {
+        name,
+        policy: Closed { elements },
+    };
+    let first = Box::new(alloc, branch)?;
+    let others = Box::new(alloc, others)?;
+    Ok(ClosedBranches::More(first, others))
+}

@@ -1,0 +1,224 @@
+//! The Names of what a policy names by a path or by a public area.
+
+ghost use Rattle.std.specs.Prelude.{◌≡◌, find};
+ghost use Rattle.std.specs.Option.{option_copied};
+ghost use Rattle.std.specs.Result.{result_ok};
+ghost use Rattle.tpol_fill.specs.Entities.{entity_name, hierarchy_at, index_area_of, index_at, key_name, name_of_index_wish, object_area_of, object_at, parent_name, path_name, scheme_of, signing_key_name};
+ghost use Rattle.tpol_name.specs.Areas.{index_name, object_name, with_written};
+ghost use Rattle.tpol_name.specs.Paths.{is_same_path};
+
+use crate::FillKind;
+use tpol_base::Name;
+use tpol_name::{
+    IndexEntry, ObjectEntry, ObjectPublic, Scheme, Sight, WRITTEN, index_name_of_parts,
+    object_name, object_name_of_parts, same_path,
+};
+use tpol_tree::{EntityWish, IndexWish, KeyWish, NvPublicText, ObjectPublicText, ParentWish};
+
+/// The attribute TPMA_OBJECT_SIGN: bit 18 (TPM 2.0 Part 2, TPMA_OBJECT).
+const SIGN: u32 = 0x0004_0000;
+
+/// The handle of the owner hierarchy (TPM 2.0 Part 2, TPM_RH).
+const OWNER: u32 = 0x4000_0001;
+
+/// The handle of the endorsement hierarchy.
+const ENDORSEMENT: u32 = 0x4000_000b;
+
+/// The handle of the lockout authorization.
+const LOCKOUT: u32 = 0x4000_000a;
+
+/// The Name of a key: of an object named by path, or made of a public area as it is given. `None` exactly
+/// where no object of the sight has the path, or the object or the area is not an HMAC key with the
+/// attribute sign.
+pub fn name_of_key(wish: &KeyWish, sight: Option<&Sight>) -> Option<Name>
+    ensures name { result ≡ result_ok (key_name wish.now (option_copied sight.entry)) }
+{
+    name_of_key_wish(wish, sight).ok()
+}
+
+/// The Name of an index: of one named by path the Name that it has once written, or that of a public area as
+/// it is given. `None` exactly where no index of the sight has the path.
+pub fn name_of_index(wish: &IndexWish, sight: Option<&Sight>) -> Option<Name>
+    ensures name { result ≡ result_ok (name_of_index_wish wish.now (option_copied sight.entry)) }
+{
+    name_of_index_wish(wish, sight).ok()
+}
+
+/// The Name of a key, or why there is none.
+pub fn name_of_key_wish(wish: &KeyWish, sight: Option<&Sight>) -> Result<Name, FillKind>
+    ensures { result ≡ key_name wish.now (option_copied sight.entry) }
+{
+    match wish {
+        KeyWish::Path(path) => match object_at(sight, path.as_str()) {
+            Some(object) => name_of_signing_key(&object.public),
+            None => Err(FillKind::NoSuchPath),
+        },
+        KeyWish::Public(text) => name_of_key_text(text),
+    }
+}
+
+/// The Name of an index, or why there is none.
+pub fn name_of_index_wish(wish: &IndexWish, sight: Option<&Sight>) -> Result<Name, FillKind>
+    ensures { result ≡ name_of_index_wish wish.now (option_copied sight.entry) }
+{
+    match wish {
+        IndexWish::Path(path) => match index_at(sight, path.as_str()) {
+            Some(index) => Ok(name_once_written(index)),
+            None => Err(FillKind::NoSuchPath),
+        },
+        IndexWish::Public(text) => Ok(name_of_index_text(text)),
+    }
+}
+
+/// The Name of an entity, or why there is none.
+pub fn name_of_entity_wish(wish: &EntityWish, sight: Option<&Sight>) -> Result<Name, FillKind>
+    ensures { result ≡ entity_name wish.now (option_copied sight.entry) }
+{
+    match wish {
+        EntityWish::Path(path) => name_at(path.as_str(), sight),
+        EntityWish::Named(name) => Ok(*name),
+    }
+}
+
+/// The Name of a new parent, or why there is none.
+pub fn name_of_parent_wish(wish: &ParentWish, sight: Option<&Sight>) -> Result<Name, FillKind>
+    ensures { result ≡ parent_name wish.now (option_copied sight.entry) }
+{
+    match wish {
+        ParentWish::Path(path) => match object_at(sight, path.as_str()) {
+            Some(object) => Ok(object_name(&object.public)),
+            None => Err(FillKind::NoSuchPath),
+        },
+        ParentWish::Public(text) => Ok(name_of_object_text(text)),
+        ParentWish::Named(name) => Ok(*name),
+    }
+}
+
+/// The Name of the hierarchy, object or index that has this path, or why there is none.
+pub fn name_at(path: &str, sight: Option<&Sight>) -> Result<Name, FillKind>
+    ensures { result ≡ path_name path.now (option_copied sight.entry) }
+{
+    if let Some(handle) = hierarchy_at(path) {
+        return Ok(Name::Handle(handle));
+    }
+    if let Some(object) = object_at(sight, path) {
+        return Ok(object_name(&object.public));
+    }
+    match index_at(sight, path) {
+        Some(index) => Ok(name_once_written(index)),
+        None => Err(FillKind::NoSuchPath),
+    }
+}
+
+fn hierarchy_at(path: &str) -> Option<u32>
+    ensures { result ≡ hierarchy_at path.now }
+{
+    if same_path("HS", path) {
+        return Some(OWNER);
+    }
+    if same_path("HE", path) {
+        return Some(ENDORSEMENT);
+    }
+    if same_path("LOCKOUT", path) {
+        return Some(LOCKOUT);
+    }
+    None
+}
+
+fn object_at<'a>(sight: Option<&'a Sight>, path: &str) -> Option<&'a ObjectEntry>
+    ensures { option_copied result ≡ object_at (option_copied sight.entry) path.now }
+{
+    match sight {
+        Some(sight) => find_object(sight.objects.as_slice(), path),
+        None => None,
+    }
+}
+
+fn index_at<'a>(sight: Option<&'a Sight>, path: &str) -> Option<&'a IndexEntry>
+    ensures { option_copied result ≡ index_at (option_copied sight.entry) path.now }
+{
+    match sight {
+        Some(sight) => find_index(sight.indices.as_slice(), path),
+        None => None,
+    }
+}
+
+fn find_object<'a>(objects: &'a [ObjectEntry], path: &str) -> Option<&'a ObjectEntry>
+    ensures { option_copied result ≡ find (λ object. is_same_path object.path path.now) objects.now }
+{
+    objects
+        .iter()
+        .find(|object| same_path(object.path.as_str(), path))
+}
+
+fn find_index<'a>(indices: &'a [IndexEntry], path: &str) -> Option<&'a IndexEntry>
+    ensures { option_copied result ≡ find (λ index. is_same_path index.path path.now) indices.now }
+{
+    indices
+        .iter()
+        .find(|index| same_path(index.path.as_str(), path))
+}
+
+fn name_of_signing_key(public: &ObjectPublic) -> Result<Name, FillKind>
+    ensures { result ≡ signing_key_name public.now }
+{
+    match public.scheme {
+        Scheme::HmacKey if public.attributes & SIGN != 0 => Ok(object_name(public)),
+        _ => Err(FillKind::NotKeyedHash),
+    }
+}
+
+fn name_of_key_text(text: &ObjectPublicText) -> Result<Name, FillKind>
+    ensures { result ≡ signing_key_name (object_area_of text.now) }
+{
+    if text.hmac && text.attributes & SIGN != 0 {
+        Ok(name_of_object_text(text))
+    } else {
+        Err(FillKind::NotKeyedHash)
+    }
+}
+
+fn name_of_object_text(text: &ObjectPublicText) -> Name
+    ensures { result ≡ object_name (object_area_of text.now) }
+{
+    object_name_of_parts(
+        text.attributes,
+        text.auth_policy.as_slice(),
+        scheme_of(text.hmac),
+        text.unique.as_slice(),
+    )
+}
+
+fn scheme_of(hmac: bool) -> Scheme
+    ensures { result ≡ scheme_of hmac }
+{
+    if hmac {
+        Scheme::HmacKey
+    } else {
+        Scheme::Sealed
+    }
+}
+
+fn name_of_index_text(text: &NvPublicText) -> Name
+    ensures { result ≡ index_name (index_area_of text.now) }
+{
+    index_name_of_parts(
+        text.index,
+        text.attributes,
+        text.auth_policy.as_slice(),
+        text.size,
+    )
+}
+
+// The Name that an index has once it is written.
+fn name_once_written(index: &IndexEntry) -> Name
+    ensures { result ≡ index_name (with_written index.now.public) }
+{
+    let public = &index.public;
+    index_name_of_parts(
+        public.index,
+        public.attributes | WRITTEN,
+        public.auth_policy.as_slice(),
+        public.size,
+    )
+}

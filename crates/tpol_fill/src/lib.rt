@@ -1,0 +1,19 @@
+//! A policy as it is written becomes a closed policy: every Name, digest and argument is given, from a
+//! sight of the machine where the policy names entities by path or the current values of PCRs.
+//!
+//! The layers above use `fill`: it gives the filled policy exactly where no place is at fault, else the
+//! first fault in the order of the document, and what it gives is well formed.
+#![tactic(auto)]
+
+mod elements;
+mod entities;
+mod fault;
+mod leaves;
+mod names;
+mod pcrs;
+#[cfg(test)]
+mod tests;
+
+pub use elements::fill;
+pub use entities::{name_of_index, name_of_key};
+pub use fault::{FillFault, FillKind};

@@ -1,0 +1,90 @@
+//! The digest of the Names that a POLICYNAMEHASH names.
+
+ghost use Rattle.std.specs.Prelude.{◌≡◌, ℕ, List, ◌++◌, codes, map};
+ghost use Rattle.std.specs.Option.{option_copied};
+ghost use Rattle.tpol_base.specs.Name.{name_bytes};
+ghost use Rattle.tpol_fill.specs.Entities.{or_empty, path_name};
+ghost use Rattle.tpol_fill.specs.Filling.{filled_names, names_digest, names_faults, path_faults};
+ghost use Rattle.tpol_fill.specs.Outcome.{Fills, each_fault};
+ghost use Rattle.tpol_hash.specs.Messages.{Holds};
+ghost use Rattle.tpol_json.specs.Places.{at_member};
+
+use crate::FillFault;
+use crate::entities::name_at;
+use crate::fault::place_of_item;
+use std::alloc::Global;
+use tpol_base::{Digest32, Name, Text};
+use tpol_hash::Hasher;
+use tpol_json::Place;
+use tpol_name::Sight;
+use tpol_tree::NamesWish;
+
+/// The digest of the Names of an element that stands at `place`.
+pub fn fill_names(
+    alloc: Global,
+    wish: &NamesWish,
+    sight: Option<&Sight>,
+    place: &Place,
+) -> Result<Digest32, FillFault>
+    ensures { Fills (names_faults (option_copied sight.entry) place.now wish.now)
+        (λ digest. digest ≡ filled_names wish.now (option_copied sight.entry)) result }
+{
+    match wish {
+        NamesWish::Digest(digest) => Ok(*digest),
+        NamesWish::Names(names) => Ok(digest_of_names(names.as_slice())),
+        NamesWish::Paths(paths) => {
+            let list = place.member(alloc, "namePaths")?;
+            digest_of_paths(alloc, paths.as_slice(), sight, &list)
+        }
+    }
+}
+
+// The digest of the Names of what has these paths.
+fn digest_of_paths(
+    alloc: Global,
+    paths: &[Text],
+    sight: Option<&Sight>,
+    list: &Place,
+) -> Result<Digest32, FillFault>
+    ensures { Fills (each_fault (path_faults (option_copied sight.entry) list.now) 0 paths.now)
+        (λ digest. digest ≡ names_digest (map (λ path. or_empty (path_name path (option_copied sight.entry))) paths.now)) result }
+{
+    let mut hasher = Hasher::new();
+    for (index, path) in paths.iter().enumerate() {
+        match name_at(path.as_str(), sight) {
+            Ok(name) => put_name(&mut hasher, &name),
+            Err(kind) => {
+                return Err(FillFault::Bad {
+                    kind,
+                    place: place_of_item(alloc, list, index)?,
+                });
+            }
+        }
+    }
+    Ok(hasher.done())
+}
+
+// The digest of Names joined.
+fn digest_of_names(names: &[Name]) -> Digest32
+    ensures { result ≡ names_digest names.now }
+{
+    let mut hasher = Hasher::new();
+    for name in names {
+        put_name(&mut hasher, name);
+    }
+    hasher.done()
+}
+
+// Adds the bytes of a Name.
+fn put_name(hasher: &mut Hasher, name: &Name)
+    ensures { (m : List ℕ) → Holds hasher.old m → Holds hasher.new (m ++ name_bytes name.now) }
+{
+    match name {
+        Name::Empty => {}
+        Name::Handle(handle) => hasher.put(&handle.to_be_bytes()),
+        Name::Hash(digest) => {
+            hasher.put(&[0x00, 0x0b]);
+            hasher.put(&digest.bytes);
+        }
+    }
+}
