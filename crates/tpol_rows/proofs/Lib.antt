@@ -1,0 +1,4 @@
+mod UnknownNames
+mod Wrappers
+pub mod Items
+mod Banks

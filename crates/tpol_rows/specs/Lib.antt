@@ -1,0 +1,12 @@
+pub mod Faults
+pub mod Walks
+pub mod Members
+pub mod Words
+pub mod Numbers
+pub mod Bytes
+pub mod Fields
+pub mod Publics
+pub mod Wishes
+pub mod Pcrs
+pub mod Types
+pub mod Rows

@@ -1,0 +1,207 @@
+ghost use Rattle.std.specs.Prelude.{◌≡◌, OnOk};
+ghost use Rattle.serde_json.specs.View.{view};
+ghost use Rattle.tpol_rows.specs.Faults.{Gives};
+ghost use Rattle.tpol_rows.specs.Members.{noted};
+ghost use Rattle.tpol_rows.specs.Types.{leaf_members, type_in};
+
+use crate::members::note_unknown;
+use crate::words::only_word;
+use crate::{PolicyFault, PolicyKind, Walk};
+use serde_json::Value;
+use std::alloc::Global;
+use tpol_base::NoMemory;
+use tpol_json::Place;
+
+/// What an element of a policy document is, by its `type`.
+#[derive(Clone, Copy, Debug, PartialEq, Eq)]
+pub enum ElementType {
+    /// POLICYOR.
+    Or,
+    /// An element that holds no other elements.
+    Leaf(LeafType),
+    /// POLICYTEMPLATE and POLICYACTION.
+    Unsupported,
+}
+
+/// The elements that hold no other elements.
+#[derive(Clone, Copy, Debug, PartialEq, Eq)]
+pub enum LeafType {
+    Pcr,
+    Nv,
+    Secret,
+    Signed,
+    Authorize,
+    AuthorizeNv,
+    Locality,
+    CommandCode,
+    CpHash,
+    NameHash,
+    CounterTimer,
+    DuplicationSelect,
+    NvWritten,
+    AuthValue,
+    Password,
+    PhysicalPresence,
+}
+
+/// The type that a text names, in any case, with or without `POLICY` in front; other texts are
+/// `UnknownType`.
+#[tactic(auto, unfolding(crate::specs::Types::type_in))]
+pub fn element_type(alloc: Global, value: &Value, place: &Place) -> Result<ElementType, PolicyFault>
+    ensures { Gives result (type_in (view value.now) place.now) }
+{
+    only_word(
+        alloc,
+        value,
+        "POLICY",
+        &[
+            ("OR", ElementType::Or),
+            ("PCR", ElementType::Leaf(LeafType::Pcr)),
+            ("NV", ElementType::Leaf(LeafType::Nv)),
+            ("SECRET", ElementType::Leaf(LeafType::Secret)),
+            ("SIGNED", ElementType::Leaf(LeafType::Signed)),
+            ("AUTHORIZE", ElementType::Leaf(LeafType::Authorize)),
+            ("AUTHORIZENV", ElementType::Leaf(LeafType::AuthorizeNv)),
+            ("LOCALITY", ElementType::Leaf(LeafType::Locality)),
+            ("COMMANDCODE", ElementType::Leaf(LeafType::CommandCode)),
+            ("CPHASH", ElementType::Leaf(LeafType::CpHash)),
+            ("NAMEHASH", ElementType::Leaf(LeafType::NameHash)),
+            ("COUNTERTIMER", ElementType::Leaf(LeafType::CounterTimer)),
+            (
+                "DUPLICATIONSELECT",
+                ElementType::Leaf(LeafType::DuplicationSelect),
+            ),
+            ("NVWRITTEN", ElementType::Leaf(LeafType::NvWritten)),
+            ("AUTHVALUE", ElementType::Leaf(LeafType::AuthValue)),
+            ("PASSWORD", ElementType::Leaf(LeafType::Password)),
+            (
+                "PHYSICALPRESENCE",
+                ElementType::Leaf(LeafType::PhysicalPresence),
+            ),
+            ("TEMPLATE", ElementType::Unsupported),
+            ("ACTION", ElementType::Unsupported),
+        ],
+        PolicyKind::UnknownType,
+        place,
+    )
+}
+
+/// Notes the members of an element that its row has not.
+pub fn note_leaf(
+    alloc: Global,
+    leaf: LeafType,
+    value: &Value,
+    place: &Place,
+    walk: &mut Walk,
+) -> Result<(), NoMemory>
+    ensures { OnOk result (walk.new ≡ noted (leaf_members leaf) (view value.now) place.now walk.old) }
+{
+    match leaf {
+        LeafType::Pcr => note_unknown(
+            alloc,
+            value,
+            &["type", "pcrs", "currentPCRs", "currentPCRandBanks"],
+            place,
+            walk,
+        ),
+        LeafType::Nv => note_unknown(
+            alloc,
+            value,
+            &[
+                "type",
+                "nvPath",
+                "nvPublic",
+                "operandB",
+                "offset",
+                "operation",
+            ],
+            place,
+            walk,
+        ),
+        LeafType::Secret => note_unknown(
+            alloc,
+            value,
+            &[
+                "type",
+                "objectPath",
+                "objectName",
+                "policyRef",
+                "cpHashA",
+                "expiration",
+            ],
+            place,
+            walk,
+        ),
+        LeafType::Signed => note_unknown(
+            alloc,
+            value,
+            &[
+                "type",
+                "keyPath",
+                "keyPublic",
+                "publicKey",
+                "policyRef",
+                "cpHashA",
+                "expiration",
+            ],
+            place,
+            walk,
+        ),
+        LeafType::Authorize => note_unknown(
+            alloc,
+            value,
+            &[
+                "type",
+                "keyPath",
+                "keyPublic",
+                "publicKey",
+                "policyRef",
+                "approvedPolicy",
+            ],
+            place,
+            walk,
+        ),
+        LeafType::AuthorizeNv => note_unknown(
+            alloc,
+            value,
+            &["type", "nvPath", "nvPublic"],
+            place,
+            walk,
+        ),
+        LeafType::Locality => note_unknown(alloc, value, &["type", "locality"], place, walk),
+        LeafType::CommandCode => note_unknown(alloc, value, &["type", "code"], place, walk),
+        LeafType::CpHash => note_unknown(alloc, value, &["type", "cpHash"], place, walk),
+        LeafType::NameHash => note_unknown(
+            alloc,
+            value,
+            &["type", "nameHash", "objectNames", "namePaths"],
+            place,
+            walk,
+        ),
+        LeafType::CounterTimer => note_unknown(
+            alloc,
+            value,
+            &["type", "operandB", "offset", "operation"],
+            place,
+            walk,
+        ),
+        LeafType::DuplicationSelect => note_unknown(
+            alloc,
+            value,
+            &[
+                "type",
+                "newParentPath",
+                "newParentPublic",
+                "newParentName",
+                "includeObject",
+                "objectName",
+            ],
+            place,
+            walk,
+        ),
+        LeafType::NvWritten => note_unknown(alloc, value, &["type", "writtenSet"], place, walk),
+        LeafType::AuthValue => note_unknown(alloc, value, &["type"], place, walk),
+        LeafType::Password => note_unknown(alloc, value, &["type"], place, walk),
+        LeafType::PhysicalPresence => note_unknown(alloc, value, &["type"], place, walk),
+    }
+}
