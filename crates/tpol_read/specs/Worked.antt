@@ -1,0 +1,108 @@
+-- Worked documents, computed from the definitions.
+use Rattle.std.specs.Prelude.{◌≡◌, ℕ, List, [], ◌∷◌, codes, Ok, Err, refl}
+use Rattle.serde_json.specs.Data.{Data, string, number, unsigned, array, object, no_items, item, no_members, member}
+use Rattle.tpol_json.specs.declared.place.Place.{Place}
+use Rattle.tpol_json.specs.Places.{root, at_member, at_item}
+use Rattle.tpol_rows.specs.declared.fault.PolicyFault.TheVariants.{Bad}
+use Rattle.tpol_rows.specs.declared.fault.PolicyKind.TheVariants as kinds
+use Rattle.tpol_rows.specs.Faults.{Found}
+use Rattle.tpol_rows.specs.Members.{noted}
+use Rattle.tpol_rows.specs.Pcrs.{pcr_member, pcr_value_in, pcrs_among}
+use Rattle.tpol_rows.specs.Rows.{pcr_row, command_code_row, without_pem}
+use Rattle.tpol_rows.specs.Types.{type_in}
+use Rattle.tpol_rows.specs.Words.{find_word}
+use Rattle.tpol_tree.specs.declared.policy.Element.TheVariants.{AuthValue, CommandCode}
+use Rattle.tpol_read.specs.Approvals.{approval_in, approval_type_in, approvals_member, counted_approval}
+use Rattle.tpol_read.specs.Documents.{approval_faults, start, document_in, element_count, element_faults, member_faults, policy_faults, policy_of}
+use Rattle.tpol_read.specs.Elements.{branches_in, counted, description_member, element_by, element_of_type, element_type_in, element_at, elements_from, elements_in, leaf_element, or_at, or_by, policy_member}
+use Rattle.tpol_tree.specs.Erased.{nowhere}
+use Rattle.tpol_tree.specs.declared.policy.Elements.TheVariants.{More', End}
+use Rattle.tpol_tree.specs.declared.policy.Policy.{Policy}
+
+-- an object of one member, and of two
+one : List ℕ → Data → Data
+one name d = object (member name d no_members)
+
+two : List ℕ → Data → List ℕ → Data → Data
+two name d other e = object (member name d (member other e no_members))
+
+-- a document of one element
+only : Data → Data
+only d = one (codes "policy") (array (item d no_items))
+
+typed : List ℕ → Data
+typed name = one (codes "type") (string name)
+
+-- {"description":"","policy":[]}
+empty_policy : policy_faults (two (codes "description") (string []) (codes "policy") (array no_items)) ≡ Bad kinds.EmptyPolicy (at_member root (codes "policy")) ∷ []
+unfolding policy_faults member_faults two description_member element_faults
+empty_policy = refl
+
+-- {}
+no_policy : policy_faults (object no_members) ≡ Bad kinds.Missing (at_member root (codes "policy")) ∷ []
+unfolding policy_faults member_faults description_member element_faults
+no_policy = refl
+
+-- {"policy":[{"type":"OR"}]}
+no_branches : policy_faults (only (typed (codes "OR"))) ≡ Bad kinds.Missing (at_member (at_item (at_member root (codes "policy")) 0) (codes "branches")) ∷ []
+unfolding policy_faults member_faults only one typed description_member element_faults counted element_by element_type_in type_in find_word element_of_type or_at or_by element_count
+no_branches = refl
+
+-- {"policy":[{"branches":[{}],"type":"OR"}]}: one branch is too few
+one_branch : policy_faults (only (two (codes "branches") (array (item (object no_members) no_items)) (codes "type") (string (codes "policyor")))) ≡ Bad kinds.BranchCount (at_member (at_item (at_member root (codes "policy")) 0) (codes "branches")) ∷ []
+unfolding policy_faults member_faults only one two description_member element_faults counted element_by element_type_in type_in find_word element_of_type or_at or_by branches_in element_count
+one_branch = refl
+
+-- {"policy":[{"type":"XOR"},{}]}: each element contributes its first fault
+two_faults : policy_faults (one (codes "policy") (array (item (typed (codes "XOR")) (item (object no_members) no_items)))) ≡ Bad kinds.UnknownType (at_member (at_item (at_member root (codes "policy")) 0) (codes "type")) ∷ Bad kinds.Missing (at_member (at_item (at_member root (codes "policy")) 1) (codes "type")) ∷ []
+unfolding policy_faults member_faults one typed description_member element_faults counted element_by element_type_in type_in find_word element_count element_of_type
+two_faults = refl
+
+-- {"policy":[{"pcrs":[{"pcr":32}],"type":"POLICYPCR"}]}
+pcr_past_31 : policy_faults (only (two (codes "pcrs") (array (item (one (codes "pcr") (number (unsigned 32))) no_items)) (codes "type") (string (codes "POLICYPCR")))) ≡ Bad kinds.BadNumber (at_member (at_item (at_member (at_item (at_member root (codes "policy")) 0) (codes "pcrs")) 0) (codes "pcr")) ∷ []
+unfolding policy_faults member_faults only one two description_member element_faults counted element_by element_type_in type_in find_word element_of_type leaf_element pcr_row pcrs_among pcr_value_in pcr_member element_count
+pcr_past_31 = refl
+
+-- {"policy":[{"type":"authvalue","x":1}]}: the policy of AUTHVALUE, and a note at policy[0].x
+noted_member : ◌≡◌ {A = Found (Policy × List Place)} (policy_of (only (two (codes "type") (string (codes "authvalue")) (codes "x") (number (unsigned 1)))))
+    (Ok (
+      record { description = []; elements = More' nowhere AuthValue nowhere End; approvals = [] },
+      at_member (at_item (at_member root (codes "policy")) 0) (codes "x") ∷ [],
+    ))
+unfolding policy_of document_in only one two description_member policy_member elements_in elements_from counted element_by element_type_in type_in find_word element_of_type leaf_element noted approvals_member
+noted_member = refl
+
+-- {"a":0,"policy":[{"code":"unseal","type":"CommandCode"}],"z":0}: the code of TPM2_Unseal, and notes at a and z
+command_code : ◌≡◌ {A = Found (Policy × List Place)} (policy_of (object (member (codes "a") (number (unsigned 0)) (member (codes "policy") (array (item (two (codes "code") (string (codes "unseal")) (codes "type") (string (codes "CommandCode"))) no_items)) (member (codes "z") (number (unsigned 0)) no_members)))))
+    (Ok (
+      record { description = []; elements = More' nowhere (CommandCode 0x15e) nowhere End; approvals = [] },
+      at_member root (codes "a") ∷ at_member root (codes "z") ∷ [],
+    ))
+unfolding policy_of document_in two description_member policy_member elements_in elements_from counted element_by element_type_in type_in find_word element_of_type leaf_element command_code_row noted approvals_member
+command_code = refl
+
+-- the places of a document's elements
+place : ℕ → Place
+place index = at_item (at_member root (codes "policy")) index
+
+-- [{"type":"AUTHVALUE"},{},{"type":"AUTHVALUE"}] where two may come: a faulty one counts, and the third is too many
+third_of_two : element_faults 0 (item (typed (codes "AUTHVALUE")) (item (object no_members) (item (typed (codes "AUTHVALUE")) no_items))) (at_member root (codes "policy")) (record { notes = []; left = 2 })
+    ≡ (Bad kinds.Missing (at_member (place 1) (codes "type")) ∷ Bad kinds.TooMany (place 2) ∷ [], record { notes = []; left = 0 })
+unfolding element_faults element_count typed one place counted element_by element_type_in type_in find_word element_of_type leaf_element noted
+third_of_two = refl
+
+-- {"branches":[{"policy":[{},{}]},{"policy":[{}]}],"type":"OR"}: four elements
+four : element_count 16 (two (codes "branches") (array (item (one (codes "policy") (array (item (object no_members) (item (object no_members) no_items)))) (item (one (codes "policy") (array (item (object no_members) no_items))) no_items))) (codes "type") (string (codes "OR"))) ≡ 4
+unfolding element_count one two element_type_in type_in find_word
+four = refl
+
+-- {"type":"OR"} where no OR may come: its type is read, its branches are not
+too_deep : element_at 0 (typed (codes "OR")) (place 0) start ≡ Err (Bad kinds.TooDeep (place 0))
+unfolding typed one element_by element_type_in type_in find_word element_of_type or_at
+too_deep = refl
+
+-- {"policy":[{"type":"AUTHVALUE"}],"policyAuthorizations":[{"type":"PEM"},{"keyPEM":0}]}
+two_keys : policy_faults (two (codes "policy") (array (item (typed (codes "AUTHVALUE")) no_items)) (codes "policyAuthorizations") (array (item (typed (codes "PEM")) (item (one (codes "keyPEM") (number (unsigned 0))) no_items))))
+    ≡ Bad kinds.AsymmetricKey (at_member (at_item (at_member root (codes "policyAuthorizations")) 0) (codes "type")) ∷ Bad kinds.AsymmetricKey (at_member (at_item (at_member root (codes "policyAuthorizations")) 1) (codes "keyPEM")) ∷ []
+unfolding policy_faults member_faults two typed one description_member element_faults element_count counted element_by element_type_in type_in find_word element_of_type leaf_element noted approval_faults counted_approval approval_in approval_type_in without_pem
+two_keys = refl

@@ -1,0 +1,14 @@
+//! Policy documents: elements, ORs, authorizations and their limits. `read_policy` gives the policy that bytes
+//! stand for with notes on unknown members, or the first fault in reading order.
+#![tactic(auto)]
+
+mod approvals;
+mod document;
+mod elements;
+mod lists;
+mod members;
+#[cfg(test)]
+mod tests;
+
+pub use document::read_policy;
+pub use tpol_rows::{Notes, PolicyFault, PolicyKind};

@@ -1,0 +1,310 @@
+use super::*;
+use std::alloc::Global;
+use std::test::Fail;
+use tpol_base::{NoMemory, Text};
+use tpol_json::place_text;
+
+// What reading a document answers: its notes, or the fault with its place.
+fn answer(alloc: Global, document: &str) -> Result<Text, NoMemory> {
+    match read_policy(alloc, document.as_bytes()) {
+        Ok((_policy, notes)) => text_of_notes(alloc, &notes),
+        Err(fault) => text_of_fault(alloc, fault),
+    }
+}
+
+fn text_of_notes(alloc: Global, notes: &Notes) -> Result<Text, NoMemory> {
+    let mut text = Text::from_str(alloc, "ok")?;
+    for note in notes.as_slice() {
+        let place = place_text(alloc, note)?;
+        text.push_str(" ")?;
+        text.push_str(place.as_str())?;
+    }
+    Ok(text)
+}
+
+fn text_of_fault(alloc: Global, fault: PolicyFault) -> Result<Text, NoMemory> {
+    match fault {
+        PolicyFault::NotJson => Text::from_str(alloc, "NotJson"),
+        PolicyFault::NoMemory => Err(NoMemory),
+        PolicyFault::Bad { kind, place } => {
+            let mut text = Text::from_string(format!(in alloc; "{kind:?} at ")?);
+            let place = place_text(alloc, &place)?;
+            text.push_str(place.as_str())?;
+            Ok(text)
+        }
+    }
+}
+
+#[test]
+fn each_type_in_two_spellings(rt: HostRuntime) -> Result<(), Fail> {
+    let zero = "0000000000000000000000000000000000000000000000000000000000000000";
+    let cases = [
+        (
+            "OR",
+            "POLICYor",
+            "\"branches\":[{\"policy\":[{\"type\":\"AUTHVALUE\"}]},{\"name\":\"b\",\"description\":\"\",\"policy\":[{\"type\":\"password\"}]}]",
+        ),
+        ("PCR", "PolicyPCR", "\"currentPCRs\":[0,2,\"0x1f\",2]"),
+        (
+            "NV",
+            "PolicyNV",
+            "\"nvPath\":\"/nv/a\",\"operandB\":\"00ff\",\"operation\":\"TPM2_EO_unsigned_le\"",
+        ),
+        (
+            "SECRET",
+            "PolicySecret",
+            "\"objectName\":\"4000000b\",\"policyRef\":[1,2,255],\"expiration\":-2147483648",
+        ),
+        (
+            "SIGNED",
+            "PolicySigned",
+            "\"keyPath\":\"/HS/SRK/k\",\"expiration\":-1",
+        ),
+        (
+            "AUTHORIZE",
+            "PolicyAuthorize",
+            "\"keyPath\":\"k\",\"approvedPolicy\":null",
+        ),
+        (
+            "AUTHORIZENV",
+            "PolicyAuthorizeNV",
+            "\"nvPublic\":{\"nvPublic\":{\"nvIndex\":\"0x01c07f01\",\"nameAlg\":\"SHA256\",\"attributes\":\"0x220f1008\",\"dataSize\":34}}",
+        ),
+        (
+            "LOCALITY",
+            "PolicyLocality",
+            "\"locality\":[\"ZERO\",\"TPM2_LOC_three\"]",
+        ),
+        (
+            "COMMANDCODE",
+            "PolicyCommandCode",
+            "\"code\":\"tpm2_cc_nv_write\"",
+        ),
+        (
+            "CPHASH",
+            "PolicyCpHash",
+            "\"cpHash\":\"0xABABABABABABABABABABABABABABABABABABABABABABABABABABABABABABABAB\"",
+        ),
+        (
+            "NAMEHASH",
+            "PolicyNameHash",
+            "\"namePaths\":[\"a\",\"b\",\"c\"]",
+        ),
+        (
+            "COUNTERTIMER",
+            "PolicyCounterTimer",
+            "\"operandB\":\"\",\"offset\":65535,\"operation\":11",
+        ),
+        (
+            "DUPLICATIONSELECT",
+            "PolicyDuplicationSelect",
+            "\"newParentName\":\"\",\"includeObject\":\"no\"",
+        ),
+        ("NVWRITTEN", "PolicyNvWritten", "\"writtenSet\":\"YES\""),
+        ("AUTHVALUE", "PolicyAuthValue", "\"type\":\"AUTHVALUE\""),
+        ("PASSWORD", "policypassword", "\"type\":\"PASSWORD\""),
+        (
+            "PHYSICALPRESENCE",
+            "PolicyPhysicalPresence",
+            "\"type\":\"PHYSICALPRESENCE\"",
+        ),
+    ];
+    let alloc = rt.alloc();
+    for (short, long, members) in cases {
+        for name in [short, long] {
+            let document = format!(in alloc; "{{\"policy\":[{{{members},\"type\":\"{name}\"}}]}}")?;
+            let found = answer(alloc, document.as_str())?;
+            assert_eq!(rt; found.as_str(), "ok", "{document}");
+        }
+    }
+    let digest = format!(in alloc;
+        "{{\"policy\":[{{\"type\":\"CPHASH\",\"cpHash\":\"{zero}\"}}]}}"
+    )?;
+    let found = answer(alloc, digest.as_str())?;
+    assert_eq!(rt; found.as_str(), "ok");
+    Ok(())
+}
+
+#[test]
+fn each_kind_at_a_nested_place(rt: HostRuntime) -> Result<(), Fail> {
+    let alloc = rt.alloc();
+    let cases = [
+        (
+            "{\"policy\":[{\"type\":\"OR\",\"branches\":[{\"policy\":[{\"type\":\"NV\",\"nvPath\":\"a\"}]},{}]}]}",
+            "Missing at policy[0].branches[0].policy[0].operandB",
+        ),
+        (
+            "{\"policy\":[{\"type\":\"OR\",\"branches\":[{\"policy\":[7]},{}]}]}",
+            "WrongKind at policy[0].branches[0].policy[0]",
+        ),
+        (
+            "{\"policy\":[{\"type\":\"SECRET\",\"objectName\":\"\"}]}",
+            "BadHex at policy[0].objectName",
+        ),
+        (
+            "{\"policy\":[{\"type\":\"CPHASH\",\"cpHash\":[0,256]}]}",
+            "BadNumber at policy[0].cpHash[1]",
+        ),
+        (
+            "{\"policy\":[{\"type\":\"PCR\",\"pcrs\":[{\"pcr\":32}]}]}",
+            "BadNumber at policy[0].pcrs[0].pcr",
+        ),
+        (
+            "{\"policy\":[{\"type\":\"AUTHVALUE\"},{\"type\":\"XOR\"}]}",
+            "UnknownType at policy[1].type",
+        ),
+        (
+            "{\"policy\":[{\"type\":\"POLICYTEMPLATE\"}]}",
+            "Unsupported at policy[0].type",
+        ),
+        (
+            "{\"policy\":[{\"type\":\"SIGNED\",\"keyPath\":1,\"keyPEM\":\"x\"}]}",
+            "AsymmetricKey at policy[0].keyPEM",
+        ),
+        (
+            "{\"policy\":[{\"type\":\"SIGNED\",\"keyPublic\":{\"publicArea\":{\"type\":\"tpm2_alg_rsa\"}}}]}",
+            "AsymmetricKey at policy[0].keyPublic.publicArea.type",
+        ),
+        (
+            "{\"policy\":[{\"type\":\"AUTHVALUE\"}],\"policyAuthorizations\":[{\"type\":\"pem\"}]}",
+            "AsymmetricKey at policyAuthorizations[0].type",
+        ),
+        (
+            "{\"policy\":[{\"type\":\"PCR\",\"currentPCRandBanks\":[{\"hash\":\"SHA1\"}]}]}",
+            "OtherHash at policy[0].currentPCRandBanks[0].hash",
+        ),
+        (
+            "{\"policy\":[{\"type\":\"OR\",\"branches\":[{}]}]}",
+            "BranchCount at policy[0].branches",
+        ),
+        (
+            "{\"policy\":[{\"type\":\"OR\",\"branches\":[{},{},{},{},{},{},{},{},{}]}]}",
+            "BranchCount at policy[0].branches",
+        ),
+        (
+            "{\"policy\":[{\"type\":\"OR\",\"branches\":[{\"policy\":[]},{}]}]}",
+            "EmptyPolicy at policy[0].branches[0].policy",
+        ),
+        (
+            "{\"description\":\"\",\"policy\":[]}",
+            "EmptyPolicy at policy",
+        ),
+        (
+            "{\"policy\":[{\"type\":\"OR\"}]}",
+            "Missing at policy[0].branches",
+        ),
+        (
+            "{\"policy\":[{\"type\":\"NV\",\"nvPath\":\"a\",\"nvPublic\":1}]}",
+            "Twice at policy[0].nvPublic",
+        ),
+        (
+            "{\"policy\":[{\"type\":\"PCR\",\"pcrs\":[{\"pcr\":3,\"hashAlg\":11,\"digest\":\"0000000000000000000000000000000000000000000000000000000000000000\"},{\"pcr\":3}]}]}",
+            "Twice at policy[0].pcrs[1].pcr",
+        ),
+        (
+            "{\"policy\":[{\"type\":\"DUPLICATIONSELECT\",\"newParentPath\":\"p\",\"includeObject\":true}]}",
+            "Missing at policy[0].objectName",
+        ),
+        (
+            "{\"policy\":[{\"type\":\"SECRET\",\"objectPath\":\"/HS\",\"expiration\":2147483648}]}",
+            "BadNumber at policy[0].expiration",
+        ),
+        ("[]", "WrongKind at $"),
+        ("{", "NotJson"),
+    ];
+    for (document, expected) in cases {
+        let found = answer(alloc, document)?;
+        assert_eq!(rt; found.as_str(), expected, "{document}");
+    }
+    Ok(())
+}
+
+#[test]
+fn unknown_members_are_noted_in_order(rt: HostRuntime) -> Result<(), Fail> {
+    let alloc = rt.alloc();
+    let cases = [
+        (
+            "{\"policy\":[{\"type\":\"authvalue\",\"x\":1}]}",
+            "ok policy[0].x",
+        ),
+        (
+            "{\"policy\":[{\"type\":\"CommandCode\",\"code\":\"unseal\"}],\"z\":0,\"a\":0}",
+            "ok a z",
+        ),
+        (
+            "{\"policy\":[{\"type\":\"AUTHVALUE\",\"keyPEM\":1,\"a b\":2,\"policyDigests\":3}],\"policyDigests\":[]}",
+            "ok policy[0].\"a b\" policy[0].keyPEM policy[0].policyDigests",
+        ),
+        (
+            "{\"policy\":[{\"type\":\"NV\",\"nvIndex\":1,\"operandB\":\"80\",\"nvPublic\":{\"size\":0,\"nvPublic\":{\"nvIndex\":29392641,\"nameAlg\":\"SHA256\",\"attributes\":571412488,\"authPolicy\":\"\",\"dataSize\":34}}}]}",
+            "ok policy[0].nvPublic.size policy[0].nvIndex",
+        ),
+    ];
+    for (document, expected) in cases {
+        let found = answer(alloc, document)?;
+        assert_eq!(rt; found.as_str(), expected, "{document}");
+    }
+    Ok(())
+}
+
+// ORs inside one another, each with two branches, of which the second holds no OR.
+fn nested(alloc: Global, levels: u32) -> Result<String, Fail> {
+    let mut text = String::from_str(alloc, "{\"policy\":[")?;
+    for _ in 0..levels {
+        text.push_str("{\"type\":\"OR\",\"branches\":[{\"policy\":[")?;
+    }
+    text.push_str("{\"type\":\"AUTHVALUE\"}")?;
+    for _ in 0..levels {
+        text.push_str("]},{\"policy\":[{\"type\":\"AUTHVALUE\"}]}]}")?;
+    }
+    text.push_str("]}")?;
+    Ok(text)
+}
+
+#[test]
+fn sixteen_ors_inside_one_another(rt: HostRuntime) -> Result<(), Fail> {
+    let alloc = rt.alloc();
+    let most = answer(alloc, nested(alloc, 16)?.as_str())?;
+    assert_eq!(rt; most.as_str(), "ok");
+    let mut place = String::from_str(alloc, "TooDeep at policy[0]")?;
+    for _ in 0..16 {
+        place.push_str(".branches[0].policy[0]")?;
+    }
+    let more = answer(alloc, nested(alloc, 17)?.as_str())?;
+    assert_eq!(rt; more.as_str(), place.as_str());
+    Ok(())
+}
+
+// A document with so many elements, the last of them in a branch.
+fn many(alloc: Global, elements: u32) -> Result<String, Fail> {
+    let mut text = String::from_str(alloc, "{\"policy\":[")?;
+    for _ in 3..elements {
+        text.push_str("{\"type\":\"AUTHVALUE\"},")?;
+    }
+    text.push_str("{\"type\":\"OR\",\"branches\":[{\"policy\":[{\"type\":\"AUTHVALUE\"}]},")?;
+    text.push_str("{\"policy\":[{\"type\":\"PASSWORD\"}]}]}]}")?;
+    Ok(text)
+}
+
+#[test]
+fn limits_of_a_document(rt: HostRuntime) -> Result<(), Fail> {
+    let alloc = rt.alloc();
+    let most = answer(alloc, many(alloc, 1024)?.as_str())?;
+    assert_eq!(rt; most.as_str(), "ok");
+    let more = answer(alloc, many(alloc, 1025)?.as_str())?;
+    assert_eq!(rt;
+        more.as_str(),
+        "TooMany at policy[1022].branches[1].policy[0]"
+    );
+    let mut text = String::from_str(
+        alloc,
+        "{\"policy\":[{\"type\":\"AUTHVALUE\"}],\"policyAuthorizations\":[",
+    )?;
+    for _ in 0..8 {
+        text.push_str("{\"type\":\"nv\",\"nvPath\":\"a\"},")?;
+    }
+    text.push_str("0]}")?;
+    let ninth = answer(alloc, text.as_str())?;
+    assert_eq!(rt; ninth.as_str(), "TooMany at policyAuthorizations[8]");
+    Ok(())
+}
