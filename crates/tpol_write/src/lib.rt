@@ -1,0 +1,18 @@
+//! The canonical text of a policy: one text for each policy, which reads back to it without a note. The
+//! shelf keeps it, and people review and compare it.
+#![tactic(auto)]
+
+mod elements;
+mod laws;
+mod lists;
+mod names;
+mod object;
+mod policy;
+mod publics;
+mod rows;
+#[cfg(test)]
+mod tests;
+mod wishes;
+
+pub use laws::{bytes_read_back, numbers_read_back};
+pub use policy::write_policy;
