@@ -1,0 +1,75 @@
+-- The first of all faults is the one that the reading meets.
+use Rattle.std.proofs.Common.{◌≡◌, ℕ, suc, List, [], ◌∷◌, ◌++◌, refl, ◌∙◌}
+use Rattle.std.specs.Prelude.{Option, Some, None, Ok, Err, slice_get}
+use Rattle.serde_json.specs.Data.{Data, null, boolean, number, string, array, object, Items, no_items, item}
+use Rattle.serde_json.specs.Find.{get}
+use Rattle.tpol_json.specs.Places.{at_item, at_member}
+use Rattle.tpol_json.specs.declared.place.Place.{Place}
+use Rattle.tpol_scene.specs.Faults.{Found, ◌>>=◌}
+use Rattle.tpol_scene.specs.Lists.{ItemReading, items_from, list_in, item_faults, list_faults, faults_of, faults_behind, faults_if_there, optional_faults}
+use Rattle.tpol_scene.specs.Members.{optional, read_optional}
+use Rattle.tpol_scene.specs.declared.fault.SceneFault.{SceneFault}
+
+-- the fault of a reading
+abbrev pub fault_in : {A : Type 0} → Found A → Option SceneFault
+fault_in (Ok x) = None
+fault_in (Err fault) = Some fault
+
+-- the first of the faults is that of the reading
+pub record Leads {A : Type 0} (faults : List SceneFault) (reading : Found A) : Type 0 where
+  pub first : slice_get faults 0 ≡ fault_in reading
+
+pub leads-one : {A : Type 0} (reading : Found A) → Leads (faults_of reading) reading
+leads-one (Ok x) = record { first = refl }
+leads-one (Err fault) = record { first = refl }
+
+no_first : (faults more : List SceneFault) → slice_get faults 0 ≡ None → slice_get (faults ++ more) 0 ≡ slice_get more 0
+no_first [] more e = refl
+no_first (fault ∷ faults) more e = absurd cc
+
+some_first : (faults more : List SceneFault) (fault : SceneFault) → slice_get faults 0 ≡ Some fault → slice_get (faults ++ more) 0 ≡ Some fault
+some_first [] more fault e = absurd cc
+some_first (other ∷ faults) more fault e = e
+
+-- faults of what is read one after the other
+pub leads-then : {A B : Type 0} (faults more : List SceneFault) (reading : Found A) (next : A → Found B)
+    → Leads faults reading → ((x : A) → Leads more (next x)) → Leads (faults ++ more) (reading >>= next)
+leads-then faults more (Ok x) next leads behind = record { first = no_first faults more leads.first ∙ (behind x).first }
+leads-then faults more (Err fault) next leads behind = record { first = some_first faults more fault leads.first }
+
+leads-behind : {A : Type 0} (reading : Found A) (before : A) (behind : A → List SceneFault) (next : A → Found A)
+    → ((x : A) → Leads (behind x) (next x)) → Leads (faults_behind reading before behind) (reading >>= next)
+leads-behind (Ok after) before behind next leads = leads after
+leads-behind (Err fault) before behind next leads = record { first = refl }
+
+pub leads-items : {A : Type 0} (read : ItemReading A) (before : A) (index : ℕ) (ds : Items) (place : Place)
+    → Leads (item_faults read before index ds place) (items_from read before index ds place)
+unfolding item_faults items_from
+leads-items read before index no_items place = record { first = refl }
+leads-items read before index (item d ds) place =
+    leads-behind (read before index d (at_item place index)) before (λ after. item_faults read after (suc index) ds place)
+    (λ after. items_from read after (suc index) ds place) (λ after. leads-items read after (suc index) ds place)
+
+leads-list : {A : Type 0} (read : ItemReading A) (start : A) (d : Data) (place : Place) → Leads (list_faults read start d place) (list_in read start d place)
+leads-list read start null place = record { first = refl }
+leads-list read start (boolean b) place = record { first = refl }
+leads-list read start (number n) place = record { first = refl }
+leads-list read start (string s) place = record { first = refl }
+leads-list read start (array ds) place = leads-items read start 0 ds place
+leads-list read start (object ms) place = record { first = refl }
+
+leads-there : {A : Type 0} (read : ItemReading A) (start : A) (there : Option Data) (place : Place)
+    → Leads (faults_if_there (list_faults read start) there place) (read_optional (list_in read start) start there place)
+leads-there read start None place = record { first = refl }
+leads-there read start (Some d) place = leads-list read start d place
+
+-- a list that may be left out
+pub leads-optional : {A : Type 0} (read : ItemReading A) (start : A) (name : List ℕ) (d : Data) (place : Place)
+    → Leads (optional_faults (list_faults read start) name d place) (optional (list_in read start) start name d place)
+leads-optional read start name d place = leads-there read start (get name d) (at_member place name)
+
+-- faults that stand only behind a reading
+pub leads-last : {A B : Type 0} (faults : List SceneFault) (last : Found A → List SceneFault) (reading : Found A) (next : A → Found B)
+    → Leads faults reading → ((fault : SceneFault) → last (Err fault) ≡ []) → ((x : A) → Leads (last (Ok x)) (next x)) → Leads (faults ++ last reading) (reading >>= next)
+leads-last faults last (Ok x) next leads none behind = record { first = no_first faults (last (Ok x)) leads.first ∙ (behind x).first }
+leads-last faults last (Err fault) next leads none behind = record { first = some_first faults (last (Err fault)) fault leads.first }

@@ -1,0 +1,11 @@
+pub mod BindLemmas
+pub mod DistinctLemmas
+pub mod EntryLemmas
+pub mod FirstLemmas
+pub mod ListLemmas
+pub mod ReadLemmas
+pub mod SceneFaultsLemmas
+pub mod SetupLemmas
+pub mod ValueLemmas
+pub mod Worked
+pub mod ZerosLemmas

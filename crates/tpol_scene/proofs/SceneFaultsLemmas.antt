@@ -1,0 +1,85 @@
+-- The first of all faults of a scene is the one that its reading meets.
+use Rattle.std.proofs.Common.{◌≡◌, Bool, true, false, List, [], ◌∷◌, ◌++◌, refl, ap, ◌∙◌, cond}
+use Rattle.std.specs.Prelude.{Some, None, Ok, Err, slice_get, codes}
+use Rattle.serde_json.specs.Data.{Data}
+use Rattle.tpol_base.specs.PolicyName.{is_policy_name}
+use Rattle.tpol_json.specs.Places.{root}
+use Rattle.tpol_json.specs.declared.place.Place.{Place}
+use Rattle.tpol_scene.specs.Entities.{entity_in, entities_in, no_entities}
+use Rattle.tpol_scene.specs.Faults.{Found, bad, ◌>>=◌}
+use Rattle.tpol_scene.specs.Lists.{faults_of, list_faults, optional_faults}
+use Rattle.tpol_scene.specs.Members.{optional}
+use Rattle.tpol_scene.specs.Pcrs.{pcr_item, pcrs_in, zero_bank}
+use Rattle.tpol_scene.specs.Scenes.{authorities_in, authorities_faults, time_in, clock_in, clock_faults, grammar_in, grammar_faults, names_in, name_faults, name_faults_of, scene_in, scene_faults}
+use Rattle.tpol_scene.specs.Values.{object_in, u32_in, truth_in, digest_in, auth_in, zero_digest}
+use Rattle.tpol_scene.specs.declared.entities.EntityPolicy.{EntityPolicy}
+use Rattle.tpol_scene.specs.declared.fault.SceneFault.{SceneFault}
+use Rattle.tpol_scene.specs.declared.fault.SceneFault.TheVariants.{Bad}
+use Rattle.tpol_scene.specs.declared.fault.SceneKind.TheVariants.{NoSuchPolicy}
+use Rattle.tpol_scene.specs.declared.scene.Scene.{Scene}
+use Rattle.tpol_scene.proofs.FirstLemmas.{Leads, fault_in, leads-one, leads-then, leads-last, leads-optional}
+
+-- a reading and nothing behind it
+leads-end : {A B : Type 0} (faults : List SceneFault) (reading : Found A) (next : A → B) → Leads faults reading → Leads faults (reading >>= λ x. Ok (next x))
+leads-end faults (Ok x) next leads = record { first = leads.first }
+leads-end faults (Err fault) next leads = record { first = leads.first }
+
+-- a member and what stands behind it
+leads-member : {A B : Type 0} (reading : Found A) (more : List SceneFault) (next : A → Found B)
+    → ((x : A) → Leads more (next x)) → Leads (faults_of reading ++ more) (reading >>= next)
+leads-member reading more next behind = leads-then (faults_of reading) more reading next (leads-one reading) behind
+
+leads-authorities : (d : Data) (place : Place) → Leads (authorities_faults d place) (authorities_in d place)
+unfolding authorities_in
+leads-authorities d place =
+    leads-member (optional digest_in zero_digest (codes "seed") d place) _ _ (λ seed.
+    leads-member (optional auth_in [] (codes "owner") d place) _ _ (λ owner.
+    leads-member (optional auth_in [] (codes "endorsement") d place) _ _ (λ endorsement.
+    leads-end _ (optional auth_in [] (codes "lockout") d place) _ (leads-one (optional auth_in [] (codes "lockout") d place)))))
+
+leads-clock : (d : Data) (place : Place) → Leads (clock_faults d place) (clock_in d place)
+unfolding clock_in
+leads-clock d place =
+    leads-member (optional time_in 0 (codes "time") d place) _ _ (λ time.
+    leads-member (optional u32_in 0 (codes "resetCount") d place) _ _ (λ reset_count.
+    leads-member (optional u32_in 0 (codes "restartCount") d place) _ _ (λ restart_count.
+    leads-member (optional truth_in true (codes "safe") d place) _ _ (λ safe.
+    leads-end _ (optional truth_in false (codes "presence") d place) _ (leads-one (optional truth_in false (codes "presence") d place))))))
+
+leads-grammar : (d : Data) (place : Place) → Leads (grammar_faults d place) (grammar_in d place)
+unfolding grammar_in
+leads-grammar d place =
+    leads-member (object_in d place) _ _ (λ is_object.
+    leads-then (authorities_faults d place) _ (authorities_in d place) _ (leads-authorities d place) (λ authorities.
+    leads-then (optional_faults (list_faults pcr_item zero_bank) (codes "pcrs") d place) _ (optional pcrs_in zero_bank (codes "pcrs") d place) _
+    (leads-optional pcr_item zero_bank (codes "pcrs") d place) (λ bank.
+    leads-member (optional u32_in 0 (codes "pcrCounter") d place) _ _ (λ pcr_counter.
+    leads-then (clock_faults d place) _ (clock_in d place) _ (leads-clock d place) (λ clock.
+    leads-end _ (optional entities_in no_entities (codes "entities") d place) _ (leads-optional entity_in no_entities (codes "entities") d place))))))
+
+leads-names : {B : Type 0} (policies : List EntityPolicy) (x : B) → Leads (name_faults policies) (names_in policies >>= λ _. Ok x)
+leads-names [] x = record { first = refl }
+leads-names (policy ∷ policies) x = by_name (is_policy_name policy.name) (leads-names policies x)
+  where
+    by_name : (good : Bool) → Leads (name_faults policies) (names_in policies >>= λ _. Ok x)
+        → Leads (cond good (name_faults policies) (Bad NoSuchPolicy policy.place ∷ name_faults policies)) (cond good (names_in policies) (bad NoSuchPolicy policy.place) >>= λ _. Ok x)
+    by_name true behind = behind
+    by_name false behind = record { first = refl }
+
+-- of all faults of a scene the first is the one that its reading meets
+pub leads-scene : (d : Data) → Leads (scene_faults d) (scene_in d root)
+unfolding scene_in scene_faults
+leads-scene d =
+    leads-last (grammar_faults d root) name_faults_of (grammar_in d root) _ (leads-grammar d root) (λ fault. refl) (λ scene. leads-names scene.policies scene)
+
+no_fault_if_empty : (faults : List SceneFault) → slice_get faults 0 ≡ None → faults ≡ []
+no_fault_if_empty [] e = refl
+no_fault_if_empty (fault ∷ faults) e = absurd cc
+
+-- a scene that is read has no fault
+pub no_fault : (d : Data) (scene : Scene) → scene_in d root ≡ Ok scene → scene_faults d ≡ []
+no_fault d scene reads = no_fault_if_empty (scene_faults d) ((leads-scene d).first ∙ ap fault_in reads)
+
+-- a scene that is refused has this fault first
+pub first_fault : (d : Data) (fault : SceneFault) → scene_in d root ≡ Err fault → slice_get (scene_faults d) 0 ≡ Some fault
+first_fault d fault refused = (leads-scene d).first ∙ ap fault_in refused

@@ -1,0 +1,10 @@
+use Rattle.std.proofs.Common.{◌≡◌, drop}
+use Rattle.serde_json.specs.View.{items_view}
+use Rattle.tpol_scene.specs.Entities.{entity_in, no_entities}
+use Rattle.tpol_scene.specs.Lists.{items_from}
+use Rattle.tpol_scene.proofs.entities.entities_of_items.Given as goal
+
+abbrev pub invariant-loop-index : goal.invariant-loop-index
+invariant-loop-index l =
+    items_from entity_in l.entities l.index (items_view (drop l.index l.items)) l.place
+    ≡ items_from entity_in no_entities 0 (items_view l.items) l.place

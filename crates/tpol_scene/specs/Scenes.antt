@@ -1,0 +1,143 @@
+-- Scenes.
+use Rattle.std.specs.Prelude.{◌≡◌, ℕ, ◌^◌, List, [], ◌∷◌, ◌++◌, codes, true, false, Some, None, Ok, Err, slice_get, if◌then◌else◌, ⊤}
+use Rattle.serde_json.specs.Data.{Data}
+use Rattle.tpol_base.specs.PolicyName.{is_policy_name}
+use Rattle.tpol_base.specs.declared.digest.Digest32.{Digest32}
+use Rattle.tpol_json.specs.Document.{document_of}
+use Rattle.tpol_json.specs.Places.{root}
+use Rattle.tpol_json.specs.declared.place.Place.{Place}
+use Rattle.tpol_scene.specs.declared.entities.Entities.{Entities}
+use Rattle.tpol_scene.specs.declared.entities.EntityPolicy.{EntityPolicy}
+use Rattle.tpol_scene.specs.declared.fault.SceneFault.{SceneFault}
+use Rattle.tpol_scene.specs.declared.fault.SceneFault.TheVariants.{NotJson, Bad, NoMemory}
+use Rattle.tpol_scene.specs.declared.fault.SceneKind.TheVariants.{NoSuchPolicy}
+use Rattle.tpol_scene.specs.declared.scene.Authorities.{Authorities}
+use Rattle.tpol_scene.specs.declared.scene.Clock.{Clock}
+use Rattle.tpol_scene.specs.declared.scene.Scene.{Scene}
+use Rattle.tpol_scene.specs.Entities.{entity_in, entities_in, no_entities}
+use Rattle.tpol_scene.specs.Faults.{Found, bad, ◌>>=◌}
+use Rattle.tpol_scene.specs.Lists.{faults_of, list_faults, optional_faults}
+use Rattle.tpol_scene.specs.Members.{optional}
+use Rattle.tpol_scene.specs.Pcrs.{pcr_item, pcrs_in, zero_bank}
+use Rattle.tpol_scene.specs.Values.{object_in, unsigned_in, u32_in, truth_in, digest_in, auth_in, zero_digest}
+
+-- the seed of the nonces and the authorization values of the hierarchies
+unfoldable pub authorities_in : Data → Place → Found Authorities
+authorities_in d place = do
+  seed ← optional digest_in zero_digest (codes "seed") d place
+  owner ← optional auth_in [] (codes "owner") d place
+  endorsement ← optional auth_in [] (codes "endorsement") d place
+  lockout ← optional auth_in [] (codes "lockout") d place
+  Ok (record { seed = seed; owner = owner; endorsement = endorsement; lockout = lockout })
+
+-- the time in milliseconds
+abbrev pub time_in : Data → Place → Found ℕ
+time_in = unsigned_in 0 (2 ^ 62)
+
+-- the clock, and whether somebody is at the machine
+unfoldable pub clock_in : Data → Place → Found Clock
+clock_in d place = do
+  time ← optional time_in 0 (codes "time") d place
+  reset_count ← optional u32_in 0 (codes "resetCount") d place
+  restart_count ← optional u32_in 0 (codes "restartCount") d place
+  safe ← optional truth_in true (codes "safe") d place
+  presence ← optional truth_in false (codes "presence") d place
+  Ok (record { time = time; reset_count = reset_count; restart_count = restart_count; safe = safe; presence = presence })
+
+-- the scene of these parts
+abbrev pub scene_with : Authorities → List Digest32 → ℕ → Clock → Entities → Scene
+scene_with authorities pcrs pcr_counter clock entities = record {
+  setup = record {
+    seed = authorities.seed;
+    owner = authorities.owner;
+    endorsement = authorities.endorsement;
+    lockout = authorities.lockout;
+    pcrs = pcrs;
+    pcr_counter = pcr_counter;
+    objects = entities.objects;
+    indices = entities.indices;
+    time = clock.time;
+    reset_count = clock.reset_count;
+    restart_count = clock.restart_count;
+    safe = clock.safe;
+    presence = clock.presence;
+  };
+  policies = entities.policies;
+}
+
+-- a scene by its grammar, whatever its policies are called
+unfoldable pub grammar_in : Data → Place → Found Scene
+grammar_in d place = do
+  is_object ← object_in d place
+  authorities ← authorities_in d place
+  bank ← optional pcrs_in zero_bank (codes "pcrs") d place
+  pcr_counter ← optional u32_in 0 (codes "pcrCounter") d place
+  clock ← clock_in d place
+  entities ← optional entities_in no_entities (codes "entities") d place
+  Ok (scene_with authorities bank.values pcr_counter clock entities)
+
+-- each policy has a name that policies can have
+abbrev pub names_in : List EntityPolicy → Found ⊤
+names_in [] = Ok tt
+names_in (policy ∷ policies) = if is_policy_name policy.name then names_in policies else bad NoSuchPolicy policy.place
+
+-- the scene that a value stands for, or its first fault
+unfoldable pub scene_in : Data → Place → Found Scene
+scene_in d place = do
+  scene ← grammar_in d place
+  are_names ← names_in scene.policies
+  Ok scene
+
+-- the faults of the members, in reading order
+abbrev pub authorities_faults : Data → Place → List SceneFault
+authorities_faults d place =
+    faults_of (optional digest_in zero_digest (codes "seed") d place)
+    ++ (faults_of (optional auth_in [] (codes "owner") d place)
+    ++ (faults_of (optional auth_in [] (codes "endorsement") d place)
+    ++ faults_of (optional auth_in [] (codes "lockout") d place)))
+
+abbrev pub clock_faults : Data → Place → List SceneFault
+clock_faults d place =
+    faults_of (optional time_in 0 (codes "time") d place)
+    ++ (faults_of (optional u32_in 0 (codes "resetCount") d place)
+    ++ (faults_of (optional u32_in 0 (codes "restartCount") d place)
+    ++ (faults_of (optional truth_in true (codes "safe") d place)
+    ++ faults_of (optional truth_in false (codes "presence") d place))))
+
+abbrev pub grammar_faults : Data → Place → List SceneFault
+grammar_faults d place =
+    faults_of (object_in d place)
+    ++ (authorities_faults d place
+    ++ (optional_faults (list_faults pcr_item zero_bank) (codes "pcrs") d place
+    ++ (faults_of (optional u32_in 0 (codes "pcrCounter") d place)
+    ++ (clock_faults d place
+    ++ optional_faults (list_faults entity_in no_entities) (codes "entities") d place))))
+
+-- each policy whose name no policy can have
+abbrev pub name_faults : List EntityPolicy → List SceneFault
+name_faults [] = []
+name_faults (policy ∷ policies) =
+    if is_policy_name policy.name then name_faults policies else Bad NoSuchPolicy policy.place ∷ name_faults policies
+
+abbrev pub name_faults_of : Found Scene → List SceneFault
+name_faults_of (Ok scene) = name_faults scene.policies
+name_faults_of (Err fault) = []
+
+-- all faults of a scene: those against its grammar in reading order, and only then the names of policies
+unfoldable pub scene_faults : Data → List SceneFault
+scene_faults d = grammar_faults d root ++ name_faults_of (grammar_in d root)
+
+-- the value has no fault and is read as this scene
+pub record StandsForScene (d : Data) (scene : Scene) : Type 0 where
+  pub no_fault : scene_faults d ≡ []
+  pub value : scene_in d root ≡ Ok scene
+
+-- the document that the bytes write stands for this scene
+abbrev pub IsDocumentOf : List ℕ → Scene → Type 0
+IsDocumentOf bytes scene = (d : Data) × (document_of bytes ≡ Some d) × StandsForScene d scene
+
+-- the bytes are refused with this fault: they are no JSON text, or it is the first fault of their document
+abbrev pub IsFaultOf : List ℕ → SceneFault → Type 0
+IsFaultOf bytes NotJson = document_of bytes ≡ None
+IsFaultOf bytes (Bad kind place) = (d : Data) × (document_of bytes ≡ Some d) × (slice_get (scene_faults d) 0 ≡ Some (Bad kind place))
+IsFaultOf bytes NoMemory = ⊤

@@ -1,0 +1,69 @@
+ghost use Rattle.std.specs.Prelude.{◌≡◌, ◌<◌, ◌^◌};
+ghost use Rattle.serde_json.specs.View.{view};
+ghost use Rattle.tpol_scene.specs.Faults.{Gives};
+ghost use Rattle.tpol_scene.specs.Kinds.{greatest_handle, kind_in, kind_of_word, least_handle};
+
+use crate::fault::refused;
+use crate::{SceneFault, SceneKind};
+use serde_json::Value;
+use std::alloc::Global;
+use tpol_json::Place;
+
+/// The kinds of entities: a sealed secret, an HMAC key, an NV index.
+#[derive(Clone, Copy, Debug, PartialEq, Eq)]
+pub enum EntityKind {
+    Seal,
+    Key,
+    Nv,
+}
+
+impl EntityKind {
+    ghost use Rattle.std.specs.Prelude.{◌≡◌, ◌<◌, ◌^◌};
+    ghost use Rattle.tpol_scene.specs.Kinds.{greatest_handle, least_handle};
+
+    /// The least handle of the kind.
+    pub fn least_handle(self) -> u64
+        ensures value { result ≡ least_handle self }
+        ensures limit { result < 2 ^ 32 }
+    {
+        match self {
+            EntityKind::Seal | EntityKind::Key => 0x8000_0000,
+            EntityKind::Nv => 0x0100_0000,
+        }
+    }
+
+    /// The greatest handle of the kind.
+    pub fn greatest_handle(self) -> u64
+        ensures value { result ≡ greatest_handle self }
+        ensures limit { result < 2 ^ 32 }
+    {
+        match self {
+            EntityKind::Seal | EntityKind::Key => 0x80ff_ffff,
+            EntityKind::Nv => 0x01ff_ffff,
+        }
+    }
+}
+
+/// The kind that a text names: `seal`, `key` or `nv`, exactly so.
+pub fn kind_of(alloc: Global, value: &Value, place: &Place) -> Result<EntityKind, SceneFault>
+    ensures { Gives result (kind_in (view value.now) place.now) }
+{
+    match value {
+        Value::String(word) => kind_of_word(alloc, word.as_str(), place),
+        _ => refused(alloc, SceneKind::WrongKind, place),
+    }
+}
+
+fn kind_of_word(alloc: Global, word: &str, place: &Place) -> Result<EntityKind, SceneFault>
+    ensures { Gives result (kind_of_word word.now place.now) }
+{
+    if word == "seal" {
+        Ok(EntityKind::Seal)
+    } else if word == "key" {
+        Ok(EntityKind::Key)
+    } else if word == "nv" {
+        Ok(EntityKind::Nv)
+    } else {
+        refused(alloc, SceneKind::UnknownKind, place)
+    }
+}
