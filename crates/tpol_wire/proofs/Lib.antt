@@ -1,0 +1,10 @@
+pub mod AreaLaws
+pub mod CommandLaws
+pub mod DigestLists
+pub mod Header
+pub mod KindLaws
+pub mod Lengths
+pub mod Rows
+pub mod Takes
+pub mod ReplyLaws
+pub mod ReplyWriting

@@ -1,0 +1,14 @@
+use Rattle.std.proofs.Common.{sym, ap, ◌∙◌}
+use Rattle.std.specs.Result.{result_err}
+use Rattle.tpol_wire.proofs.Takes.{ok_is}
+use Rattle.tpol_wire.proofs.CommandLaws.{command_read}
+use Rattle.tpol_wire.proofs.laws.one_spelling.Goals as goal
+
+pub returns-clause-one_text : goal.returns-clause-one_text
+returns-clause-one_text c = λ a b command p q. p.whole ∙ sym q.whole
+
+pub returns-clause-one_command : goal.returns-clause-one_command
+returns-clause-one_command c = λ bytes a b p q. ok_is a b (sym (command_read bytes a p) ∙ command_read bytes b q)
+
+pub returns-clause-unbroken : goal.returns-clause-unbroken
+returns-clause-unbroken c = λ bytes command p. ap result_err (command_read bytes command p)

@@ -1,0 +1,12 @@
+pub mod Areas
+pub mod Codes
+pub mod Commands
+pub mod Handles
+pub mod Kinds
+pub mod Reading
+pub mod Refusals
+pub mod Replies
+pub mod ReplyReading
+pub mod ReplyWriting
+pub mod Rows
+pub mod Spellings

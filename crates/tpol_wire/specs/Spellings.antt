@@ -1,0 +1,14 @@
+-- What a writer adds.
+use Rattle.std.specs.Prelude.{◌≡◌, ℕ, List, [], ◌++◌, true, Option, Some, None, Result, OnOk}
+use Rattle.tpol_wire.specs.declared.auth_area.AuthArea.{AuthArea}
+use Rattle.tpol_wire.specs.Areas.{authorization}
+use Rattle.tpol_base.specs.declared.no_memory.NoMemory.{NoMemory}
+
+-- unless memory runs out, these bytes were added at the end
+abbrev pub Appends : Result (Unit {0}) NoMemory → List ℕ → List ℕ → List ℕ → Type 0
+Appends result old new bytes = OnOk result (new ≡ old ++ bytes)
+
+-- an authorization, where there is one
+abbrev pub spell_optional_area : Option AuthArea → List ℕ
+spell_optional_area None = []
+spell_optional_area (Some area) = authorization true area

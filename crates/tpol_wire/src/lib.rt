@@ -1,0 +1,40 @@
+//! Commands and replies of a TPM as bytes (TPM 2.0 Part 3): each byte string is one command or one refusal
+//! code, and each command has one spelling. The machine reads commands and writes replies through this
+//! crate, and the driver does the opposite.
+#![tactic(auto)]
+
+mod areas;
+mod auth_area;
+mod codes;
+mod command;
+mod command_code;
+mod fault;
+mod fields;
+mod handle_kind;
+mod indices;
+mod laws;
+mod objects;
+mod pcrs;
+mod policies;
+mod reading;
+mod reply;
+mod reply_reading;
+mod reply_writing;
+mod sessions;
+mod spelling;
+mod ticket;
+mod writing;
+
+pub use auth_area::{AuthArea, ReplyAuth};
+pub use command::Command;
+pub use fault::{ReplyFault, WireFault};
+pub use laws::one_spelling;
+pub use reading::read_command;
+pub use reply::Reply;
+pub use reply_reading::read_reply;
+pub use reply_writing::write_reply;
+pub use ticket::Ticket;
+pub use writing::{code_of, parameters_of, write_command};
+
+#[cfg(test)]
+mod tests;

@@ -1,0 +1,198 @@
+//! Writers of single fields, at the end of bytes.
+#![tactic(auto, unfolding(crate::specs::Kinds::spell))]
+
+ghost use Rattle.std.specs.Prelude.{◌≡◌, ◌++◌, ◌∷◌, [], OnOk, List, ℕ, length, true};
+ghost use Rattle.std.specs.Int.{w16, w32, to_be_bytes};
+ghost use Rattle.std.specs.List.{flat_map};
+ghost use Rattle.tpol_wire.specs.Areas.{authorization, spell_tail};
+ghost use Rattle.tpol_wire.specs.Kinds.{spell, sized as sized_bytes, Signed, Truth, Operation, Digest, Mask, Sized, Optional, Named, Ticketed, Digests};
+ghost use Rattle.tpol_wire.specs.Rows.{byte as byte_kind, short as short_kind, long as long_kind, sized_digest as sized_digest_kind, one_digest as one_digest_kind, selection as selection_kind, signature as signature_kind};
+ghost use Rattle.tpol_wire.specs.Spellings.{Appends};
+
+use crate::auth_area::AuthArea;
+use crate::ticket::Ticket;
+use byteorder::{BigEndian, ByteOrder};
+use std::alloc::Global;
+use tpol_base::{Blob, Compare, Digest32, Digests, Name, NoMemory};
+
+/// A number of two bytes.
+pub(crate) fn number16(out: &mut Blob, number: u16) -> Result<(), NoMemory>
+    ensures { Appends result out.old out.new (to_be_bytes w16 number) }
+{
+    let mut bytes = [0; 2];
+    BigEndian::write_u16(&mut bytes, number);
+    out.extend_from_slice(&bytes)
+}
+
+/// A number of four bytes.
+pub(crate) fn number32(out: &mut Blob, number: u32) -> Result<(), NoMemory>
+    ensures { Appends result out.old out.new (to_be_bytes w32 number) }
+{
+    let mut bytes = [0; 4];
+    BigEndian::write_u32(&mut bytes, number);
+    out.extend_from_slice(&bytes)
+}
+
+/// A length of two bytes: of a longer one the last two.
+fn length16(out: &mut Blob, length: usize) -> Result<(), NoMemory>
+    ensures { Appends result out.old out.new (to_be_bytes w16 length) }
+{
+    number16(out, (length % 0x1_0000) as u16)
+}
+
+/// A length of four bytes: of a longer one the last four.
+pub(crate) fn length32(out: &mut Blob, length: usize) -> Result<(), NoMemory>
+    ensures { Appends result out.old out.new (to_be_bytes w32 length) }
+{
+    number32(out, (length % 0x1_0000_0000) as u32)
+}
+
+/// A 2B.
+pub(crate) fn sized(out: &mut Blob, bytes: &[u8]) -> Result<(), NoMemory>
+    ensures { Appends result out.old out.new (sized_bytes bytes.now) }
+{
+    length16(out, bytes.len())?;
+    out.extend_from_slice(bytes)
+}
+
+/// A byte.
+pub(crate) fn byte(out: &mut Blob, byte: u8) -> Result<(), NoMemory>
+    ensures { Appends result out.old out.new (spell byte_kind byte) }
+{
+    out.push(byte)
+}
+
+/// A signed number.
+pub(crate) fn signed(out: &mut Blob, number: i32) -> Result<(), NoMemory>
+    ensures { Appends result out.old out.new (spell Signed number) }
+{
+    number32(out, number.cast_unsigned())
+}
+
+/// The byte of a truth value.
+pub(crate) fn truth(out: &mut Blob, truth: bool) -> Result<(), NoMemory>
+    ensures { Appends result out.old out.new (spell Truth truth) }
+{
+    out.push(u8::from(truth))
+}
+
+/// The number of a comparison.
+pub(crate) fn operation(out: &mut Blob, operation: Compare) -> Result<(), NoMemory>
+    ensures { Appends result out.old out.new (spell Operation operation) }
+{
+    number16(out, operation.number())
+}
+
+/// A 2B of a digest's 32 bytes.
+pub(crate) fn sized_digest(out: &mut Blob, digest: &Digest32) -> Result<(), NoMemory>
+    ensures { Appends result out.old out.new (spell sized_digest_kind digest.now) }
+{
+    number16(out, 32)?;
+    out.extend_from_slice(&digest.bytes)
+}
+
+/// A 2B of a digest's bytes, or of none.
+pub(crate) fn optional(out: &mut Blob, given: &Option<Digest32>) -> Result<(), NoMemory>
+    ensures { Appends result out.old out.new (spell Optional given.now) }
+{
+    match given {
+        None => number16(out, 0),
+        Some(digest) => sized(out, &digest.bytes),
+    }
+}
+
+/// A 2B of a Name's bytes.
+pub(crate) fn name(out: &mut Blob, name: &Name) -> Result<(), NoMemory>
+    ensures { Appends result out.old out.new (spell Named name.now) }
+{
+    match name {
+        Name::Empty => number16(out, 0),
+        Name::Handle(handle) => {
+            number16(out, 4)?;
+            number32(out, *handle)
+        }
+        Name::Hash(digest) => {
+            number16(out, 34)?;
+            number16(out, 0x000b)?;
+            out.extend_from_slice(&digest.bytes)
+        }
+    }
+}
+
+/// A ticket.
+pub(crate) fn ticket(out: &mut Blob, ticket: &Ticket) -> Result<(), NoMemory>
+    ensures { Appends result out.old out.new (spell Ticketed ticket.now) }
+{
+    number16(out, ticket.tag)?;
+    number32(out, ticket.hierarchy)?;
+    sized(out, ticket.digest.as_slice())
+}
+
+/// One digest behind its count and its algorithm.
+pub(crate) fn one_digest(out: &mut Blob, digest: &Digest32) -> Result<(), NoMemory>
+    ensures { Appends result out.old out.new (spell one_digest_kind digest.now) }
+{
+    number32(out, 1)?;
+    number16(out, 0x000b)?;
+    out.extend_from_slice(&digest.bytes)
+}
+
+/// One selection of SHA-256 PCRs.
+pub(crate) fn selection(out: &mut Blob, mask: u32) -> Result<(), NoMemory>
+    ensures { Appends result out.old out.new (spell selection_kind mask) }
+{
+    number32(out, 1)?;
+    number16(out, 0x000b)?;
+    let bytes = [
+        3,
+        (mask % 256) as u8,
+        (mask / 256 % 256) as u8,
+        (mask / 65536 % 256) as u8,
+    ];
+    out.extend_from_slice(&bytes)
+}
+
+/// An HMAC with SHA-256.
+pub(crate) fn signature(out: &mut Blob, hmac: &Digest32) -> Result<(), NoMemory>
+    ensures { Appends result out.old out.new (spell signature_kind hmac.now) }
+{
+    number16(out, 0x0005)?;
+    number16(out, 0x000b)?;
+    out.extend_from_slice(&hmac.bytes)
+}
+
+/// A count, and that many 2Bs of 32 bytes.
+pub(crate) fn digests(out: &mut Blob, digests: &Digests) -> Result<(), NoMemory>
+    ensures { Appends result out.old out.new (to_be_bytes w32 (length digests.now) ++ flat_map (λ digest. sized_bytes digest.bytes) digests.now) }
+{
+    length32(out, digests.len())?;
+    for digest in digests.as_slice() {
+        sized(out, &digest.bytes)?;
+    }
+    Ok(())
+}
+
+/// The nonce, the attributes and the hmac of an authorization.
+pub(crate) fn tail(
+    out: &mut Blob,
+    nonce: &Blob,
+    attributes: u8,
+    hmac: &Blob,
+) -> Result<(), NoMemory>
+    ensures { Appends result out.old out.new (spell_tail nonce.now attributes hmac.now) }
+{
+    sized(out, nonce.as_slice())?;
+    out.push(attributes)?;
+    sized(out, hmac.as_slice())
+}
+
+/// The size of an authorization, and the authorization.
+pub(crate) fn area(alloc: Global, out: &mut Blob, area: &AuthArea) -> Result<(), NoMemory>
+    ensures { Appends result out.old out.new (authorization true area.now) }
+{
+    let mut bytes = Blob::new(alloc);
+    number32(&mut bytes, area.session)?;
+    tail(&mut bytes, &area.nonce, area.attributes, &area.hmac)?;
+    length32(out, bytes.len())?;
+    out.extend_from_slice(bytes.as_slice())
+}

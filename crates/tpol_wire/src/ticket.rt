@@ -1,0 +1,12 @@
+use tpol_base::Blob;
+
+/// A ticket (TPM 2.0 Part 2, TPMT_TK_VERIFIED and TPMT_TK_AUTH).
+#[derive(Drop)]
+pub struct Ticket {
+    /// The structure's tag, 8022 of a verified ticket.
+    pub tag: u16,
+    /// The hierarchy of the proof.
+    pub hierarchy: u32,
+    /// The HMAC, at most 64 bytes.
+    pub digest: Blob,
+}
