@@ -1,0 +1,10 @@
+pub mod CanonErased
+pub mod ClosedSteps
+pub mod FilledErased
+pub mod LimitTests
+pub mod ListedSteps
+pub mod NoCommand
+pub mod OwnPaths
+pub mod PathLines
+pub mod PathsErased
+pub mod Prefixes

@@ -1,0 +1,37 @@
+-- A first part of a line behind whole lines is a first part of the text.
+use Rattle.std.proofs.Common.{◌≡◌, ℕ, ◌+◌, ◌<◌, List, ◌∷◌, ◌++◌, length, get_or, take, drop, min, Option, None, Some, sym, ap, ◌∙◌, append_assoc, subst, arith, suc}
+use Rattle.std.specs.List.{flat_map}
+use Rattle.std.proofs.lemmas.List.{take-append-drop, take-append-le, take_min}
+use Rattle.std.proofs.Math.Seq.{drop-cons, take-append-add}
+use Rattle.std.proofs.lemmas.Grind.{flat_map-append}
+use Rattle.std.specs.Io.KnownBytes.{append_known}
+use Rattle.tpol_base.specs.Causes.{Grows, GrowsInPart}
+use Rattle.tpol_top.specs.Outcome.{text_of}
+
+-- the text is that of the lines before place i, the line there, and those behind
+text_of-split : (lines : List (List ℕ)) (i : ℕ) (line : List ℕ) → i < length lines → line ≡ get_or lines i line → text_of lines ≡ text_of (take i lines) ++ (line ++ text_of (drop (suc i) lines))
+text_of-split lines i line within at =
+    let split : lines ≡ take i lines ++ (line ∷ drop (suc i) lines) =
+    sym (take-append-drop i lines) ∙ ap (λ rest. take i lines ++ rest) (drop-cons lines i line within ∙ ap (λ l. l ∷ drop (suc i) lines) (sym at)) in
+    ap text_of split ∙ flat_map-append (λ l. l) (take i lines) (line ∷ drop (suc i) lines)
+
+-- a first part of what stands before, and then a first part of a line
+take-split : (before line rest : List ℕ) (m : ℕ) → take (length before + min m (length line)) (before ++ (line ++ rest)) ≡ before ++ take m line
+take-split before line rest m =
+    take-append-add before (line ++ rest) (min m (length line))
+    ∙ ap (λ l. before ++ l) (take-append-le (min m (length line)) line rest (omega arith) ∙ take_min m line)
+
+Grows-then : (a b c : Option (List ℕ)) (x y : List ℕ) → Grows a b x → Grows b c y → Grows a c (x ++ y)
+Grows-then a b None x y first second = tt
+Grows-then a None (Some zs) x y first second = cc
+Grows-then None (Some ys) (Some zs) x y first second = cc
+Grows-then (Some xs) (Some ys) (Some zs) x y first second =
+    ap Some (sym (append_assoc xs x y)) ∙ ap (λ (known : Option (List ℕ)). append_known known y) first ∙ second
+
+-- the lines before place i are written, and a first part of the line there
+pub GrowsInPart-line : (a b c : Option (List ℕ)) (lines : List (List ℕ)) (i : ℕ) (line : List ℕ) → i < length lines → line ≡ get_or lines i line → Grows a b (text_of (take i lines)) → GrowsInPart b c line → GrowsInPart a c (text_of lines)
+GrowsInPart-line a b c lines i line within at whole part =
+    let n : ℕ = length (text_of (take i lines)) + min part.0 (length line) in
+    let front : text_of (take i lines) ++ take part.0 line ≡ take n (text_of lines) =
+    sym (take-split (text_of (take i lines)) line (text_of (drop (suc i) lines)) part.0) ∙ ap (take n) (sym (text_of-split lines i line within at)) in
+    (n, subst (λ (text : List ℕ). Grows a c text) front (Grows-then a b c _ _ whole part.1))

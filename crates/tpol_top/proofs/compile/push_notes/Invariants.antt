@@ -1,0 +1,9 @@
+use Rattle.std.proofs.Common.{◌≡◌, ◌++◌, map, take}
+use Rattle.tpol_top.specs.Lines.{note_line}
+use Rattle.tpol_top.specs.Outcome.{line_of}
+use Rattle.tpol_top.proofs.compile.push_notes.Given as goal
+
+-- the notes so far are printed
+abbrev pub invariant-loop-place : goal.invariant-loop-place
+invariant-loop-place l =
+    l.lines ≡ l.initial.lines ++ map (λ place. line_of (note_line place)) (take l.place-index l.notes)

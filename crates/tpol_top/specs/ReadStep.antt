@@ -1,0 +1,39 @@
+-- The step that reads the document in the source.
+use Rattle.std.specs.Prelude.{ℕ, List, [], ◌∷◌, codes, Option, Some, None, Result, Ok, Err}
+use Rattle.serde_json.specs.Data.{Data}
+use Rattle.tpol_json.specs.declared.place.Place.{Place}
+use Rattle.tpol_json.specs.Document.{document_of}
+use Rattle.tpol_read.specs.Documents.{policy_faults, policy_of}
+use Rattle.tpol_rows.specs.declared.fault.PolicyFault.{PolicyFault}
+use Rattle.tpol_rows.specs.declared.fault.PolicyFault.TheVariants.{NotJson, Bad, NoMemory}
+use Rattle.tpol_rows.specs.Faults.{Found}
+use Rattle.tpol_top.specs.declared.outcome.Outcome.{Outcome}
+use Rattle.tpol_top.specs.declared.outcome.Verdict.TheVariants.{BadPolicy}
+use Rattle.tpol_top.specs.Outcome.{one_line}
+use Rattle.tpol_top.specs.Refusals.{bad_policy, policy_kind_name}
+use Rattle.tpol_top.specs.Steps.{Step}
+use Rattle.tpol_tree.specs.declared.policy.Policy.{Policy}
+
+-- the outcome of bytes that are no JSON text
+abbrev pub policy_not_json : Outcome
+policy_not_json = one_line (codes "error BadPolicy NotJson") BadPolicy
+
+-- the outcome of a fault
+abbrev pub policy_refusal : PolicyFault → Outcome
+policy_refusal NotJson = policy_not_json
+policy_refusal (Bad kind place) = bad_policy (policy_kind_name kind) place
+policy_refusal NoMemory = policy_not_json
+
+-- what the document says, unless there is a fault: then the first one ends the run
+abbrev pub unless_refused : List PolicyFault → Found (Policy × List Place) → Step (Policy × List Place)
+unless_refused [] (Ok found) = Ok found
+unless_refused [] (Err fault) = Err (policy_refusal fault)
+unless_refused (fault ∷ faults) found = Err (policy_refusal fault)
+
+abbrev pub read_document : Option Data → Step (Policy × List Place)
+read_document None = Err policy_not_json
+read_document (Some d) = unless_refused (policy_faults d) (policy_of d)
+
+-- the policy that the bytes are the document of, with its notes
+unfoldable pub read_step : List ℕ → Step (Policy × List Place)
+read_step input = read_document (document_of input)

@@ -1,0 +1,56 @@
+-- The lines of refusals.
+use Rattle.std.specs.Prelude.{ℕ, List, ◌++◌, codes}
+use Rattle.tpol_fill.specs.declared.fault.FillKind.{FillKind}
+use Rattle.tpol_fill.specs.declared.fault.FillKind.TheVariants.{NoSuchPath, NoSuchPcr, NotKeyedHash, VoidPrefix}
+use Rattle.tpol_json.specs.declared.place.Place.{Place}
+use Rattle.tpol_json.specs.PlaceText.{text_of_place}
+use Rattle.tpol_rows.specs.declared.fault.PolicyKind.{PolicyKind}
+use Rattle.tpol_rows.specs.declared.fault.PolicyKind.TheVariants as policy
+use Rattle.tpol_scene.specs.declared.fault.SceneKind.{SceneKind}
+use Rattle.tpol_scene.specs.declared.fault.SceneKind.TheVariants as scene
+use Rattle.tpol_top.specs.declared.outcome.Outcome.{Outcome}
+use Rattle.tpol_top.specs.declared.outcome.Verdict.TheVariants.{BadPolicy, BadScene}
+use Rattle.tpol_top.specs.Outcome.{one_line}
+
+-- what is wrong, and where
+abbrev pub at_place : List ℕ → List ℕ → Place → List ℕ
+at_place what kind place = codes "error " ++ what ++ codes " " ++ kind ++ codes " at " ++ text_of_place place
+
+abbrev pub bad_policy : List ℕ → Place → Outcome
+bad_policy kind place = one_line (at_place (codes "BadPolicy") kind place) BadPolicy
+
+abbrev pub bad_scene : List ℕ → Place → Outcome
+bad_scene kind place = one_line (at_place (codes "BadScene") kind place) BadScene
+
+abbrev pub fill_kind_name : FillKind → List ℕ
+fill_kind_name NoSuchPath = codes "NoSuchPath"
+fill_kind_name NoSuchPcr = codes "NoSuchPcr"
+fill_kind_name NotKeyedHash = codes "NotKeyedHash"
+fill_kind_name VoidPrefix = codes "VoidPrefix"
+
+abbrev pub policy_kind_name : PolicyKind → List ℕ
+policy_kind_name policy.NotJson = codes "NotJson"
+policy_kind_name policy.Missing = codes "Missing"
+policy_kind_name policy.WrongKind = codes "WrongKind"
+policy_kind_name policy.BadHex = codes "BadHex"
+policy_kind_name policy.BadNumber = codes "BadNumber"
+policy_kind_name policy.UnknownType = codes "UnknownType"
+policy_kind_name policy.Unsupported = codes "Unsupported"
+policy_kind_name policy.AsymmetricKey = codes "AsymmetricKey"
+policy_kind_name policy.OtherHash = codes "OtherHash"
+policy_kind_name policy.BranchCount = codes "BranchCount"
+policy_kind_name policy.EmptyPolicy = codes "EmptyPolicy"
+policy_kind_name policy.TooDeep = codes "TooDeep"
+policy_kind_name policy.TooMany = codes "TooMany"
+policy_kind_name policy.Twice = codes "Twice"
+
+abbrev pub scene_kind_name : SceneKind → List ℕ
+scene_kind_name scene.Missing = codes "Missing"
+scene_kind_name scene.WrongKind = codes "WrongKind"
+scene_kind_name scene.BadHex = codes "BadHex"
+scene_kind_name scene.BadNumber = codes "BadNumber"
+scene_kind_name scene.UnknownKind = codes "UnknownKind"
+scene_kind_name scene.Twice = codes "Twice"
+scene_kind_name scene.TooMany = codes "TooMany"
+scene_kind_name scene.BadState = codes "BadState"
+scene_kind_name scene.NoSuchPolicy = codes "NoSuchPolicy"

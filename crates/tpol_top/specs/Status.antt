@@ -1,0 +1,49 @@
+-- The numbers of statuses, and which of them say that the whole report was written.
+use Rattle.std.specs.Prelude.{ℕ, ⊤, Result, Ok, Err}
+use Rattle.tpol_top.specs.declared.run.Stop.{Stop}
+use Rattle.tpol_top.specs.declared.run.Stop.TheVariants as S
+use Rattle.tpol_top.specs.declared.status.Status.{Status}
+use Rattle.tpol_top.specs.declared.status.Status.TheVariants.{Done, Usage, ReadFault, WriteFault, ShelfFault, TooLarge, BadPolicy, BadScene, NoMemory, PathLimit}
+
+abbrev pub number_of_status : Status → ℕ
+number_of_status Done = 0
+number_of_status Usage = 1
+number_of_status ReadFault = 2
+number_of_status WriteFault = 3
+number_of_status ShelfFault = 4
+number_of_status TooLarge = 5
+number_of_status BadPolicy = 6
+number_of_status BadScene = 7
+number_of_status NoMemory = 8
+number_of_status PathLimit = 9
+
+-- the run came to its end: neither the outside nor memory failed
+abbrev pub IsWhole : Status → Type 0
+IsWhole ReadFault = ⊥
+IsWhole WriteFault = ⊥
+IsWhole ShelfFault = ⊥
+IsWhole NoMemory = ⊥
+IsWhole _ = ⊤
+
+-- the source or the shelf failed before anything was printed
+abbrev pub IsSilent : Status → Type 0
+IsSilent ReadFault = ⊤
+IsSilent ShelfFault = ⊤
+IsSilent _ = ⊥
+
+-- the source was read to its end, where the command reads it
+abbrev pub IsPastReading : Status → Type 0
+IsPastReading ReadFault = ⊥
+IsPastReading NoMemory = ⊥
+IsPastReading _ = ⊤
+
+-- the status of a run that stopped before it had an outcome
+abbrev pub status_of_stop : Stop → Status
+status_of_stop S.ReadFault = ReadFault
+status_of_stop S.ShelfFault = ShelfFault
+status_of_stop S.NoMemory = NoMemory
+
+-- the same of a run's outcome, or of why it has none
+abbrev pub IsPastReadingResult : {T : Type 0} → Result T Stop → Type 0
+IsPastReadingResult (Ok outcome) = ⊤
+IsPastReadingResult (Err stop) = IsPastReading (status_of_stop stop)

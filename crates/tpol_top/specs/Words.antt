@@ -1,0 +1,57 @@
+-- The words of the program.
+use Rattle.std.specs.Prelude.{ℕ, Bool, true, false, List, [], ◌∷◌, Option, None, Some, codes, drop, nat_eq, if◌then◌else◌}
+use Rattle.std.specs.List.{starts_with}
+use Rattle.std.specs.Option.{is_some, option_map_or}
+use Rattle.std.specs.Str.{bytes_eq}
+use Rattle.tpol_base.specs.PolicyName.{is_policy_name}
+use Rattle.tpol_top.specs.declared.command.Command.{Command}
+use Rattle.tpol_top.specs.declared.command.Command.TheVariants.{Compile, Paths, Canon}
+
+-- the command of one word
+abbrev pub one_word_command : List ℕ → Option Command
+one_word_command word =
+    if bytes_eq word (codes "compile") then Some (Compile None)
+    else (if bytes_eq word (codes "paths") then Some (Paths None)
+    else (if bytes_eq word (codes "canon") then Some Canon else None))
+
+-- a name without `/policy/` in front
+abbrev pub without_folder : List ℕ → List ℕ
+without_folder name = if starts_with nat_eq name (codes "/policy/") then drop 8 name else name
+
+-- the name of a policy or of a scene, where it is one
+abbrev pub policy_stem : List ℕ → Option (List ℕ)
+policy_stem name = if is_policy_name (without_folder name) then Some (without_folder name) else None
+
+-- the command of a word with this scene
+abbrev pub command_with_scene : List ℕ → Option (List ℕ) → Option Command
+command_with_scene word None = None
+command_with_scene word (Some scene) =
+    if bytes_eq word (codes "compile") then Some (Compile (Some scene))
+    else (if bytes_eq word (codes "paths") then Some (Paths (Some scene)) else None)
+
+-- the command of three words: a word, `--scene` and a name
+abbrev pub scene_command : List ℕ → List ℕ → List ℕ → Option Command
+scene_command word option name =
+    if bytes_eq option (codes "--scene") then command_with_scene word (policy_stem name) else None
+
+-- the command that the words are
+abbrev pub command_of : List (List ℕ) → Option Command
+command_of [] = None
+command_of (word ∷ []) = one_word_command word
+command_of (word ∷ option ∷ []) = None
+command_of (word ∷ option ∷ name ∷ []) = scene_command word option name
+command_of (word ∷ option ∷ name ∷ other ∷ rest) = None
+
+-- whether the words are a command that reads the source
+abbrev pub reads_source : List (List ℕ) → Bool
+reads_source words = is_some (command_of words)
+
+-- whether a command uses the shelf: where it names a scene
+abbrev pub uses_shelf_for : Command → Bool
+uses_shelf_for (Compile scene) = is_some scene
+uses_shelf_for (Paths scene) = is_some scene
+uses_shelf_for Canon = false
+
+-- whether the words are a command that uses the shelf
+abbrev pub uses_shelf : List (List ℕ) → Bool
+uses_shelf words = option_map_or uses_shelf_for (command_of words) false

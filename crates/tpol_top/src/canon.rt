@@ -1,0 +1,36 @@
+ghost use Rattle.std.specs.Prelude.{◌≡◌, IfOk, IsErrOf};
+ghost use Rattle.tpol_top.specs.Canon.{canon_step};
+ghost use Rattle.tpol_top.specs.Outcome.{one_line};
+ghost use Rattle.tpol_top.specs.Steps.{Answers};
+ghost use Rattle.tpol_tree.specs.Erased.{erased_policy};
+ghost use Rattle.tpol_write.specs.Canonical.{canonical_text};
+
+use crate::halt::Halt;
+use crate::outcome::{Lines, Outcome, Verdict, push_bytes};
+use crate::read_step::read_document;
+use std::alloc::Global;
+use tpol_base::NoMemory;
+use tpol_tree::Policy;
+use tpol_write::write_policy;
+
+/// The command `canon`: the canonical text of the document.
+#[tactic(auto, unfolding(crate::specs::Canon::canon_step))]
+pub fn canon(alloc: Global, input: &[u8]) -> Result<Outcome, Halt>
+    ensures answer { Answers (λ outcome. outcome) (canon_step input.now) result }
+    ensures shelf { IsErrOf result Halt.ShelfFailed → ⊥ }
+{
+    match read_document(alloc, input) {
+        Ok((policy, _notes)) => Ok(canonical(alloc, &policy)?),
+        Err(halt) => Err(halt),
+    }
+}
+
+#[tactic(auto, using(crate::proofs::CanonErased::canonical_text_erased))]
+fn canonical(alloc: Global, policy: &Policy) -> Result<Outcome, NoMemory>
+    ensures { IfOk result (λ outcome. outcome ≡ one_line (canonical_text (erased_policy policy.now)) Verdict.Done) }
+{
+    let mut lines = Lines::new(alloc);
+    push_bytes(&mut lines, write_policy(alloc, policy)?)?;
+    let verdict = Verdict::Done;
+    Ok(Outcome { lines, verdict })
+}

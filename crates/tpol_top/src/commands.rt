@@ -1,0 +1,78 @@
+ghost use Rattle.std.specs.Prelude.{◌≡◌, ◌≤◌, IfSome, IsSome, IsTrue, IsErrOf};
+ghost use Rattle.tpol_base.specs.Causes.{Rose};
+ghost use Rattle.tpol_top.specs.Commands.{command_step, compile_step, paths_step};
+ghost use Rattle.tpol_top.specs.Steps.{Answers};
+ghost use Rattle.tpol_top.specs.Words.{uses_shelf_for};
+
+use crate::canon::canon;
+use crate::closed::closed_document;
+use crate::command::Command;
+use crate::compile::compiled;
+use crate::halt::Halt;
+use crate::listed::listed;
+use crate::outcome::Outcome;
+use std::alloc::Global;
+use tpol_base::{Shelf, Text};
+
+/// What a command has to say of a document that is not too large.
+pub fn answer_of_command<H: Shelf>(
+    alloc: Global,
+    command: &Command,
+    input: &[u8],
+    shelf: &mut H,
+) -> Result<Outcome, Halt>
+    ensures answer { IfSome (H.documents shelf.old) (λ all.
+        Answers (λ outcome. outcome) (command_step command.now input.now all) result) }
+    ensures keeps { H.documents shelf.new ≡ H.documents shelf.old }
+    ensures later { H.faults shelf.old ≤ H.faults shelf.new }
+    ensures failed { IsErrOf result Halt.ShelfFailed → Rose (H.faults shelf.old) (H.faults shelf.new) }
+    ensures named { IsErrOf result Halt.ShelfFailed → IsTrue (uses_shelf_for command.now) }
+{
+    match command {
+        Command::Compile { scene } => compile(alloc, scene, input, shelf),
+        Command::Paths { scene } => list_paths(alloc, scene, input, shelf),
+        Command::Canon => canon(alloc, input),
+    }
+}
+
+// The command `compile`.
+#[tactic(auto, unfolding(crate::specs::Commands::compile_step))]
+fn compile<H: Shelf>(
+    alloc: Global,
+    scene: &Option<Text>,
+    input: &[u8],
+    shelf: &mut H,
+) -> Result<Outcome, Halt>
+    ensures answer { IfSome (H.documents shelf.old) (λ all.
+        Answers (λ outcome. outcome) (compile_step scene.now input.now all) result) }
+    ensures keeps { H.documents shelf.new ≡ H.documents shelf.old }
+    ensures later { H.faults shelf.old ≤ H.faults shelf.new }
+    ensures failed { IsErrOf result Halt.ShelfFailed → Rose (H.faults shelf.old) (H.faults shelf.new) }
+    ensures named { IsErrOf result Halt.ShelfFailed → IsSome scene.now }
+{
+    match closed_document(alloc, scene, input, shelf) {
+        Ok((closed, notes)) => Ok(compiled(alloc, notes.as_slice(), &closed)?),
+        Err(halt) => Err(halt),
+    }
+}
+
+// The command `paths`.
+#[tactic(auto, unfolding(crate::specs::Commands::paths_step))]
+fn list_paths<H: Shelf>(
+    alloc: Global,
+    scene: &Option<Text>,
+    input: &[u8],
+    shelf: &mut H,
+) -> Result<Outcome, Halt>
+    ensures answer { IfSome (H.documents shelf.old) (λ all.
+        Answers (λ outcome. outcome) (paths_step scene.now input.now all) result) }
+    ensures keeps { H.documents shelf.new ≡ H.documents shelf.old }
+    ensures later { H.faults shelf.old ≤ H.faults shelf.new }
+    ensures failed { IsErrOf result Halt.ShelfFailed → Rose (H.faults shelf.old) (H.faults shelf.new) }
+    ensures named { IsErrOf result Halt.ShelfFailed → IsSome scene.now }
+{
+    match closed_document(alloc, scene, input, shelf) {
+        Ok((closed, _notes)) => listed(alloc, &closed),
+        Err(halt) => Err(halt),
+    }
+}

@@ -1,0 +1,32 @@
+//! The top call: everything that the program does, over a source, a sink and a shelf that are handed in.
+//!
+//! `policy_main` reads the words, then the source, makes the outcome of the command (its lines and its
+//! verdict), and prints it. No command sees the sink. What a run prints and answers is `report_of`, a
+//! definition over the definitions of the crates below.
+#![tactic(auto)]
+
+mod canon;
+mod closed;
+mod command;
+mod commands;
+mod compile;
+mod filled;
+mod halt;
+mod input;
+mod lines;
+mod listed;
+mod outcome;
+mod path_line;
+mod print;
+mod read_step;
+mod refusals;
+mod run;
+mod scene_step;
+mod status;
+mod top;
+
+pub use status::Status;
+pub use top::policy_main;
+
+#[cfg(test)]
+mod tests;

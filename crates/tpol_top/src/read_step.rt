@@ -1,0 +1,32 @@
+ghost use Rattle.tpol_top.specs.ReadStep.{read_step};
+ghost use Rattle.tpol_top.specs.Steps.{Answers};
+ghost use Rattle.std.specs.Prelude.{IfOk, IsErrOf};
+ghost use Rattle.tpol_tree.specs.BranchCounts.{EachOrHasBranches};
+ghost use Rattle.tpol_tree.specs.Erased.{erased_policy};
+
+use crate::halt::Halt;
+use crate::outcome::{Outcome, Verdict};
+use crate::refusals::{bad_policy, policy_kind_name};
+use std::alloc::Global;
+use tpol_read::{Notes, PolicyFault, read_policy};
+use tpol_tree::Policy;
+
+/// Reads the document, or ends the run at its first fault.
+#[tactic(auto, unfolding(crate::specs::ReadStep::read_step))]
+pub fn read_document(alloc: Global, input: &[u8]) -> Result<(Policy, Notes), Halt>
+    ensures answer { Answers (λ found. (erased_policy found.0, found.1)) (read_step input.now) result }
+    ensures shelf { IsErrOf result Halt.ShelfFailed → ⊥ }
+    ensures branches { IfOk result (λ found. EachOrHasBranches found.0.elements) }
+{
+    match read_policy(alloc, input) {
+        Ok(found) => Ok(found),
+        Err(PolicyFault::NotJson) => {
+            let line = "error BadPolicy NotJson";
+            Err(Halt::Refused(Outcome::of_line(alloc, line, Verdict::BadPolicy)?))
+        }
+        Err(PolicyFault::Bad { kind, place }) => {
+            Err(Halt::Refused(bad_policy(alloc, policy_kind_name(kind), &place)?))
+        }
+        Err(PolicyFault::NoMemory) => Err(Halt::NoMemory),
+    }
+}

@@ -1,0 +1,157 @@
+ghost use Rattle.std.specs.Prelude.{◌≡◌, ◌≤◌, Some, None, false, IsTrue, IfSome, IfOk, OnOk, OnErr, IsErrOf, map, drop};
+ghost use Rattle.std.specs.String.{string_bytes};
+ghost use Rattle.tpol_base.specs.Causes.{Rose, HasLapse};
+ghost use Rattle.tpol_top.specs.Report.{OfChoice, OfReport, most_read, report_of_command, report_of_input};
+ghost use Rattle.tpol_top.specs.Words.{command_of, reads_source, uses_shelf, uses_shelf_for};
+ghost use Rattle.tpol_top.specs.Status.{status_of_stop, IsPastReadingResult};
+
+use crate::Status;
+use crate::command::Command;
+use crate::commands::answer_of_command;
+use crate::halt::Halt;
+use crate::input::read_input;
+use crate::outcome::{Outcome, Verdict};
+use std::alloc::Global;
+use tpol_base::{Lapse, NoMemory, Shelf, Source};
+
+/// Why a run has no outcome.
+#[derive(Clone, Copy, Debug, PartialEq, Eq)]
+pub enum Stop {
+    ReadFault,
+    ShelfFault,
+    NoMemory,
+}
+
+impl Stop {
+    /// The status that the run answers.
+    pub fn status(self) -> Status
+        ensures { result ≡ status_of_stop self }
+    {
+        match self {
+            Stop::ReadFault => Status::ReadFault,
+            Stop::ShelfFault => Status::ShelfFault,
+            Stop::NoMemory => Status::NoMemory,
+        }
+    }
+}
+
+impl From<NoMemory> for Stop {
+    ghost use Rattle.tpol_top.specs.declared.run.Stop.TheVariants as S;
+
+    ghost from_gives = { λ _ stop. stop ≡ S.NoMemory };
+
+    fn from(_: NoMemory) -> Self {
+        Stop::NoMemory
+    }
+}
+
+/// The outcome of the words: of no command, or of the command that they are.
+pub fn outcome_of_words<S: Source, H: Shelf>(
+    alloc: Global,
+    words: &Vec<String>,
+    source: &mut S,
+    shelf: &mut H,
+) -> Result<Outcome, Stop>
+    ensures report { IfOk result (λ outcome.
+        OfReport (map string_bytes words.now.items) (S.left source.old) (H.documents shelf.old) (λ report.
+        (outcome ≡ report.outcome) × (H.documents shelf.new ≡ Some report.documents))) }
+    ensures keeps { OnErr result (H.documents shelf.new ≡ H.documents shelf.old) }
+    ensures read_whole { IsTrue (reads_source (map string_bytes words.now.items))
+        → IsPastReadingResult result
+        → IfSome (S.left source.old) (λ held. S.left source.new ≡ Some (drop most_read held)) }
+    ensures unread { reads_source (map string_bytes words.now.items) ≡ false
+        → S.left source.new ≡ S.left source.old }
+    ensures read_fault { IsErrOf result Stop.ReadFault → Rose (S.faults source.old) (S.faults source.new) }
+    ensures read_fault_of { IsErrOf result Stop.ReadFault
+        → IsTrue (reads_source (map string_bytes words.now.items)) }
+    ensures shelf_fault { IsErrOf result Stop.ShelfFault → Rose (H.faults shelf.old) (H.faults shelf.new) }
+    ensures shelf_fault_of { IsErrOf result Stop.ShelfFault
+        → IsTrue (uses_shelf (map string_bytes words.now.items)) }
+    ensures source_count { S.faults source.old ≤ S.faults source.new }
+    ensures shelf_count { H.faults shelf.old ≤ H.faults shelf.new }
+{
+    match Command::from_words(alloc, words)? {
+        Some(command) => outcome_of_source(alloc, &command, source, shelf),
+        None => Ok(Outcome::of_line(alloc, "error Usage", Verdict::Usage)?),
+    }
+}
+
+// The outcome of a command that reads the source.
+fn outcome_of_source<S: Source, H: Shelf>(
+    alloc: Global,
+    command: &Command,
+    source: &mut S,
+    shelf: &mut H,
+) -> Result<Outcome, Stop>
+    ensures report { IfOk result (λ outcome.
+        OfChoice (Some command.now) (S.left source.old) (H.documents shelf.old) (λ report.
+        (outcome ≡ report.outcome) × (H.documents shelf.new ≡ Some report.documents))) }
+    ensures keeps { OnErr result (H.documents shelf.new ≡ H.documents shelf.old) }
+    ensures read_whole { IsPastReadingResult result
+        → IfSome (S.left source.old) (λ held. S.left source.new ≡ Some (drop most_read held)) }
+    ensures read_fault { IsErrOf result Stop.ReadFault → Rose (S.faults source.old) (S.faults source.new) }
+    ensures shelf_fault { IsErrOf result Stop.ShelfFault → Rose (H.faults shelf.old) (H.faults shelf.new) }
+    ensures shelf_fault_of { IsErrOf result Stop.ShelfFault → IsTrue (uses_shelf_for command.now) }
+    ensures source_count { S.faults source.old ≤ S.faults source.new }
+    ensures shelf_count { H.faults shelf.old ≤ H.faults shelf.new }
+{
+    let input = match read_input(alloc, source, most_read()) {
+        Ok(input) => input,
+        Err(Lapse::Failed) => return Err(Stop::ReadFault),
+        Err(Lapse::NoMemory) => return Err(Stop::NoMemory),
+    };
+    match outcome_of_input(alloc, command, input.as_slice(), shelf) {
+        Ok(outcome) => Ok(outcome),
+        Err(Lapse::Failed) => Err(Stop::ShelfFault),
+        Err(Lapse::NoMemory) => Err(Stop::NoMemory),
+    }
+}
+
+// The number of bytes that are read at most: one more than a document may have.
+fn most_read() -> usize
+    ensures { result ≡ most_read }
+{
+    16_777_217
+}
+
+// The outcome of a command on what was read.
+fn outcome_of_input<H: Shelf>(
+    alloc: Global,
+    command: &Command,
+    input: &[u8],
+    shelf: &mut H,
+) -> Result<Outcome, Lapse>
+    ensures report { IfOk result (λ outcome. IfSome (H.documents shelf.old) (λ all.
+        let report = report_of_input command.now input.now all in
+        (outcome ≡ report.outcome) × (H.documents shelf.new ≡ Some report.documents))) }
+    ensures keeps { OnErr result (H.documents shelf.new ≡ H.documents shelf.old) }
+    ensures cause { HasLapse (H.faults shelf.old) (H.faults shelf.new) result }
+    ensures shelf_fault_of { IsErrOf result Lapse.Failed → IsTrue (uses_shelf_for command.now) }
+{
+    if input.len() >= most_read() {
+        return Ok(Outcome::of_line(alloc, "error TooLarge", Verdict::TooLarge)?);
+    }
+    outcome_of_command(alloc, command, input, shelf)
+}
+
+// The outcome of a command on a document that is not too large.
+fn outcome_of_command<H: Shelf>(
+    alloc: Global,
+    command: &Command,
+    input: &[u8],
+    shelf: &mut H,
+) -> Result<Outcome, Lapse>
+    ensures report { IfOk result (λ outcome. IfSome (H.documents shelf.old) (λ all.
+        let report = report_of_command command.now input.now all in
+        (outcome ≡ report.outcome) × (H.documents shelf.new ≡ Some report.documents))) }
+    ensures keeps { OnErr result (H.documents shelf.new ≡ H.documents shelf.old) }
+    ensures cause { HasLapse (H.faults shelf.old) (H.faults shelf.new) result }
+    ensures shelf_fault_of { IsErrOf result Lapse.Failed → IsTrue (uses_shelf_for command.now) }
+{
+    match answer_of_command(alloc, command, input, shelf) {
+        Ok(outcome) => Ok(outcome),
+        Err(Halt::Refused(outcome)) => Ok(outcome),
+        Err(Halt::ShelfFailed) => Err(Lapse::Failed),
+        Err(Halt::NoMemory) => Err(Lapse::NoMemory),
+    }
+}

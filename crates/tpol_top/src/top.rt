@@ -1,0 +1,77 @@
+ghost use Rattle.std.specs.Prelude.{◌≡◌, ◌≤◌, ◌⊎◌, Some, false, IsTrue, IfSome, map, drop};
+ghost use Rattle.std.specs.String.{string_bytes};
+ghost use Rattle.tpol_base.specs.Causes.{Rose, Grows, GrowsInPart};
+ghost use Rattle.tpol_top.specs.Outcome.{status_of, text_of};
+ghost use Rattle.tpol_top.specs.Report.{OfReport, most_read};
+ghost use Rattle.tpol_top.specs.Status.{IsWhole, IsSilent, IsPastReading};
+ghost use Rattle.tpol_top.specs.Words.{reads_source, uses_shelf};
+
+use crate::Status;
+use crate::print::print_lines;
+use crate::run::outcome_of_words;
+use std::alloc::Global;
+use tpol_base::{Failed, Shelf, Sink, Source};
+
+/// Does all that the program does: takes the words behind the program's name, reads the document from
+/// `source` where the command wants one, prints the report to `out`, one write a line, and answers the
+/// status. Documents that a command names are on the shelf.
+///
+/// `left`, `contents` and `documents` are what source, sink and shelf tell that they hold. Each count of
+/// faults is that object's own, and rises at each of its faults.
+pub fn policy_main<S: Source, K: Sink, H: Shelf>(
+    alloc: Global,
+    words: &Vec<String>,
+    source: &mut S,
+    out: &mut K,
+    shelf: &mut H,
+) -> Status
+    // What is printed, answered and left on the shelf is the report of the words, the source's bytes (up to
+    // byte 16,777,217) and the shelf's documents.
+    ensures report { IsWhole result
+        → OfReport (map string_bytes words.now.items) (S.left source.old) (H.documents shelf.old) (λ report.
+        (result ≡ status_of report.outcome.verdict)
+        × Grows (K.contents out.old) (K.contents out.new) (text_of report.outcome.lines)
+        × (H.documents shelf.new ≡ Some report.documents)) }
+
+    // Where the sink failed, a first part of the report was written.
+    ensures prefix { result ≡ Status.WriteFault
+        → OfReport (map string_bytes words.now.items) (S.left source.old) (H.documents shelf.old) (λ report.
+        GrowsInPart (K.contents out.old) (K.contents out.new) (text_of report.outcome.lines)
+        × (H.documents shelf.new ≡ Some report.documents)) }
+
+    // Where memory ran out too.
+    ensures memory { result ≡ Status.NoMemory
+        → OfReport (map string_bytes words.now.items) (S.left source.old) (H.documents shelf.old) (λ report.
+        GrowsInPart (K.contents out.old) (K.contents out.new) (text_of report.outcome.lines)
+        × ((H.documents shelf.new ≡ H.documents shelf.old) ⊎ (H.documents shelf.new ≡ Some report.documents))) }
+
+    // Where the source or the shelf failed, nothing was written, and the shelf is as before.
+    ensures silent { IsSilent result → K.contents out.new ≡ K.contents out.old }
+    ensures unchanged { IsSilent result → H.documents shelf.new ≡ H.documents shelf.old }
+
+    // A command that reads the source reads it to its end, or to its byte 16,777,217.
+    ensures read_whole { IsTrue (reads_source (map string_bytes words.now.items)) → IsPastReading result
+        → IfSome (S.left source.old) (λ held. S.left source.new ≡ Some (drop most_read held)) }
+    ensures unread { reads_source (map string_bytes words.now.items) ≡ false
+        → S.left source.new ≡ S.left source.old }
+
+    // Each fault comes only where its object failed in this call, and only of commands that use the object.
+    ensures read_fault { result ≡ Status.ReadFault → Rose (S.faults source.old) (S.faults source.new) }
+    ensures write_fault { result ≡ Status.WriteFault → Rose (K.faults out.old) (K.faults out.new) }
+    ensures shelf_fault { result ≡ Status.ShelfFault → Rose (H.faults shelf.old) (H.faults shelf.new) }
+    ensures read_fault_of { result ≡ Status.ReadFault → IsTrue (reads_source (map string_bytes words.now.items)) }
+    ensures shelf_fault_of { result ≡ Status.ShelfFault → IsTrue (uses_shelf (map string_bytes words.now.items)) }
+
+    // No count falls.
+    ensures source_count { S.faults source.old ≤ S.faults source.new }
+    ensures sink_count { K.faults out.old ≤ K.faults out.new }
+    ensures shelf_count { H.faults shelf.old ≤ H.faults shelf.new }
+{
+    match outcome_of_words(alloc, words, source, shelf) {
+        Ok(outcome) => match print_lines(out, outcome.lines.as_slice()) {
+            Ok(()) => outcome.verdict.status(),
+            Err(Failed) => Status::WriteFault,
+        },
+        Err(stop) => stop.status(),
+    }
+}
