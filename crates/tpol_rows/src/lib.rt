@@ -23,4 +23,4 @@ pub use rows::{leaf_row, without_pem};
 pub use types::{ElementType, LeafType, element_type, note_leaf};
 pub use walk::{Notes, Walk};
 pub use wishes::{index_wish, key_wish};
-pub use words::only_word;
+pub use words::{command_codes, only_word};

@@ -6,6 +6,8 @@
 #![tactic(auto)]
 
 mod canon;
+#[cfg(test)]
+mod canon_tests;
 mod closed;
 mod command;
 mod commands;

@@ -42,7 +42,7 @@ fn words_of(alloc: Global, words: &[&str]) -> Result<Vec<String>, AllocError> {
 }
 
 // What a run prints and answers, over objects in memory that never fail.
-fn run(
+pub fn run(
     alloc: Global,
     words: &[&str],
     input: &str,

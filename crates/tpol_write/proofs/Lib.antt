@@ -1,3 +1,14 @@
 mod Depths
 mod Floats
 mod ReadBack
+mod JsonLimits
+mod BytesBack
+mod WordsBack
+mod PublicsBack
+mod WishesBack
+mod FieldsBack
+mod PcrsBack
+mod RowsBack
+mod ElementsBack
+mod DocumentsBack
+mod Stands

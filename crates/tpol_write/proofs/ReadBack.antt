@@ -43,7 +43,7 @@ bytes_back bytes place h =
     ap (λ o. result_ok (decode_of (unwrap_or o text))) none ∙ ap result_ok (decode_of-encode_lower bytes h) in
     ap (λ o. hex_or_bad o place) read
 
-passed : (b : Bool) → T b → b ≡ true
+pub passed : (b : Bool) → T b → b ≡ true
 passed true h = refl
 passed false h = absurd h
 

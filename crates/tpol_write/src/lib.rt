@@ -14,5 +14,5 @@ mod rows;
 mod tests;
 mod wishes;
 
-pub use laws::{bytes_read_back, numbers_read_back};
+pub use laws::{bytes_read_back, canonical_values_stand, numbers_read_back};
 pub use policy::write_policy;

@@ -4,6 +4,7 @@ ghost use Rattle.tpol_json.specs.Document.{document_of};
 ghost use Rattle.tpol_tree.specs.declared.wishes.ApprovalWish.TheVariants.{ByKey, ByIndex};
 ghost use Rattle.tpol_write.specs.Approvals.{approval_value, approvals_members};
 ghost use Rattle.tpol_write.specs.Canonical.{canonical_text, policy_value};
+ghost use Rattle.tpol_write.specs.Laws.{StandsAlone};
 ghost use Rattle.tpol_write.specs.Levels.{levels_of_elements};
 ghost use Rattle.tpol_write.specs.Objects.{list_of, with_members};
 
@@ -24,6 +25,8 @@ pub fn write_policy(alloc: Global, policy: &Policy) -> Result<Blob, NoMemory>
     // With sixteen ORs inside one another at most it is a document of just that value.
     ensures reads { IfOk result (λ text. levels_of_elements policy.now.elements ≤ 16
         → document_of text ≡ Some (policy_value policy.now)) }
+    // It reads back: it stands for the policy without a note, if any document stands for the policy.
+    ensures stands { IfOk result (λ text. StandsAlone text policy.now) }
 {
     let text = policy_value(alloc, policy)?.to_string(alloc)?;
     Blob::from_slice(alloc, text.as_str().as_bytes())

@@ -8,9 +8,11 @@ use Rattle.serde_json.specs.Written.{compact_text, has_float}
 use Rattle.tpol_base.specs.declared.no_memory.NoMemory.{NoMemory}
 use Rattle.tpol_json.specs.Document.{document_of}
 use Rattle.tpol_write.specs.Canonical.{canonical_text, policy_value}
+use Rattle.tpol_write.specs.Laws.{StandsAlone}
 use Rattle.tpol_write.specs.Levels.{levels_of_elements}
 use Rattle.tpol_write.proofs.Depths.{policy_depth}
 use Rattle.tpol_write.proofs.Floats.{policy_none}
+use Rattle.tpol_write.proofs.Stands.{stands}
 use Rattle.tpol_write.proofs.policy.write_policy.Goals as goal
 
 copied : (P : List ℕ → Type 0) (r : Result (List ℕ) NoMemory) (source : List ℕ) → IfOk r (λ bytes. bytes ≡ source) → P source → IfOk r P
@@ -37,3 +39,18 @@ returns-clause-reads c =
     ap read (c.as_bytes.ensures.value ∙ c.as_str.ensures.value) ∙ c.in_ok-text.ensures.reads_back (rw value shallow) ∙ ap Some value in
     rw utf8 whole in
     copied (λ t. levels_of_elements p.elements ≤ 16 → document_of t ≡ Some (policy_value p)) c.from_slice.result source c.from_slice.ensures reads
+
+pub returns-clause-stands : goal.returns-clause-stands
+returns-clause-stands c =
+    let p = c.args.policy.now in
+    let source = c.as_bytes.result.now in
+    let value = c.in_ok-policy_value.ensures in
+    let utf8 : is_utf8 source ≡ true = is_utf8-from_IsUtf8 source c.as_bytes.ensures.utf8 in
+    let alone : StandsAlone source p = λ d notes says.
+    let law = stands d p notes says in
+    let shallow : depth (policy_value p) ≤ max_depth = policy_depth p law.1 in
+    let whole : read source ≡ Some (policy_value p) =
+    ap read (c.as_bytes.ensures.value ∙ c.as_str.ensures.value) ∙ c.in_ok-text.ensures.reads_back (rw value shallow) ∙ ap Some value in
+    let is_value : document_of source ≡ Some (policy_value p) = rw utf8 whole in
+    (policy_value p, is_value, law.0) in
+    copied (λ t. StandsAlone t p) c.from_slice.result source c.from_slice.ensures alone

@@ -1,0 +1,397 @@
+-- The localities and the PCRs that canonical text writes read back.
+use Rattle.std.proofs.Common.{◌≡◌, ℕ, zero, suc, ◌+◌, ◌-◌, ◌*◌, ◌%◌, ◌^◌, ◌<◌, ◌≤◌, ◌==◌, nat_lt, bit_or, bit_and, Bool, true, false, not, cond, List, [], ◌∷◌, ◌++◌, length, map, codes, Option, Some, None, Ok, Err, refl, sym, ap, subst, ◌∙◌, arith, unwrap_or, insert, position, append_assoc, append-nil, one-add, mod-eq_of_lt, ◌≢◌, ◌||◌, if◌then◌else◌}
+use Rattle.std.specs.Int.{bit_at}
+use Rattle.std.specs.List.{position_or_len}
+use Rattle.std.proofs.lemmas.Bool.{ltb-true, ltb-false, le-ltb, eqb-false, ne_eqb}
+use Rattle.std.proofs.lemmas.List.Sums.{prefix_len-le-length}
+use Rattle.std.proofs.lemmas.Nat.{or_lt, or_disjoint, pow_below, pow_pos, mod-pow-add, mod_below, le_or_r}
+use Rattle.std.proofs.lemmas.Nat.Bits.{and_pow, bit_at_above, bit_at-lt}
+use Rattle.serde_json.specs.Data.{Data, null, boolean, number, string, array, object, Items, no_items, item}
+use Rattle.serde_json.specs.Find.{get, as_array}
+use Rattle.serde_json.specs.View.{items_of}
+use Rattle.tpol_base.specs.declared.digest.Digest32.{Digest32}
+use Rattle.tpol_write.proofs.BytesBack.{bound, unsigned-fits, unsigned-back, FitsDigest, digest-fits, digest-back}
+use Rattle.tpol_write.proofs.FieldsBack.{needed-fits}
+use Rattle.tpol_write.proofs.WishesBack.{Leaving, all_still, all_ways}
+use Rattle.tpol_json.specs.Words.{same_word}
+use Rattle.tpol_json.specs.Places.{at_member, at_item}
+use Rattle.tpol_json.specs.declared.place.Place.{Place}
+use Rattle.tpol_read.proofs.AllFound.{AllFound, all_after, all_then, all_map}
+use Rattle.tpol_rows.specs.Bytes.{digest_in}
+use Rattle.tpol_rows.specs.Faults.{Found, bad}
+use Rattle.tpol_rows.specs.Members.{object_in, read_needed, noted}
+use Rattle.tpol_rows.specs.Numbers.{unsigned_in, locality_word_in, localities_from, locality_list, localities_or, locality_in}
+use Rattle.tpol_rows.specs.Pcrs.{PcrList, has_value, with_value, new_pcr_in, pcr_member, bank_member, value_member, pcr_value_in, pcr_values_from, wish_of_values, pcr_values_in, pcr_bit, mask_from, mask_of_list, mask_in, current_pcrs_in, select_member, bank_in, only_bank, bank_or_list, banks_in, pcrs_among, pcrs_in}
+use Rattle.tpol_rows.specs.Walks.{still}
+use Rattle.tpol_rows.specs.Words.{find_word, found_or, localities}
+use Rattle.tpol_rows.specs.declared.fault.PolicyKind.{PolicyKind}
+use Rattle.tpol_rows.specs.declared.fault.PolicyKind.TheVariants.{BadNumber, Twice}
+use Rattle.tpol_rows.specs.declared.walk.Walk.{Walk}
+use Rattle.tpol_tree.specs.declared.wishes.PcrWish.{PcrWish}
+use Rattle.tpol_tree.specs.declared.wishes.PcrWish.TheVariants.{Values, Current}
+use Rattle.tpol_write.specs.Elements.{typed}
+use Rattle.tpol_write.specs.Objects.{natural, list_of}
+use Rattle.tpol_write.specs.Wishes.{pcr_value, pcrs_below, pcrs_member}
+
+-- ---- localities
+
+-- a set of at least one of the five localities
+abbrev IsLocalities : ℕ → Type 0
+IsLocalities n = (1 ≤ n) × (n ≤ 31)
+
+-- each of these words stands for localities
+abbrev AllWords : List (List ℕ × ℕ) → Type 0
+AllWords [] = Unit {0}
+AllWords (word ∷ words) = IsLocalities word.1 × AllWords words
+
+all_or : (same : Bool) (n : ℕ) (later : Option ℕ) (otherwise : Found ℕ) → IsLocalities n → AllFound IsLocalities (found_or later otherwise) → AllFound IsLocalities (found_or (if same then Some n else later) otherwise)
+all_or true n later otherwise is all = is
+all_or false n later otherwise is all = all
+
+words_found : (prefix text : List ℕ) (words : List (List ℕ × ℕ)) (kind : PolicyKind) (place : Place) → AllWords words → AllFound IsLocalities (found_or (find_word prefix words text) (bad kind place))
+unfolding find_word
+words_found prefix text [] kind place all = tt {0}
+words_found prefix text (word ∷ words) kind place all =
+    all_or (same_word text prefix word.0) word.1 (find_word prefix words text) (bad kind place) all.0 (words_found prefix text words kind place all.1)
+
+locality_word-fits : (d : Data) (place : Place) → AllFound IsLocalities (locality_word_in d place)
+locality_word-fits null place = tt {0}
+locality_word-fits (boolean b) place = tt {0}
+locality_word-fits (number n) place = tt {0}
+locality_word-fits (string s) place = words_found (codes "TPM2_LOC_") s localities BadNumber place (search arith)
+locality_word-fits (array ds) place = tt {0}
+locality_word-fits (object ms) place = tt {0}
+
+-- two sets together
+both : (m n : ℕ) → m ≤ 31 → IsLocalities n → IsLocalities (bit_or m n)
+both m n below fits = (omega (arith, fits.0, le_or_r m n), omega (arith, or_lt 5 m n (omega arith) (omega (arith, fits.1))))
+
+localities_from-fits : (set index : ℕ) (ds : Items) (place : Place) → IsLocalities set → AllFound IsLocalities (localities_from set index ds place)
+localities_from-fits set index no_items place fits = fits
+localities_from-fits set index (item d ds) place fits =
+    all_then IsLocalities IsLocalities (locality_word_in d (at_item place index)) _ (locality_word-fits d (at_item place index))
+    (λ bit is. localities_from-fits (bit_or set bit) (suc index) ds place (both set bit fits.1 is))
+
+locality_list-fits : (ds : Items) (place : Place) → AllFound IsLocalities (locality_list ds place)
+locality_list-fits no_items place = tt {0}
+locality_list-fits (item d ds) place =
+    all_then IsLocalities IsLocalities (locality_word_in d (at_item place 0)) _ (locality_word-fits d (at_item place 0))
+    (λ bit is. localities_from-fits (bit_or 0 bit) 1 ds place (both 0 bit (omega arith) is))
+
+localities-fits : (list : Option Items) (d : Data) (place : Place) → AllFound IsLocalities (localities_or list (unsigned_in 1 31 d place) place)
+localities-fits None d place = unsigned-fits 1 31 d place
+localities-fits (Some ds) d place = locality_list-fits ds place
+
+-- the localities that a document writes read back from their number
+pub localities_back : (d : Data) (place : Place) → AllFound (λ n. (other : Place) → locality_in (natural n) other ≡ Ok n) (locality_in d place)
+localities_back d place =
+    all_map IsLocalities (λ n. (other : Place) → locality_in (natural n) other ≡ Ok n) (locality_in d place) (localities-fits (as_array d) d place)
+    (λ n fits other. let small : n ≤ 2 ^ 63 - 1 = omega (arith, fits.1) in unsigned-back 1 31 n other fits.0 fits.1 small)
+
+-- ---- PCRs with their values, in rising order
+
+-- from this PCR on, in rising order, each with 32 bytes
+abbrev Rising : ℕ → PcrList → Type 0
+Rising low [] = Unit {0}
+Rising low (value ∷ values) = (low ≤ value.0) × (value.0 ≤ 31) × FitsDigest value.1 × Rising (suc value.0) values
+
+-- the first of a greater PCR is there, or all values are before it
+placed : (values : PcrList) (test : (ℕ × Digest32) → Bool) → unwrap_or (position test values) (length values) ≡ position_or_len test values
+placed values test = either (nat_lt (position_or_len test values) (length values)) refl
+  where
+    either : (within : Bool) → nat_lt (position_or_len test values) (length values) ≡ within → unwrap_or (cond within (Some (position_or_len test values)) None) (length values) ≡ position_or_len test values
+    either true is = refl
+    either false is =
+        let low : length values ≤ position_or_len test values = ltb-false (position_or_len test values) (length values) is in
+        let high : position_or_len test values ≤ length values = prefix_len-le-length (λ x. not (test x)) values in
+        omega arith
+
+-- one more value, put in step by step
+abbrev put_value : PcrList → ℕ → Digest32 → PcrList
+put_value [] pcr digest = (pcr, digest) ∷ []
+put_value (value ∷ values) pcr digest = cond (nat_lt pcr value.0) ((pcr, digest) ∷ value ∷ values) (value ∷ put_value values pcr digest)
+
+put_step : (test : Bool) (value : ℕ × Digest32) (values : PcrList) (index : ℕ) (new : ℕ × Digest32) (rest : PcrList) → insert values index new ≡ rest → insert (value ∷ values) (cond (not test) (1 + index) 0) new ≡ cond test (new ∷ value ∷ values) (value ∷ rest)
+put_step true value values index new rest e = refl
+put_step false value values index new rest e = ap (λ i. insert (value ∷ values) i new) (one-add index) ∙ ap (λ r. value ∷ r) e
+
+put_value-is : (values : PcrList) (pcr : ℕ) (digest : Digest32) → insert values (position_or_len (λ value. nat_lt pcr value.0) values) (pcr, digest) ≡ put_value values pcr digest
+put_value-is [] pcr digest = refl
+put_value-is (value ∷ values) pcr digest =
+    put_step (nat_lt pcr value.0) value values (position_or_len (λ v. nat_lt pcr v.0) values) (pcr, digest) (put_value values pcr digest) (put_value-is values pcr digest)
+
+with_value-is : (values : PcrList) (pcr : ℕ) (digest : Digest32) → with_value values pcr digest ≡ put_value values pcr digest
+unfolding with_value
+with_value-is values pcr digest =
+    ap (λ i. insert values i (pcr, digest)) (placed values (λ value. nat_lt pcr value.0)) ∙ put_value-is values pcr digest
+
+first_no : (x y : Bool) → (x || y) ≡ false → x ≡ false
+first_no true y neither = neither
+first_no false y neither = refl
+
+second_no : (x y : Bool) → (x || y) ≡ false → y ≡ false
+second_no true y neither = cc neither
+second_no false y neither = neither
+
+rising_step : (test : Bool) (low pcr : ℕ) (digest : Digest32) (value : ℕ × Digest32) (values rest : PcrList) → nat_lt pcr value.0 ≡ test → Rising low (value ∷ values) → low ≤ pcr → pcr ≤ 31 → FitsDigest digest → (value.0 == pcr) ≡ false → (suc value.0 ≤ pcr → Rising (suc value.0) rest) → Rising low (cond test ((pcr, digest) ∷ value ∷ values) (value ∷ rest))
+rising_step true low pcr digest value values rest is rising from most fits other later =
+    (from, most, fits, (ltb-true pcr value.0 is, rising.1, rising.2, rising.3))
+rising_step false low pcr digest value values rest is rising from most fits other later =
+    let before : value.0 ≤ pcr = ltb-false pcr value.0 is in
+    let apart : value.0 ≢ pcr = eqb-false value.0 pcr other in
+    (rising.0, rising.1, rising.2, later (omega arith))
+
+put_value-rising : (low : ℕ) (values : PcrList) (pcr : ℕ) (digest : Digest32) → Rising low values → low ≤ pcr → pcr ≤ 31 → FitsDigest digest → has_value values pcr ≡ false → Rising low (put_value values pcr digest)
+put_value-rising low [] pcr digest rising from most fits new = (from, most, fits, tt)
+put_value-rising low (value ∷ values) pcr digest rising from most fits new =
+    rising_step (nat_lt pcr value.0) low pcr digest value values (put_value values pcr digest) refl rising from most fits (first_no (value.0 == pcr) (has_value values pcr) new)
+    (λ later. put_value-rising (suc value.0) values pcr digest rising.3 later most fits (second_no (value.0 == pcr) (has_value values pcr) new))
+
+with_value-rising : (values : PcrList) (pcr : ℕ) (digest : Digest32) → Rising 0 values → pcr ≤ 31 → FitsDigest digest → has_value values pcr ≡ false → Rising 0 (with_value values pcr digest)
+with_value-rising values pcr digest rising most fits new =
+    subst (Rising 0) (sym (with_value-is values pcr digest)) (put_value-rising 0 values pcr digest rising (omega arith) most fits new)
+
+-- ---- reading PCRs with their values
+
+-- a PCR that has no value yet
+abbrev NewPcr : PcrList → ℕ → Type 0
+NewPcr values pcr = (pcr ≤ 31) × (has_value values pcr ≡ false)
+
+new_or_bad : (values : PcrList) (pcr : ℕ) (place : Place) (has : Bool) → has_value values pcr ≡ has → pcr ≤ 31 → AllFound (NewPcr values) (if has then bad Twice place else Ok pcr)
+new_or_bad values pcr place true is most = tt {0}
+new_or_bad values pcr place false is most = (most, is)
+
+new_pcr-fits : (values : PcrList) (d : Data) (place : Place) → AllFound (NewPcr values) (new_pcr_in values d place)
+new_pcr-fits values d place =
+    all_then (λ pcr. (0 ≤ pcr) × (pcr ≤ 31)) (NewPcr values) (unsigned_in 0 31 d place) _ (unsigned-fits 0 31 d place)
+    (λ pcr limits. new_or_bad values pcr place (has_value values pcr) refl limits.1)
+
+-- a value beside those before it, and no element was counted
+abbrev NewValue : PcrList → Walk → (ℕ × Digest32) × Walk → Type 0
+NewValue values walk found = (found.1.left ≡ walk.left) × NewPcr values found.0.0 × FitsDigest found.0.1
+
+pcr_value-fits : (values : PcrList) (d : Data) (place : Place) (walk : Walk) → AllFound (NewValue values walk) (pcr_value_in values d place walk)
+unfolding pcr_value_in pcr_member value_member noted
+pcr_value-fits values d place walk =
+    all_after (NewValue values walk) (object_in d place) _
+    (λ is_object. all_then (NewPcr values) (NewValue values walk) (pcr_member values d place) _ (needed-fits (NewPcr values) (new_pcr_in values) (get (codes "pcr") d) (at_member place (codes "pcr")) (new_pcr-fits values))
+    (λ pcr new. all_after (NewValue values walk) (bank_member (codes "hashAlg") d place) _
+    (λ bank. all_then FitsDigest (NewValue values walk) (value_member d place) _ (needed-fits FitsDigest digest_in (get (codes "digest") d) (at_member place (codes "digest")) digest-fits)
+    (λ digest fits. (refl, new, fits)))))
+
+-- values in rising order, and no element was counted
+abbrev AllValues : ℕ → PcrList × Walk → Type 0
+AllValues left found = (found.1.left ≡ left) × Rising 0 found.0
+
+pcr_values-fits : (left : ℕ) (values : PcrList) (index : ℕ) (ds : Items) (place : Place) (walk : Walk) → walk.left ≡ left → Rising 0 values → AllFound (AllValues left) (pcr_values_from values index ds place walk)
+pcr_values-fits left values index no_items place walk counted rising = (counted, rising)
+pcr_values-fits left values index (item d ds) place walk counted rising =
+    all_then (NewValue values walk) (AllValues left) (pcr_value_in values d (at_item place index) walk) _ (pcr_value-fits values d (at_item place index) walk)
+    (λ found new. pcr_values-fits left (with_value values found.0.0 found.0.1) (suc index) ds place found.1 (new.0 ∙ counted)
+    (with_value-rising values found.0.0 found.0.1 rising new.1.0 new.2 new.1.1))
+
+-- ---- reading them back
+
+-- a value with its PCR reads back beside those before it
+pcr_member-back : (values : PcrList) (value : ℕ × Digest32) (place : Place) → NewPcr values value.0 → pcr_member values (pcr_value value) place ≡ Ok value.0
+unfolding pcr_member
+pcr_member-back values value place new =
+    let at = at_member place (codes "pcr") in
+    let small : value.0 ≤ 2 ^ 63 - 1 = omega (arith, new.0) in
+    bound (unsigned_in 0 31 (natural value.0) at) value.0 (λ pcr. if has_value values pcr then bad Twice at else Ok pcr) (Ok value.0) (unsigned-back 0 31 value.0 at (omega arith) new.0 small)
+    (ap (λ has. if has then bad Twice at else Ok value.0) new.1)
+
+bank_member-back : (value : ℕ × Digest32) (place : Place) → bank_member (codes "hashAlg") (pcr_value value) place ≡ Ok 11
+unfolding bank_member find_word
+bank_member-back value place = refl
+
+value_member-back : (value : ℕ × Digest32) (place : Place) → FitsDigest value.1 → value_member (pcr_value value) place ≡ Ok value.1
+unfolding value_member
+value_member-back value place fits = digest-back value.1 (at_member place (codes "digest")) fits
+
+-- all members of a value are known
+none_noted : (value : ℕ × Digest32) (place : Place) (walk : Walk) → noted (codes "pcr" ∷ codes "hashAlg" ∷ codes "digest" ∷ []) (pcr_value value) place walk ≡ walk
+unfolding noted
+none_noted value place walk = ap (λ notes. record walk { notes = notes }) (append-nil walk.notes)
+
+pcr_value-back : (values : PcrList) (value : ℕ × Digest32) (place : Place) (walk : Walk) → NewPcr values value.0 → FitsDigest value.1 → pcr_value_in values (pcr_value value) place walk ≡ Ok (value, walk)
+unfolding pcr_value_in
+pcr_value-back values value place walk new fits =
+    rw (pcr_member-back values value place new, bank_member-back value place, value_member-back value place fits, none_noted value place walk)
+
+-- all before this PCR
+abbrev AllBelow : ℕ → PcrList → Type 0
+AllBelow low [] = Unit {0}
+AllBelow low (value ∷ values) = (value.0 < low) × AllBelow low values
+
+none_has : (low : ℕ) (values : PcrList) (pcr : ℕ) → AllBelow low values → low ≤ pcr → has_value values pcr ≡ false
+none_has low [] pcr before from = refl
+none_has low (value ∷ values) pcr before from =
+    let apart : value.0 ≢ pcr = omega (arith, before.0) in
+    ap (λ b. b || has_value values pcr) (ne_eqb value.0 pcr apart) ∙ none_has low values pcr before.1 from
+
+put_last : (low : ℕ) (values : PcrList) (pcr : ℕ) (digest : Digest32) → AllBelow low values → low ≤ pcr → put_value values pcr digest ≡ values ++ (pcr, digest) ∷ []
+put_last low [] pcr digest before from = refl
+put_last low (value ∷ values) pcr digest before from =
+    let less : value.0 ≤ pcr = omega (arith, before.0) in
+    ap (λ b. cond b ((pcr, digest) ∷ value ∷ values) (value ∷ put_value values pcr digest)) (le-ltb pcr value.0 less)
+    ∙ ap (λ vs. value ∷ vs) (put_last low values pcr digest before.1 from)
+
+below_more : (low : ℕ) (values : PcrList) (new : ℕ × Digest32) → AllBelow low values → low ≤ new.0 → AllBelow (suc new.0) (values ++ new ∷ [])
+below_more low [] new before from = (omega arith, tt)
+below_more low (value ∷ values) new before from = (omega (arith, before.0, from), below_more low values new before.1 from)
+
+values-back : (low : ℕ) (before after : PcrList) (index : ℕ) (place : Place) (walk : Walk) → AllBelow low before → Rising low after → pcr_values_from before index (items_of (map pcr_value after)) place walk ≡ Ok (before ++ after, walk)
+values-back low before [] index place walk below rising = ap (λ vs. Ok (vs, walk)) (sym (append-nil before))
+values-back low before (value ∷ values) index place walk below rising =
+    let new = none_has low before value.0 below rising.0 in
+    let put : with_value before value.0 value.1 ≡ before ++ value ∷ [] = with_value-is before value.0 value.1 ∙ put_last low before value.0 value.1 below rising.0 in
+    bound (pcr_value_in before (pcr_value value) (at_item place index) walk) (value, walk) _ (Ok (before ++ value ∷ values, walk)) (pcr_value-back before value (at_item place index) walk (rising.1, new) rising.2)
+    (ap (λ vs. pcr_values_from vs (suc index) (items_of (map pcr_value values)) place walk) put
+    ∙ values-back (suc value.0) (before ++ value ∷ []) values (suc index) place walk (below_more low before value below rising.0) rising.3
+    ∙ ap (λ vs. Ok (vs, walk)) (append_assoc before (value ∷ []) values))
+
+-- ---- masks
+
+-- a mask of 32 PCRs
+abbrev IsMask : ℕ → Type 0
+IsMask mask = mask < 2 ^ 32
+
+pcr_bit-fits : (d : Data) (place : Place) → AllFound IsMask (pcr_bit d place)
+pcr_bit-fits d place =
+    all_then (λ pcr. (0 ≤ pcr) × (pcr ≤ 31)) IsMask (unsigned_in 0 31 d place) _ (unsigned-fits 0 31 d place)
+    (λ pcr limits. pow_below pcr 32 (omega (arith, limits.1)))
+
+mask_from-fits : (mask index : ℕ) (ds : Items) (place : Place) → IsMask mask → AllFound IsMask (mask_from mask index ds place)
+mask_from-fits mask index no_items place is = is
+mask_from-fits mask index (item d ds) place is =
+    all_then IsMask IsMask (pcr_bit d (at_item place index)) _ (pcr_bit-fits d (at_item place index))
+    (λ bit small. mask_from-fits (bit_or mask bit) (suc index) ds place (or_lt 32 mask bit is small))
+
+mask_of_list-fits : (list : Option Items) (place : Place) → AllFound IsMask (mask_of_list list place)
+mask_of_list-fits None place = tt {0}
+mask_of_list-fits (Some ds) place = mask_from-fits 0 0 ds place (omega arith)
+
+-- the mask with the bits of these PCRs
+abbrev with_bits : ℕ → List ℕ → ℕ
+with_bits mask [] = mask
+with_bits mask (pcr ∷ pcrs) = with_bits (bit_or mask (2 ^ pcr)) pcrs
+
+-- each is a PCR
+abbrev AllPcrs : List ℕ → Type 0
+AllPcrs [] = Unit {0}
+AllPcrs (pcr ∷ pcrs) = (pcr ≤ 31) × AllPcrs pcrs
+
+bits_append : (mask : ℕ) (first second : List ℕ) → with_bits mask (first ++ second) ≡ with_bits (with_bits mask first) second
+bits_append mask [] second = refl
+bits_append mask (pcr ∷ pcrs) second = bits_append (bit_or mask (2 ^ pcr)) pcrs second
+
+all_append : (first second : List ℕ) → AllPcrs first → AllPcrs second → AllPcrs (first ++ second)
+all_append [] second all others = others
+all_append (pcr ∷ pcrs) second all others = (all.0, all_append pcrs second all.1 others)
+
+at_most_one : (test : Bool) (pcr : ℕ) → pcr ≤ 31 → AllPcrs (if test then pcr ∷ [] else [])
+at_most_one true pcr most = (most, tt)
+at_most_one false pcr most = tt {0}
+
+pcrs_below-fits : (count mask : ℕ) → count ≤ 32 → AllPcrs (pcrs_below count mask)
+unfolding pcrs_below
+pcrs_below-fits zero mask most = tt {0}
+pcrs_below-fits (suc count) mask most =
+    all_append (pcrs_below count mask) (if bit_at mask count == 1 then count ∷ [] else []) (pcrs_below-fits count mask (omega arith)) (at_most_one (bit_at mask count == 1) count (omega arith))
+
+-- one more bit above all others
+last_bit : (mask place bit : ℕ) → mask < 2 ^ place → bit < 2 → with_bits mask (if bit == 1 then place ∷ [] else []) ≡ bit * 2 ^ place + mask
+last_bit mask place zero small least = omega arith
+last_bit mask place (suc zero) small least =
+    let none : bit_at mask place ≡ 0 = bit_at_above mask place place small (omega arith) in
+    let apart : bit_and mask (2 ^ place) ≡ 0 = and_pow mask place ∙ ap (λ b. b * 2 ^ place) none ∙ omega arith in
+    or_disjoint mask (2 ^ place) apart ∙ omega arith
+last_bit mask place (suc (suc bit)) small least = absurd (omega arith)
+
+low_bits : (mask count : ℕ) → mask % 2 ^ suc count ≡ bit_at mask count * 2 ^ count + mask % 2 ^ count
+low_bits mask count =
+    let more : suc count ≡ 1 + count = omega arith in
+    ap (λ n. mask % 2 ^ n) more ∙ mod-pow-add mask 1 count
+
+-- the PCRs below a number give that many bits of the mask
+bits_below : (count mask : ℕ) → with_bits 0 (pcrs_below count mask) ≡ mask % 2 ^ count
+unfolding pcrs_below
+bits_below zero mask = omega arith
+bits_below (suc count) mask =
+    let last = if bit_at mask count == 1 then count ∷ [] else [] in
+    bits_append 0 (pcrs_below count mask) last
+    ∙ ap (λ m. with_bits m last) (bits_below count mask)
+    ∙ last_bit (mask % 2 ^ count) count (bit_at mask count) (mod_below mask (2 ^ count) (pow_pos count)) (bit_at-lt mask count)
+    ∙ sym (low_bits mask count)
+
+pcr_bit-back : (pcr : ℕ) (place : Place) → pcr ≤ 31 → pcr_bit (natural pcr) place ≡ Ok (2 ^ pcr)
+pcr_bit-back pcr place most =
+    let small : pcr ≤ 2 ^ 63 - 1 = omega arith in
+    bound (unsigned_in 0 31 (natural pcr) place) pcr (λ n. Ok (2 ^ n)) (Ok (2 ^ pcr)) (unsigned-back 0 31 pcr place (omega arith) most small) refl
+
+mask_from-back : (mask index : ℕ) (pcrs : List ℕ) (place : Place) → AllPcrs pcrs → mask_from mask index (items_of (map natural pcrs)) place ≡ Ok (with_bits mask pcrs)
+mask_from-back mask index [] place all = refl
+mask_from-back mask index (pcr ∷ pcrs) place all =
+    bound (pcr_bit (natural pcr) (at_item place index)) (2 ^ pcr) (λ bit. mask_from (bit_or mask bit) (suc index) (items_of (map natural pcrs)) place) (Ok (with_bits mask (pcr ∷ pcrs))) (pcr_bit-back pcr (at_item place index) all.0)
+    (mask_from-back (bit_or mask (2 ^ pcr)) (suc index) pcrs place all.1)
+
+mask-back : (mask : ℕ) (place : Place) → IsMask mask → mask_in (list_of (map natural (pcrs_below 32 mask))) place ≡ Ok mask
+mask-back mask place is =
+    let whole : mask % 2 ^ 32 ≡ mask = mod-eq_of_lt is in
+    mask_from-back 0 0 (pcrs_below 32 mask) place (pcrs_below-fits 32 mask (omega arith)) ∙ ap Ok (bits_below 32 mask ∙ whole)
+
+-- ---- PCRs
+
+-- PCRs that read back
+abbrev FitsPcrs : PcrWish → Type 0
+FitsPcrs (Values values) = Rising 0 values
+FitsPcrs (Current mask) = IsMask mask
+
+wish_of_values-fits : (list : Option Items) (place : Place) (walk : Walk) → AllFound (Leaving FitsPcrs walk) (wish_of_values list place walk)
+wish_of_values-fits None place walk = tt {0}
+wish_of_values-fits (Some ds) place walk =
+    all_then (AllValues walk.left) (Leaving FitsPcrs walk) (pcr_values_from [] 0 ds place walk) _ (pcr_values-fits walk.left [] 0 ds place walk refl tt)
+    (λ found all. all)
+
+current_pcrs-fits : (d : Data) (place : Place) → AllFound FitsPcrs (current_pcrs_in d place)
+current_pcrs-fits d place = all_then IsMask FitsPcrs (mask_in d place) _ (mask_of_list-fits (as_array d) place) (λ mask is. is)
+
+bank-fits : (walk : Walk) (d : Data) (place : Place) → AllFound (Leaving FitsPcrs walk) (bank_in walk d place)
+unfolding bank_in select_member noted
+bank-fits walk d place =
+    all_after (Leaving FitsPcrs walk) (object_in d place) _
+    (λ is_object. all_after (Leaving FitsPcrs walk) (bank_member (codes "hash") d place) _
+    (λ bank. all_then IsMask (Leaving FitsPcrs walk) (select_member d place) _ (needed-fits IsMask mask_in (get (codes "pcrSelect") d) (at_member place (codes "pcrSelect")) (λ e at. mask_of_list-fits (as_array e) at))
+    (λ mask is. (refl, is))))
+
+only_bank-fits : (walk : Walk) (ds : Items) (place : Place) → AllFound (Leaving FitsPcrs walk) (only_bank walk ds place)
+only_bank-fits walk no_items place = tt {0}
+only_bank-fits walk (item d no_items) place = bank-fits walk d (at_item place 0)
+only_bank-fits walk (item d (item other ds)) place = tt {0}
+
+banks-fits : (list : Option Items) (walk : Walk) (d : Data) (place : Place) → AllFound (Leaving FitsPcrs walk) (bank_or_list list walk d place)
+banks-fits None walk d place = bank-fits walk d place
+banks-fits (Some ds) walk d place = only_bank-fits walk ds place
+
+wish-fits : (d : Data) (place : Place) (walk : Walk) → AllFound (Leaving FitsPcrs walk) (pcrs_in d place walk)
+unfolding pcrs_among
+wish-fits d place walk =
+    all_ways (Leaving FitsPcrs walk) ((codes "pcrs", pcr_values_in walk) ∷ (codes "currentPCRs", λ e at. still (current_pcrs_in e at) walk) ∷ (codes "currentPCRandBanks", banks_in walk) ∷ []) (at_member place (codes "pcrs")) d place (
+      λ e at. wish_of_values-fits (as_array e) at walk,
+      (
+        λ e at. all_still FitsPcrs (current_pcrs_in e at) walk (current_pcrs-fits e at),
+        (λ e at. banks-fits (as_array e) walk e at, tt),
+      ),
+    )
+
+wish-back : (wish : PcrWish) (place : Place) (walk : Walk) → FitsPcrs wish → pcrs_in (typed (codes "POLICYPCR") (pcrs_member wish ∷ [])) place walk ≡ Ok (wish, walk)
+unfolding pcrs_among
+wish-back (Values values) place walk rising = rw (values-back 0 [] values 0 (at_member place (codes "pcrs")) walk tt rising)
+wish-back (Current mask) place walk is = rw (mask-back mask (at_member place (codes "currentPCRs")) is)
+
+-- the PCRs that a document writes read back from the one member that canonical text writes of them, which leaves no note
+pub pcrs_back : (d : Data) (place : Place) (walk : Walk) → AllFound (λ found. (found.1.left ≡ walk.left) × ((other : Place) (before : Walk) → pcrs_in (typed (codes "POLICYPCR") (pcrs_member found.0 ∷ [])) other before ≡ Ok (found.0, before))) (pcrs_in d place walk)
+pcrs_back d place walk =
+    all_map (Leaving FitsPcrs walk) _ (pcrs_in d place walk) (wish-fits d place walk)
+    (λ found fits. (fits.0, λ other before. wish-back found.0 other before fits.1))

@@ -1,0 +1,309 @@
+-- Keys, indices, entities, parents and Names read back from the one member that canonical text writes of them.
+use Rattle.std.specs.Prelude.{⊤}
+use Rattle.std.proofs.Common.{◌≡◌, ℕ, suc, ◌+◌, ◌&&◌, nat_le, Bool, true, false, List, [], ◌∷◌, ◌++◌, length, map, codes, Option, Some, None, Ok, Err, refl, sym, ap, subst, ◌∙◌, arith, length-append, append_assoc, append-nil, if◌then◌else◌}
+use Rattle.std.proofs.lemmas.Bool.{cond-true}
+use Rattle.serde_json.specs.Data.{Data, string, Items, no_items, item}
+use Rattle.serde_json.specs.Find.{get, as_array}
+use Rattle.serde_json.specs.View.{items_of}
+use Rattle.tpol_base.specs.declared.name.Name.{Name}
+use Rattle.tpol_write.proofs.BytesBack.{bound, FitsDigest, digest-fits, digest-back}
+use Rattle.tpol_write.proofs.PublicsBack.{name_back, object_public_back, index_public_back}
+use Rattle.tpol_json.specs.Places.{at_member, at_item}
+use Rattle.tpol_json.specs.declared.place.Place.{Place}
+use Rattle.tpol_read.proofs.AllFound.{AllFound, all_after, all_then, all_map, all_if}
+use Rattle.tpol_rows.specs.Bytes.{text_in, digest_in, name_in, full_name_in, is_empty_name}
+use Rattle.tpol_rows.specs.Faults.{Found, bad, ◌>>=◌}
+use Rattle.tpol_rows.specs.Members.{Way, names_of, read_way, first_way, one_of, alone, without}
+use Rattle.tpol_rows.specs.Publics.{object_public_in, index_public_in}
+use Rattle.tpol_rows.specs.Walks.{Reading, still}
+use Rattle.tpol_rows.specs.Wishes.{key_by_path, key_by_public, key_among, key_in, index_by_path, index_by_public, index_among, index_in, entity_by_path, entity_by_name, entity_among, entity_in, parent_by_path, parent_by_public, parent_by_name, parent_among, parent_in, items_count, each_from, three_at_most, one_to_three, names_by_digest, names_by_names, names_by_paths, names_among, names_in}
+use Rattle.tpol_rows.specs.declared.fault.PolicyKind.TheVariants.{BadHex, BadNumber}
+use Rattle.tpol_rows.specs.declared.walk.Walk.{Walk}
+use Rattle.tpol_tree.specs.declared.wishes.ObjectPublicText.{ObjectPublicText}
+use Rattle.tpol_tree.specs.declared.wishes.NvPublicText.{NvPublicText}
+use Rattle.tpol_tree.specs.declared.wishes.KeyWish.{KeyWish}
+use Rattle.tpol_tree.specs.declared.wishes.KeyWish.TheVariants as key
+use Rattle.tpol_tree.specs.declared.wishes.IndexWish.{IndexWish}
+use Rattle.tpol_tree.specs.declared.wishes.IndexWish.TheVariants as index
+use Rattle.tpol_tree.specs.declared.wishes.EntityWish.{EntityWish}
+use Rattle.tpol_tree.specs.declared.wishes.EntityWish.TheVariants as entity
+use Rattle.tpol_tree.specs.declared.wishes.ParentWish.{ParentWish}
+use Rattle.tpol_tree.specs.declared.wishes.ParentWish.TheVariants as parent
+use Rattle.tpol_tree.specs.declared.wishes.NamesWish.{NamesWish}
+use Rattle.tpol_tree.specs.declared.wishes.NamesWish.TheVariants as names
+use Rattle.tpol_write.specs.Objects.{hex_text, list_of}
+use Rattle.tpol_write.specs.Wishes.{object_public_value, nv_public_value, name_value}
+
+-- ---- one of several members
+
+-- what is found is so, and no element was counted
+abbrev pub Leaving : {A : Type 0} → (A → Type 0) → Walk → A × Walk → Type 0
+Leaving P walk found = (found.1.left ≡ walk.left) × P found.0
+
+pub all_still : {A : Type 0} (P : A → Type 0) (found : Found A) (walk : Walk) → AllFound P found → AllFound (Leaving P walk) (still found walk)
+all_still P (Ok x) walk all = (refl, all)
+all_still P (Err fault) walk all = tt {0}
+
+pub all_any : {A : Type 0} (P : A → Type 0) (found : Found A) → ((x : A) → P x) → AllFound P found
+all_any P (Ok x) all = all x
+all_any P (Err fault) all = tt {0}
+
+-- each way to read a member finds only what is so
+abbrev pub AllWays : {A : Type 0} → (A → Type 0) → List (Way A) → Type 0
+AllWays P [] = Unit {0}
+AllWays P (way ∷ ways) = ((d : Data) (place : Place) → AllFound P (way.1 d place)) × AllWays P ways
+
+all_alone : {A : Type 0} (P : A → Type 0) (found : Found A) (others : Found ⊤) → AllFound P found → AllFound P (alone found others)
+all_alone P (Ok x) (Ok y) all = all
+all_alone P (Ok x) (Err fault) all = tt {0}
+all_alone P (Err fault) others all = tt {0}
+
+all_way : {A : Type 0} (P : A → Type 0) (member : Option Data) (place : Place) (read : Data → Place → Found A) (others : Found ⊤) (later : Found A) → ((d : Data) (at : Place) → AllFound P (read d at)) → AllFound P later → AllFound P (read_way member place read others later)
+all_way P None place read others later all rest = rest
+all_way P (Some d) place read others later all rest = all_alone P (read d place) others (all d place)
+
+pub all_ways : {A : Type 0} (P : A → Type 0) (ways : List (Way A)) (missing : Place) (d : Data) (place : Place) → AllWays P ways → AllFound P (first_way ways missing d place)
+all_ways P [] missing d place all = tt {0}
+all_ways P (way ∷ ways) missing d place all =
+    all_way P (get way.0 d) (at_member place way.0) way.1 (without (names_of ways) d place) (first_way ways missing d place) all.0 (all_ways P ways missing d place all.1)
+
+-- ---- public areas and Names
+
+abbrev pub ObjectBack : ObjectPublicText → Type 0
+ObjectBack area = (place : Place) (walk : Walk) → object_public_in (object_public_value area) place walk ≡ Ok (area, walk)
+
+abbrev pub IndexAreaBack : NvPublicText → Type 0
+IndexAreaBack area = (place : Place) (walk : Walk) → index_public_in (nv_public_value area) place walk ≡ Ok (area, walk)
+
+abbrev pub NameBack : Name → Type 0
+NameBack name = (place : Place) → name_in (name_value name) place ≡ Ok name
+
+-- ---- keys
+
+abbrev pub FitsKey : KeyWish → Type 0
+FitsKey (key.Path path) = Unit {0}
+FitsKey (key.Public area) = ObjectBack area
+
+-- of the members that name a key, the value has this one
+abbrev pub HasKey : List ℕ → KeyWish → Data → Type 0
+HasKey third (key.Path path) d = (get (codes "keyPath") d ≡ Some (string path)) × (get (codes "keyPublic") d ≡ None) × (get third d ≡ None)
+HasKey third (key.Public area) d = (get (codes "keyPath") d ≡ None) × (get (codes "keyPublic") d ≡ Some (object_public_value area)) × (get third d ≡ None)
+
+key_by_path-fits : (d : Data) (place : Place) → AllFound FitsKey (key_by_path d place)
+key_by_path-fits d place = all_after FitsKey (text_in d place) _ (λ path. tt {0})
+
+key_by_public-fits : (walk : Walk) (d : Data) (place : Place) → AllFound (Leaving FitsKey walk) (key_by_public walk d place)
+key_by_public-fits walk d place = all_then (Leaving ObjectBack walk) (Leaving FitsKey walk) (object_public_in d place walk) _ (object_public_back d place walk) (λ found fits. fits)
+
+pub key-fits : (third : List ℕ) (d : Data) (place : Place) (walk : Walk) → AllFound (Leaving FitsKey walk) (key_in third d place walk)
+unfolding key_among
+key-fits third d place walk =
+    all_ways (Leaving FitsKey walk) ((codes "keyPath", λ e p. still (key_by_path e p) walk) ∷ (codes "keyPublic", key_by_public walk) ∷ (third, key_by_public walk) ∷ []) (at_member place (codes "keyPath")) d place
+    (λ e p. all_still FitsKey (key_by_path e p) walk (key_by_path-fits e p), (key_by_public-fits walk, (key_by_public-fits walk, tt)))
+
+pub key-back : (third : List ℕ) (k : KeyWish) (d : Data) (place : Place) (walk : Walk) → FitsKey k → HasKey third k d → key_in third d place walk ≡ Ok (k, walk)
+unfolding key_among
+key-back third (key.Path path) d place walk fits has = rw (has.0, has.1, has.2)
+key-back third (key.Public area) d place walk fits has = rw (has.0, has.1, has.2, fits (at_member place (codes "keyPublic")) walk)
+
+-- ---- indices
+
+abbrev pub FitsIndex : IndexWish → Type 0
+FitsIndex (index.Path path) = Unit {0}
+FitsIndex (index.Public area) = IndexAreaBack area
+
+abbrev pub HasIndex : IndexWish → Data → Type 0
+HasIndex (index.Path path) d = (get (codes "nvPath") d ≡ Some (string path)) × (get (codes "nvPublic") d ≡ None)
+HasIndex (index.Public area) d = (get (codes "nvPath") d ≡ None) × (get (codes "nvPublic") d ≡ Some (nv_public_value area))
+
+index_by_path-fits : (d : Data) (place : Place) → AllFound FitsIndex (index_by_path d place)
+index_by_path-fits d place = all_after FitsIndex (text_in d place) _ (λ path. tt {0})
+
+index_by_public-fits : (walk : Walk) (d : Data) (place : Place) → AllFound (Leaving FitsIndex walk) (index_by_public walk d place)
+index_by_public-fits walk d place = all_then (Leaving IndexAreaBack walk) (Leaving FitsIndex walk) (index_public_in d place walk) _ (index_public_back d place walk) (λ found fits. fits)
+
+pub index-fits : (d : Data) (place : Place) (walk : Walk) → AllFound (Leaving FitsIndex walk) (index_in d place walk)
+unfolding index_among
+index-fits d place walk =
+    all_ways (Leaving FitsIndex walk) ((codes "nvPath", λ e p. still (index_by_path e p) walk) ∷ (codes "nvPublic", index_by_public walk) ∷ []) (at_member place (codes "nvPath")) d place
+    (λ e p. all_still FitsIndex (index_by_path e p) walk (index_by_path-fits e p), (index_by_public-fits walk, tt))
+
+pub index-back : (i : IndexWish) (d : Data) (place : Place) (walk : Walk) → FitsIndex i → HasIndex i d → index_in d place walk ≡ Ok (i, walk)
+unfolding index_among
+index-back (index.Path path) d place walk fits has = rw (has.0, has.1)
+index-back (index.Public area) d place walk fits has = rw (has.0, has.1, fits (at_member place (codes "nvPublic")) walk)
+
+-- ---- entities
+
+abbrev pub FitsEntity : EntityWish → Type 0
+FitsEntity (entity.Path path) = Unit {0}
+FitsEntity (entity.Named name) = (place : Place) → full_name_in (name_value name) place ≡ Ok name
+
+abbrev pub HasEntity : EntityWish → Data → Type 0
+HasEntity (entity.Path path) d = (get (codes "objectPath") d ≡ Some (string path)) × (get (codes "objectName") d ≡ None)
+HasEntity (entity.Named name) d = (get (codes "objectPath") d ≡ None) × (get (codes "objectName") d ≡ Some (name_value name))
+
+full_or_bad : Name → Place → Bool → Found Name
+full_or_bad name place empty = if empty then bad BadHex place else Ok name
+
+full_name-back : (d : Data) (place : Place) → AllFound (λ name. (other : Place) → full_name_in (name_value name) other ≡ Ok name) (full_name_in d place)
+unfolding full_or_bad
+full_name-back d place =
+    all_then NameBack (λ name. (other : Place) → full_name_in (name_value name) other ≡ Ok name) (name_in d place) _ (name_back d place)
+    (λ name back. full name back (is_empty_name name) refl)
+  where
+    full : (name : Name) → NameBack name → (empty : Bool) → is_empty_name name ≡ empty → AllFound (λ n. (other : Place) → full_name_in (name_value n) other ≡ Ok n) (full_or_bad name place empty)
+    full name back true is = tt {0}
+    full name back false is = λ other.
+        bound (name_in (name_value name) other) name (λ n. if is_empty_name n then bad BadHex other else Ok n) (Ok name) (back other) (ap (full_or_bad name other) is)
+
+pub entity-fits : (d : Data) (place : Place) → AllFound FitsEntity (entity_in d place)
+unfolding entity_among
+entity-fits d place =
+    all_ways FitsEntity ((codes "objectPath", entity_by_path) ∷ (codes "objectName", entity_by_name) ∷ []) (at_member place (codes "objectPath")) d place (
+      λ e p. all_after FitsEntity (text_in e p) _ (λ path. tt {0}),
+      (λ e p. all_then (λ name. (other : Place) → full_name_in (name_value name) other ≡ Ok name) FitsEntity (full_name_in e p) _ (full_name-back e p) (λ name back. back), tt),
+    )
+
+pub entity-back : (e : EntityWish) (d : Data) (place : Place) → FitsEntity e → HasEntity e d → entity_in d place ≡ Ok e
+unfolding entity_among
+entity-back (entity.Path path) d place fits has = rw (has.0, has.1)
+entity-back (entity.Named name) d place fits has = rw (has.0, has.1, fits (at_member place (codes "objectName")))
+
+-- ---- parents
+
+abbrev pub FitsParent : ParentWish → Type 0
+FitsParent (parent.Path path) = Unit {0}
+FitsParent (parent.Public area) = ObjectBack area
+FitsParent (parent.Named name) = NameBack name
+
+abbrev pub HasParent : ParentWish → Data → Type 0
+HasParent (parent.Path path) d = (get (codes "newParentPath") d ≡ Some (string path)) × (get (codes "newParentPublic") d ≡ None) × (get (codes "newParentName") d ≡ None)
+HasParent (parent.Public area) d = (get (codes "newParentPath") d ≡ None) × (get (codes "newParentPublic") d ≡ Some (object_public_value area)) × (get (codes "newParentName") d ≡ None)
+HasParent (parent.Named name) d = (get (codes "newParentPath") d ≡ None) × (get (codes "newParentPublic") d ≡ None) × (get (codes "newParentName") d ≡ Some (name_value name))
+
+parent_by_path-fits : (d : Data) (place : Place) → AllFound FitsParent (parent_by_path d place)
+parent_by_path-fits d place = all_after FitsParent (text_in d place) _ (λ path. tt {0})
+
+parent_by_public-fits : (walk : Walk) (d : Data) (place : Place) → AllFound (Leaving FitsParent walk) (parent_by_public walk d place)
+parent_by_public-fits walk d place = all_then (Leaving ObjectBack walk) (Leaving FitsParent walk) (object_public_in d place walk) _ (object_public_back d place walk) (λ found fits. fits)
+
+parent_by_name-fits : (d : Data) (place : Place) → AllFound FitsParent (parent_by_name d place)
+parent_by_name-fits d place = all_then NameBack FitsParent (name_in d place) _ (name_back d place) (λ name back. back)
+
+pub parent-fits : (d : Data) (place : Place) (walk : Walk) → AllFound (Leaving FitsParent walk) (parent_in d place walk)
+unfolding parent_among
+parent-fits d place walk =
+    all_ways (Leaving FitsParent walk)
+    ((codes "newParentPath", λ e p. still (parent_by_path e p) walk) ∷ (codes "newParentPublic", parent_by_public walk) ∷ (codes "newParentName", λ e p. still (parent_by_name e p) walk) ∷ [])
+    (at_member place (codes "newParentPath")) d place (
+      λ e p. all_still FitsParent (parent_by_path e p) walk (parent_by_path-fits e p),
+      (parent_by_public-fits walk, (λ e p. all_still FitsParent (parent_by_name e p) walk (parent_by_name-fits e p), tt)),
+    )
+
+pub parent-back : (p : ParentWish) (d : Data) (place : Place) (walk : Walk) → FitsParent p → HasParent p d → parent_in d place walk ≡ Ok (p, walk)
+unfolding parent_among
+parent-back (parent.Path path) d place walk fits has = rw (has.0, has.1, has.2)
+parent-back (parent.Public area) d place walk fits has = rw (has.0, has.1, has.2, fits (at_member place (codes "newParentPublic")) walk)
+parent-back (parent.Named name) d place walk fits has = rw (has.0, has.1, has.2, fits (at_member place (codes "newParentName")))
+
+-- ---- lists
+
+-- each item is so
+abbrev pub Each : {A : Type 0} → (A → Type 0) → List A → Type 0
+Each P [] = Unit {0}
+Each P (x ∷ xs) = P x × Each P xs
+
+pub each_append : {A : Type 0} (P : A → Type 0) (xs ys : List A) → Each P xs → Each P ys → Each P (xs ++ ys)
+each_append P [] ys each more = more
+each_append P (x ∷ xs) ys each more = (each.0, each_append P xs ys each.1 more)
+
+pub count_of : {A : Type 0} (write : A → Data) (xs : List A) → items_count (items_of (map write xs)) ≡ length xs
+count_of write [] = refl
+count_of write (x ∷ xs) = ap suc (count_of write xs)
+
+each_from-fits : {A : Type 0} (P : A → Type 0) (read : Data → Place → Found A) → ((d : Data) (place : Place) → AllFound P (read d place)) → (before : List A) (i : ℕ) (ds : Items) (place : Place) → Each P before → AllFound (λ xs. Each P xs × (length xs ≡ length before + items_count ds)) (each_from read before i ds place)
+each_from-fits P read reads before i no_items place each = (each, omega arith)
+each_from-fits P read reads before i (item d ds) place each =
+    all_then P (λ xs. Each P xs × (length xs ≡ length before + suc (items_count ds))) (read d (at_item place i)) _ (reads d (at_item place i))
+    (λ x fits. all_map (λ xs. Each P xs × (length xs ≡ length (before ++ x ∷ []) + items_count ds)) _ (each_from read (before ++ x ∷ []) (suc i) ds place)
+    (each_from-fits P read reads (before ++ x ∷ []) (suc i) ds place (each_append P before (x ∷ []) each (fits, tt)))
+    (λ xs are. let count = are.1 in (are.0, omega (arith, count, length-append before (x ∷ [])))))
+
+each_from-back : {A : Type 0} (write : A → Data) (read : Data → Place → Found A) (xs before : List A) (i : ℕ) (place : Place) → Each (λ x. (other : Place) → read (write x) other ≡ Ok x) xs → each_from read before i (items_of (map write xs)) place ≡ Ok (before ++ xs)
+each_from-back write read [] before i place each = ap Ok (sym (append-nil before))
+each_from-back write read (x ∷ xs) before i place each =
+    bound (read (write x) (at_item place i)) x (λ y. each_from read (before ++ y ∷ []) (suc i) (items_of (map write xs)) place) (Ok (before ++ x ∷ xs)) (each.0 (at_item place i))
+    (each_from-back write read xs (before ++ x ∷ []) (suc i) place each.1 ∙ ap Ok (append_assoc before (x ∷ []) xs))
+
+-- ---- the Names of a command's handles
+
+abbrev is_one_to_three : ℕ → Bool
+is_one_to_three count = nat_le 1 count && nat_le count 3
+
+abbrev pub FitsNames : NamesWish → Type 0
+FitsNames (names.Digest digest) = FitsDigest digest
+FitsNames (names.Names list) = Each NameBack list × (is_one_to_three (length list) ≡ true)
+FitsNames (names.Paths paths) = is_one_to_three (length paths) ≡ true
+
+abbrev pub HasNames : NamesWish → Data → Type 0
+HasNames (names.Digest digest) d = (get (codes "nameHash") d ≡ Some (hex_text digest.bytes)) × (get (codes "objectNames") d ≡ None) × (get (codes "namePaths") d ≡ None)
+HasNames (names.Names list) d = (get (codes "nameHash") d ≡ None) × (get (codes "objectNames") d ≡ Some (list_of (map name_value list))) × (get (codes "namePaths") d ≡ None)
+HasNames (names.Paths paths) d = (get (codes "nameHash") d ≡ None) × (get (codes "objectNames") d ≡ None) × (get (codes "namePaths") d ≡ Some (list_of (map string paths)))
+
+three-fits : (ds : Option Items) (place : Place) → AllFound (λ items. is_one_to_three (items_count items) ≡ true) (three_at_most ds place)
+three-fits None place = tt {0}
+three-fits (Some ds) place = all_if (λ items. is_one_to_three (items_count items) ≡ true) (is_one_to_three (items_count ds)) (Ok ds) _ (λ test. test) (tt {0})
+
+three-back : {A : Type 0} (write : A → Data) (xs : List A) (place : Place) → is_one_to_three (length xs) ≡ true → one_to_three (list_of (map write xs)) place ≡ Ok (items_of (map write xs))
+three-back write xs place few =
+    cond-true (is_one_to_three (items_count (items_of (map write xs)))) (Ok (items_of (map write xs))) (bad BadNumber place) (ap is_one_to_three (count_of write xs) ∙ few)
+
+listed-fits : {A : Type 0} (P : A → Type 0) (read : Data → Place → Found A) → ((d : Data) (place : Place) → AllFound P (read d place)) → (d : Data) (place : Place) → AllFound (λ xs. Each P xs × (is_one_to_three (length xs) ≡ true)) (one_to_three d place >>= λ ds. each_from read [] 0 ds place)
+listed-fits P read reads d place =
+    all_then (λ items. is_one_to_three (items_count items) ≡ true) (λ xs. Each P xs × (is_one_to_three (length xs) ≡ true)) (one_to_three d place) _ (three-fits (as_array d) place)
+    (λ ds few. all_map (λ xs. Each P xs × (length xs ≡ 0 + items_count ds)) _ (each_from read [] 0 ds place) (each_from-fits P read reads [] 0 ds place (tt {0}))
+    (λ xs are. let count : length xs ≡ items_count ds = omega (arith, are.1) in (are.0, ap is_one_to_three count ∙ few)))
+
+names_by_names-fits : (d : Data) (place : Place) → AllFound FitsNames (names_by_names d place)
+names_by_names-fits d place =
+    let P : List Name → Type 0 = λ xs. Each NameBack xs × (is_one_to_three (length xs) ≡ true) in
+    elim_listed (one_to_three d place) (listed-fits NameBack name_in name_back d place)
+  where
+    elim_listed : (found : Found Items) → AllFound (λ xs. Each NameBack xs × (is_one_to_three (length xs) ≡ true)) (found >>= λ ds. each_from name_in [] 0 ds place) → AllFound FitsNames (found >>= λ ds. each_from name_in [] 0 ds place >>= λ list. Ok (names.Names list))
+    elim_listed (Ok ds) all = all_then (λ xs. Each NameBack xs × (is_one_to_three (length xs) ≡ true)) FitsNames (each_from name_in [] 0 ds place) _ all (λ list fits. fits)
+    elim_listed (Err fault) all = tt {0}
+
+names_by_paths-fits : (d : Data) (place : Place) → AllFound FitsNames (names_by_paths d place)
+names_by_paths-fits d place =
+    elim_listed (one_to_three d place) (listed-fits (λ text. Unit {0}) text_in (λ e p. all_any (λ text. Unit {0}) (text_in e p) (λ text. tt {0})) d place)
+  where
+    elim_listed : (found : Found Items) → AllFound (λ xs. Each (λ text. Unit {0}) xs × (is_one_to_three (length xs) ≡ true)) (found >>= λ ds. each_from text_in [] 0 ds place) → AllFound FitsNames (found >>= λ ds. each_from text_in [] 0 ds place >>= λ list. Ok (names.Paths list))
+    elim_listed (Ok ds) all = all_then (λ xs. Each (λ text. Unit {0}) xs × (is_one_to_three (length xs) ≡ true)) FitsNames (each_from text_in [] 0 ds place) _ all (λ list fits. fits.1)
+    elim_listed (Err fault) all = tt {0}
+
+pub names-fits : (d : Data) (place : Place) → AllFound FitsNames (names_in d place)
+unfolding names_among
+names-fits d place =
+    all_ways FitsNames ((codes "nameHash", names_by_digest) ∷ (codes "objectNames", names_by_names) ∷ (codes "namePaths", names_by_paths) ∷ []) (at_member place (codes "nameHash")) d place
+    (λ e p. all_then FitsDigest FitsNames (digest_in e p) _ (digest-fits e p) (λ digest fits. fits), (names_by_names-fits, (names_by_paths-fits, tt)))
+
+names_by_names-back : (list : List Name) (place : Place) → FitsNames (names.Names list) → names_by_names (list_of (map name_value list)) place ≡ Ok (names.Names list)
+names_by_names-back list place fits =
+    bound (one_to_three (list_of (map name_value list)) place) (items_of (map name_value list)) _ (Ok (names.Names list)) (three-back name_value list place fits.1)
+    (bound (each_from name_in [] 0 (items_of (map name_value list)) place) list (λ all. Ok (names.Names all)) (Ok (names.Names list)) (each_from-back name_value name_in list [] 0 place fits.0) refl)
+
+each_text : (paths : List (List ℕ)) → Each (λ path. (other : Place) → text_in (string path) other ≡ Ok path) paths
+each_text [] = tt
+each_text (path ∷ paths) = (λ other. refl, each_text paths)
+
+names_by_paths-back : (paths : List (List ℕ)) (place : Place) → FitsNames (names.Paths paths) → names_by_paths (list_of (map string paths)) place ≡ Ok (names.Paths paths)
+names_by_paths-back paths place fits =
+    bound (one_to_three (list_of (map string paths)) place) (items_of (map string paths)) _ (Ok (names.Paths paths)) (three-back string paths place fits)
+    (bound (each_from text_in [] 0 (items_of (map string paths)) place) paths (λ all. Ok (names.Paths all)) (Ok (names.Paths paths)) (each_from-back string text_in paths [] 0 place (each_text paths)) refl)
+
+pub names-back : (n : NamesWish) (d : Data) (place : Place) → FitsNames n → HasNames n d → names_in d place ≡ Ok n
+unfolding names_among
+names-back (names.Digest digest) d place fits has = rw (has.0, has.1, has.2, digest-back digest (at_member place (codes "nameHash")) fits)
+names-back (names.Names list) d place fits has = rw (has.0, has.1, has.2, names_by_names-back list (at_member place (codes "objectNames")) fits)
+names-back (names.Paths paths) d place fits has = rw (has.0, has.1, has.2, names_by_paths-back paths (at_member place (codes "namePaths")) fits)
