@@ -1,5 +1,5 @@
 -- What canonical text writes of bytes, digests, texts and numbers reads back, wherever it stands.
-use Rattle.std.proofs.Common.{◌≡◌, ℕ, ◌≤◌, ◌^◌, ◌-◌, ◌==◌, ◌||◌, nat_le, Bool, true, false, T, leb, ℤ, pos, negsuc, unsigned_abs, ◌≤ℤ◌, List, length, Result, Ok, Err, refl, sym, ap, subst, ◌∙◌, arith, le-leb, if◌then◌else◌}
+use Rattle.std.proofs.Common.{◌≡◌, ℕ, ◌≤◌, ◌^◌, ◌-◌, ◌==◌, ◌||◌, nat_le, Bool, true, leb, ℤ, pos, negsuc, unsigned_abs, ◌≤ℤ◌, List, length, Ok, Err, sym, ap, subst, ◌∙◌, arith, le-leb, if◌then◌else◌}
 use Rattle.std.proofs.lemmas.Bool.{leb-true, eqb-true, cond-true}
 use Rattle.std.proofs.lemmas.Float.{T_from_true}
 use Rattle.hex.specs.Hex.{IsBytes}

@@ -1,5 +1,5 @@
 -- Authorizations and whole documents read back.
-use Rattle.std.proofs.Common.{◌≡◌, ℕ, suc, ◌+◌, ◌≤◌, ◌<◌, nat_lt, Bool, true, false, List, [], ◌∷◌, ◌++◌, length, map, codes, Option, Some, None, Ok, Err, refl, sym, ap, subst, ◌∙◌, arith, append_assoc, append-nil, length-append, lt-ltb, if◌then◌else◌}
+use Rattle.std.proofs.Common.{◌≡◌, ℕ, suc, ◌+◌, ◌≤◌, nat_lt, Bool, true, false, List, [], ◌∷◌, ◌++◌, length, map, codes, Option, Some, None, Ok, refl, sym, ap, subst, ◌∙◌, arith, append_assoc, append-nil, length-append, lt-ltb, if◌then◌else◌}
 use Rattle.std.proofs.lemmas.Bool.{ltb-true, cond-true}
 use Rattle.serde_json.specs.Data.{Data, string, Items, no_items, item}
 use Rattle.serde_json.specs.Find.{get, as_array}
@@ -12,14 +12,14 @@ use Rattle.tpol_write.proofs.RowsBack.{noted-none, pem-none}
 use Rattle.tpol_write.proofs.WishesBack.{Leaving, FitsKey, HasKey, key-fits, key-back, FitsIndex, HasIndex, index-fits, index-back, Each, each_append}
 use Rattle.tpol_json.specs.Places.{root, at_member, at_item}
 use Rattle.tpol_json.specs.declared.place.Place.{Place}
-use Rattle.tpol_read.proofs.AllFound.{AllFound, all_after, all_then, all_map, all_if}
+use Rattle.tpol_read.proofs.AllFound.{AllFound, all_after, all_then, all_map}
 use Rattle.tpol_read.specs.Approvals.{type_of_approval, approval_type_in, signature_member, by_key, by_index, approval_of_type, approval_in, counted_approval, approvals_from, approvals_of, approvals_or_none, approvals_member}
 use Rattle.tpol_read.specs.Documents.{start, document_in, policy_of}
 use Rattle.tpol_read.specs.Elements.{element_at, max_levels, description_member, policy_member}
 use Rattle.tpol_read.specs.declared.approvals.ApprovalType.{ApprovalType}
 use Rattle.tpol_read.specs.declared.approvals.ApprovalType.TheVariants as types
 use Rattle.tpol_rows.specs.Bytes.{digest_in}
-use Rattle.tpol_rows.specs.Faults.{Found, bad, ◌>>=◌}
+use Rattle.tpol_rows.specs.Faults.{bad, ◌>>=◌}
 use Rattle.tpol_rows.specs.Fields.{policy_ref_in}
 use Rattle.tpol_rows.specs.Members.{object_in, noted, unknown}
 use Rattle.tpol_rows.specs.Rows.{without_pem}
@@ -35,7 +35,7 @@ use Rattle.tpol_tree.specs.declared.wishes.IndexWish.{IndexWish}
 use Rattle.tpol_tree.specs.declared.wishes.IndexWish.TheVariants as index
 use Rattle.tpol_tree.specs.declared.wishes.KeyWish.{KeyWish}
 use Rattle.tpol_tree.specs.declared.wishes.KeyWish.TheVariants as key
-use Rattle.tpol_write.specs.Approvals.{approval_value, approvals_members}
+use Rattle.tpol_write.specs.Approvals.{approval_value}
 use Rattle.tpol_write.specs.Canonical.{policy_value}
 use Rattle.tpol_write.specs.Elements.{elements_values}
 use Rattle.tpol_write.specs.Levels.{levels_of_elements}

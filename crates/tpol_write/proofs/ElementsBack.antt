@@ -1,6 +1,6 @@
 -- Elements, lists of elements, branches and ORs: what reading gives reads back from its canonical value, at any
 -- place, and counts as many elements as before.
-use Rattle.std.proofs.Common.{◌≡◌, ℕ, zero, suc, ◌+◌, ◌-◌, ◌≤◌, ◌<◌, ◌==◌, max, Bool, true, false, List, [], ◌∷◌, codes, Option, Some, None, Ok, Err, refl, sym, ap, subst, ◌∙◌, arith, ne_eqb, append-nil, if◌then◌else◌}
+use Rattle.std.proofs.Common.{◌≡◌, ℕ, zero, suc, ◌+◌, ◌-◌, ◌≤◌, ◌==◌, Bool, true, false, List, [], ◌∷◌, codes, Option, Some, None, Ok, refl, ap, subst, ◌∙◌, arith, ne_eqb, if◌then◌else◌}
 use Rattle.std.proofs.lemmas.Bool.{eqb-false, cond-true, cond-false}
 use Rattle.serde_json.specs.Data.{Data, string, Items, no_items, item}
 use Rattle.serde_json.specs.Find.{get, as_array}
@@ -14,10 +14,10 @@ use Rattle.tpol_json.specs.declared.place.Place.{Place}
 use Rattle.tpol_read.proofs.AllFound.{AllFound, all_after, all_then, all_map, all_if}
 use Rattle.tpol_read.specs.Elements.{element_type_in, leaf_element, element_of_type, element_by, counted, elements_from, elements_of, elements_in, policy_member, description_member, name_member, branch_in, branches_from, is_branch_count, branches_of, branches_in, or_by, or_at, element_at}
 use Rattle.tpol_rows.specs.Bytes.{text_in}
-use Rattle.tpol_rows.specs.Faults.{Found, bad, ◌>>=◌}
-use Rattle.tpol_rows.specs.Members.{object_in, needed, read_needed, noted}
+use Rattle.tpol_rows.specs.Faults.{bad}
+use Rattle.tpol_rows.specs.Members.{object_in, needed, noted}
 use Rattle.tpol_rows.specs.Rows.{leaf_row}
-use Rattle.tpol_rows.specs.Types.{type_in, leaf_members}
+use Rattle.tpol_rows.specs.Types.{type_in}
 use Rattle.tpol_rows.specs.Walks.{Reading}
 use Rattle.tpol_rows.specs.Wishes.{items_count}
 use Rattle.tpol_rows.specs.Words.{find_word}

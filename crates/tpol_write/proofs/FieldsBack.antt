@@ -1,8 +1,7 @@
 -- The members that several rows have read back.
-use Rattle.std.proofs.Common.{◌≡◌, ℕ, ◌≤◌, ◌^◌, ◌-◌, ◌&&◌, Bool, true, false, ℤ, pos, List, [], codes, Option, Some, None, Ok, refl, ap, ◌∙◌, arith, option_map, if◌then◌else◌}
+use Rattle.std.proofs.Common.{◌≡◌, ℕ, ◌≤◌, ◌^◌, ◌-◌, ◌&&◌, Bool, true, false, ℤ, pos, List, [], codes, Option, Some, None, Ok, refl, ap, ◌∙◌, arith, if◌then◌else◌}
 use Rattle.serde_json.specs.Data.{Data, boolean, string}
 use Rattle.serde_json.specs.Find.{get}
-use Rattle.hex.specs.Hex.{IsBytes}
 use Rattle.tpol_base.specs.Name.{name_of_bytes}
 use Rattle.tpol_base.specs.declared.compare.Compare.{Compare}
 use Rattle.tpol_base.specs.declared.digest.Digest32.{Digest32}
@@ -10,14 +9,14 @@ use Rattle.tpol_base.specs.declared.name.Name.{Name}
 use Rattle.tpol_base.specs.declared.name.Name.TheVariants.{Empty}
 use Rattle.tpol_write.proofs.BytesBack.{bound, FitsBytes, is_up_to, up_to-fits, up_to-back, FitsDigest, digest-fits, digest-back, IsSigned32, signed-fits, signed-back, unsigned-fits, unsigned-back, read_bytes-back}
 use Rattle.tpol_write.proofs.PublicsBack.{name_back}
-use Rattle.tpol_write.proofs.WishesBack.{NameBack, all_any}
+use Rattle.tpol_write.proofs.WishesBack.{NameBack}
 use Rattle.tpol_write.proofs.WordsBack.{operation_back}
 use Rattle.tpol_json.specs.Bytes.{bytes_in}
 use Rattle.tpol_json.specs.Places.{at_member}
 use Rattle.tpol_json.specs.declared.place.Place.{Place}
-use Rattle.tpol_read.proofs.AllFound.{AllFound, all_after, all_then, all_if}
+use Rattle.tpol_read.proofs.AllFound.{AllFound, all_then}
 use Rattle.tpol_rows.specs.Bytes.{bytes_up_to, digest_in, name_in, is_empty_name, name_or_bad}
-use Rattle.tpol_rows.specs.Faults.{Found, bad, read_as, ◌>>=◌}
+use Rattle.tpol_rows.specs.Faults.{Found, bad, read_as}
 use Rattle.tpol_rows.specs.Fields.{policy_ref_in, some_digest_in, cp_hash_in, expiration_in, operand_in, offset_in, operation_member_in}
 use Rattle.tpol_rows.specs.Members.{read_needed, read_optional}
 use Rattle.tpol_rows.specs.Numbers.{unsigned_in, signed_in, operation_in, truth_in}

@@ -1,5 +1,5 @@
 -- What JSON readings of numbers and bytes find lies within their limits.
-use Rattle.std.proofs.Common.{◌≡◌, ℕ, zero, suc, ◌≤◌, ◌<◌, ◌&&◌, Bool, true, false, T, leb, ℤ, pos, negsuc, int_le, unsigned_abs, ◌≤ℤ◌, List, [], ◌∷◌, slice_index, Option, Some, None, Result, Ok, Err, refl, arith, if◌then◌else◌, unwrap_or}
+use Rattle.std.proofs.Common.{◌≡◌, ℕ, zero, suc, ◌<◌, ◌&&◌, Bool, true, false, leb, ℤ, pos, negsuc, int_le, ◌≤ℤ◌, List, ◌∷◌, Option, Some, None, Result, Ok, Err, refl, arith, if◌then◌else◌, unwrap_or}
 use Rattle.std.proofs.lemmas.Bool.{leb-true}
 use Rattle.std.proofs.lemmas.Float.{T_from_true}
 use Rattle.std.specs.Cmp.{first_so, second_so}

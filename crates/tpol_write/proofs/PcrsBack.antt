@@ -1,5 +1,5 @@
 -- The localities and the PCRs that canonical text writes read back.
-use Rattle.std.proofs.Common.{◌≡◌, ℕ, zero, suc, ◌+◌, ◌-◌, ◌*◌, ◌%◌, ◌^◌, ◌<◌, ◌≤◌, ◌==◌, nat_lt, bit_or, bit_and, Bool, true, false, not, cond, List, [], ◌∷◌, ◌++◌, length, map, codes, Option, Some, None, Ok, Err, refl, sym, ap, subst, ◌∙◌, arith, unwrap_or, insert, position, append_assoc, append-nil, one-add, mod-eq_of_lt, ◌≢◌, ◌||◌, if◌then◌else◌}
+use Rattle.std.proofs.Common.{◌≡◌, ℕ, zero, suc, ◌+◌, ◌-◌, ◌*◌, ◌%◌, ◌^◌, ◌<◌, ◌≤◌, ◌==◌, nat_lt, bit_or, bit_and, Bool, true, false, not, cond, List, [], ◌∷◌, ◌++◌, length, map, codes, Option, Some, None, Ok, refl, sym, ap, subst, ◌∙◌, arith, unwrap_or, insert, position, append_assoc, append-nil, one-add, mod-eq_of_lt, ◌≢◌, ◌||◌, if◌then◌else◌}
 use Rattle.std.specs.Int.{bit_at}
 use Rattle.std.specs.List.{position_or_len}
 use Rattle.std.proofs.lemmas.Bool.{ltb-true, ltb-false, le-ltb, eqb-false, ne_eqb}
@@ -19,7 +19,7 @@ use Rattle.tpol_json.specs.declared.place.Place.{Place}
 use Rattle.tpol_read.proofs.AllFound.{AllFound, all_after, all_then, all_map}
 use Rattle.tpol_rows.specs.Bytes.{digest_in}
 use Rattle.tpol_rows.specs.Faults.{Found, bad}
-use Rattle.tpol_rows.specs.Members.{object_in, read_needed, noted}
+use Rattle.tpol_rows.specs.Members.{object_in, noted}
 use Rattle.tpol_rows.specs.Numbers.{unsigned_in, locality_word_in, localities_from, locality_list, localities_or, locality_in}
 use Rattle.tpol_rows.specs.Pcrs.{PcrList, has_value, with_value, new_pcr_in, pcr_member, bank_member, value_member, pcr_value_in, pcr_values_from, wish_of_values, pcr_values_in, pcr_bit, mask_from, mask_of_list, mask_in, current_pcrs_in, select_member, bank_in, only_bank, bank_or_list, banks_in, pcrs_among, pcrs_in}
 use Rattle.tpol_rows.specs.Walks.{still}

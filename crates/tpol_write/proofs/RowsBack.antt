@@ -1,6 +1,5 @@
 -- The rows of the elements that hold no other elements: what canonical text writes of them reads back, without a note.
-use Rattle.std.specs.Prelude.{⊤}
-use Rattle.std.proofs.Common.{◌≡◌, ℕ, Bool, true, false, ℤ, List, [], ◌∷◌, ◌++◌, codes, Option, Some, None, Ok, refl, ap, ◌∙◌, append-nil}
+use Rattle.std.proofs.Common.{◌≡◌, ℕ, Bool, ℤ, List, [], ◌++◌, codes, Option, Some, None, Ok, refl, ap, ◌∙◌, append-nil}
 use Rattle.serde_json.specs.Data.{Data, boolean, string}
 use Rattle.serde_json.specs.Find.{get}
 use Rattle.tpol_base.specs.declared.compare.Compare.{Compare}
@@ -9,14 +8,14 @@ use Rattle.tpol_base.specs.declared.name.Name.{Name}
 use Rattle.tpol_write.proofs.BytesBack.{bound, FitsDigest, digest-fits, digest-back, IsSigned32}
 use Rattle.tpol_write.proofs.FieldsBack.{needed-fits, needed-back, FitsRef, policy_ref-fits, policy_ref-back, FitsCpHash, HasCpHash, cp_hash-fits, cp_hash-back, expiration-fits, expiration-back, FitsOffset, operand-fits, operand-back, offset-fits, offset-back, operation-back, include-back, written-back, FitsObject, object-fits, object-back}
 use Rattle.tpol_write.proofs.PcrsBack.{localities_back, pcrs_back}
-use Rattle.tpol_write.proofs.WishesBack.{Leaving, all_still, all_any, FitsKey, HasKey, key-fits, key-back, FitsIndex, HasIndex, index-fits, index-back, FitsEntity, HasEntity, entity-fits, entity-back, FitsParent, HasParent, parent-fits, parent-back, FitsNames, HasNames, names-fits, names-back}
+use Rattle.tpol_write.proofs.WishesBack.{Leaving, all_still, FitsKey, HasKey, key-fits, key-back, FitsIndex, HasIndex, index-fits, index-back, FitsEntity, HasEntity, entity-fits, entity-back, FitsParent, HasParent, parent-fits, parent-back, FitsNames, HasNames, names-fits, names-back}
 use Rattle.tpol_write.proofs.WordsBack.{code_back}
 use Rattle.tpol_json.specs.Places.{at_member}
 use Rattle.tpol_json.specs.declared.place.Place.{Place}
 use Rattle.tpol_read.proofs.AllFound.{AllFound, all_after, all_then}
 use Rattle.tpol_read.specs.Elements.{element_by, element_of_type, element_type_in, leaf_element}
 use Rattle.tpol_rows.specs.Bytes.{digest_in}
-use Rattle.tpol_rows.specs.Faults.{Found, ◌>>=◌}
+use Rattle.tpol_rows.specs.Faults.{Found}
 use Rattle.tpol_rows.specs.Fields.{policy_ref_in, cp_hash_in, expiration_in, operand_in, offset_in, operation_member_in}
 use Rattle.tpol_rows.specs.Members.{needed, object_in, noted, unknown}
 use Rattle.tpol_rows.specs.Numbers.{code_in, locality_in}

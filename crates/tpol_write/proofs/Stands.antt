@@ -1,11 +1,10 @@
 -- Canonical text stands for its policy, wherever the policy lies.
-use Rattle.std.proofs.Common.{◌≡◌, ◌≤◌, max, ◌+◌, List, [], ◌∷◌, codes, Ok, refl, sym, ap, subst, ap₂}
-use Rattle.serde_json.specs.Data.{Data, string}
-use Rattle.tpol_write.proofs.DocumentsBack.{PolicyBack, policy_back}
+use Rattle.std.proofs.Common.{◌≡◌, ◌≤◌, max, ◌+◌, [], ◌∷◌, codes, Ok, refl, ap, subst, ap₂}
+use Rattle.serde_json.specs.Data.{string}
+use Rattle.tpol_write.proofs.DocumentsBack.{policy_back}
 use Rattle.tpol_write.specs.Laws.{CanonicalValuesStand}
-use Rattle.tpol_json.specs.declared.place.Place.{Place}
 use Rattle.tpol_read.proofs.FirstFault.{no_faults}
-use Rattle.tpol_read.specs.Documents.{policy_of, StandsForPolicy}
+use Rattle.tpol_read.specs.Documents.{policy_of}
 use Rattle.tpol_tree.specs.Erased.{erased_element, erased_elements, erased_branches, erased_policy}
 use Rattle.tpol_tree.specs.declared.policy.Branches.{Branches}
 use Rattle.tpol_tree.specs.declared.policy.Branches.TheVariants.{End as no_branches, More' as one_branch}
