@@ -1,4 +1,4 @@
-ghost use Rattle.std.specs.Prelude.{◌≡◌, OnOk};
+ghost use Rattle.std.specs.Prelude.{◌≡◌, map, OnOk};
 ghost use Rattle.serde_json.specs.View.{view};
 ghost use Rattle.tpol_rows.specs.Faults.{Gives};
 ghost use Rattle.tpol_rows.specs.Members.{noted};
@@ -86,6 +86,31 @@ pub fn element_type(alloc: Global, value: &Value, place: &Place) -> Result<Eleme
     )
 }
 
+/// The members that an element of this type may have. `approvedPolicy` of an AUTHORIZE is one of them, and is
+/// passed over.
+fn leaf_members(leaf: LeafType) -> &'static [&'static str]
+    ensures { map (λ name. name.now) result.now ≡ leaf_members leaf }
+{
+    match leaf {
+        LeafType::Pcr => &["type", "pcrs", "currentPCRs", "currentPCRandBanks"],
+        LeafType::Nv => &["type", "nvPath", "nvPublic", "operandB", "offset", "operation"],
+        LeafType::Secret => &["type", "objectPath", "objectName", "policyRef", "cpHashA", "expiration"],
+        LeafType::Signed => &["type", "keyPath", "keyPublic", "publicKey", "policyRef", "cpHashA", "expiration"],
+        LeafType::Authorize => &["type", "keyPath", "keyPublic", "publicKey", "policyRef", "approvedPolicy"],
+        LeafType::AuthorizeNv => &["type", "nvPath", "nvPublic"],
+        LeafType::Locality => &["type", "locality"],
+        LeafType::CommandCode => &["type", "code"],
+        LeafType::CpHash => &["type", "cpHash"],
+        LeafType::NameHash => &["type", "nameHash", "objectNames", "namePaths"],
+        LeafType::CounterTimer => &["type", "operandB", "offset", "operation"],
+        LeafType::DuplicationSelect => &["type", "newParentPath", "newParentPublic", "newParentName", "includeObject", "objectName"],
+        LeafType::NvWritten => &["type", "writtenSet"],
+        LeafType::AuthValue => &["type"],
+        LeafType::Password => &["type"],
+        LeafType::PhysicalPresence => &["type"],
+    }
+}
+
 /// Notes the members of an element that its row has not.
 pub fn note_leaf(
     alloc: Global,
@@ -96,112 +121,5 @@ pub fn note_leaf(
 ) -> Result<(), NoMemory>
     ensures { OnOk result (walk.new ≡ noted (leaf_members leaf) (view value.now) place.now walk.old) }
 {
-    match leaf {
-        LeafType::Pcr => note_unknown(
-            alloc,
-            value,
-            &["type", "pcrs", "currentPCRs", "currentPCRandBanks"],
-            place,
-            walk,
-        ),
-        LeafType::Nv => note_unknown(
-            alloc,
-            value,
-            &[
-                "type",
-                "nvPath",
-                "nvPublic",
-                "operandB",
-                "offset",
-                "operation",
-            ],
-            place,
-            walk,
-        ),
-        LeafType::Secret => note_unknown(
-            alloc,
-            value,
-            &[
-                "type",
-                "objectPath",
-                "objectName",
-                "policyRef",
-                "cpHashA",
-                "expiration",
-            ],
-            place,
-            walk,
-        ),
-        LeafType::Signed => note_unknown(
-            alloc,
-            value,
-            &[
-                "type",
-                "keyPath",
-                "keyPublic",
-                "publicKey",
-                "policyRef",
-                "cpHashA",
-                "expiration",
-            ],
-            place,
-            walk,
-        ),
-        LeafType::Authorize => note_unknown(
-            alloc,
-            value,
-            &[
-                "type",
-                "keyPath",
-                "keyPublic",
-                "publicKey",
-                "policyRef",
-                "approvedPolicy",
-            ],
-            place,
-            walk,
-        ),
-        LeafType::AuthorizeNv => note_unknown(
-            alloc,
-            value,
-            &["type", "nvPath", "nvPublic"],
-            place,
-            walk,
-        ),
-        LeafType::Locality => note_unknown(alloc, value, &["type", "locality"], place, walk),
-        LeafType::CommandCode => note_unknown(alloc, value, &["type", "code"], place, walk),
-        LeafType::CpHash => note_unknown(alloc, value, &["type", "cpHash"], place, walk),
-        LeafType::NameHash => note_unknown(
-            alloc,
-            value,
-            &["type", "nameHash", "objectNames", "namePaths"],
-            place,
-            walk,
-        ),
-        LeafType::CounterTimer => note_unknown(
-            alloc,
-            value,
-            &["type", "operandB", "offset", "operation"],
-            place,
-            walk,
-        ),
-        LeafType::DuplicationSelect => note_unknown(
-            alloc,
-            value,
-            &[
-                "type",
-                "newParentPath",
-                "newParentPublic",
-                "newParentName",
-                "includeObject",
-                "objectName",
-            ],
-            place,
-            walk,
-        ),
-        LeafType::NvWritten => note_unknown(alloc, value, &["type", "writtenSet"], place, walk),
-        LeafType::AuthValue => note_unknown(alloc, value, &["type"], place, walk),
-        LeafType::Password => note_unknown(alloc, value, &["type"], place, walk),
-        LeafType::PhysicalPresence => note_unknown(alloc, value, &["type"], place, walk),
-    }
+    note_unknown(alloc, value, leaf_members(leaf), place, walk)
 }
