@@ -1,4 +1,5 @@
 use crate::{Scene, SceneFault, SceneKind, read_scene};
+use std::process::Abort;
 use std::test::Fail;
 use tpol_json::place_text;
 
@@ -75,115 +76,129 @@ fn reads_what_is_left_out(rt: HostRuntime) -> Result<(), Fail> {
     Ok(())
 }
 
-#[test]
-fn refuses_the_first_fault(rt: HostRuntime) -> Result<(), Fail> {
-    let cases = [
-        (r#"[]"#, SceneKind::WrongKind, "$"),
-        (
-            r#"{"entities":null,"pcrs":0}"#,
-            SceneKind::WrongKind,
-            "pcrs",
-        ),
-        (r#"{"safe":null}"#, SceneKind::WrongKind, "safe"),
-        (
-            r#"{"entities":[{}]}"#,
-            SceneKind::Missing,
-            "entities[0].kind",
-        ),
-        (
-            r#"{"pcrs":[{"pcr":1}]}"#,
-            SceneKind::Missing,
-            "pcrs[0].digest",
-        ),
-        (
-            r#"{"entities":[{"kind":"key","path":"k","handle":"0x80000000"}]}"#,
-            SceneKind::Missing,
-            "entities[0].secret",
-        ),
-        (r#"{"seed":"00"}"#, SceneKind::BadHex, "seed"),
-        (
-            r#"{"owner":"000000000000000000000000000000000000000000000000000000000000000000"}"#,
-            SceneKind::BadHex,
-            "owner",
-        ),
-        (r#"{"owner":[1,256]}"#, SceneKind::BadNumber, "owner[1]"),
-        (
-            r#"{"pcrs":[{"pcr":24}]}"#,
-            SceneKind::BadNumber,
-            "pcrs[0].pcr",
-        ),
-        (
-            r#"{"time":4611686018427387905}"#,
-            SceneKind::BadNumber,
-            "time",
-        ),
-        (
-            r#"{"entities":[{"kind":"nv","path":"n","handle":"0x80000000"}]}"#,
-            SceneKind::BadNumber,
-            "entities[0].handle",
-        ),
-        (
-            r#"{"entities":[{"kind":"nv","path":"n","handle":"0x01000000","attributes":0,"size":2049}]}"#,
-            SceneKind::BadNumber,
-            "entities[0].size",
-        ),
-        (
-            r#"{"entities":[{"kind":"Seal"}]}"#,
-            SceneKind::UnknownKind,
-            "entities[0].kind",
-        ),
-        (
-            r#"{"pcrs":[{"pcr":1,"digest":"0000000000000000000000000000000000000000000000000000000000000000"},{"pcr":1}]}"#,
-            SceneKind::Twice,
-            "pcrs[1].pcr",
-        ),
-        (
-            r#"{"entities":[{"kind":"key","path":"/HE"}]}"#,
-            SceneKind::Twice,
-            "entities[0].path",
-        ),
-        (
-            r#"{"entities":[{"kind":"key","path":"/P_X/k","handle":"0x80000000","secret":""},{"kind":"nv","path":"k"}]}"#,
-            SceneKind::Twice,
-            "entities[1].path",
-        ),
-        (
-            r#"{"entities":[{"kind":"key","path":"k","handle":"0x80000000","secret":""},{"kind":"seal","path":"s","handle":"0x80000000"}]}"#,
-            SceneKind::Twice,
-            "entities[1].handle",
-        ),
-        (
-            r#"{"entities":[{"kind":"key","path":"k","handle":"0x80000000","authPolicy":"","policy":0}]}"#,
-            SceneKind::Twice,
-            "entities[0].policy",
-        ),
-        (
-            r#"{"entities":[{"kind":"nv","path":"n","handle":"0x01000000","attributes":"0x20000000"}]}"#,
-            SceneKind::BadState,
-            "entities[0].attributes",
-        ),
-        (
-            r#"{"entities":[{"kind":"nv","path":"n","handle":"0x01000000","attributes":"0x10","size":9}]}"#,
-            SceneKind::BadState,
-            "entities[0].size",
-        ),
-        (
-            r#"{"entities":[{"kind":"nv","path":"n","handle":"0x01000000","attributes":0,"size":2,"content":"00"}]}"#,
-            SceneKind::BadState,
-            "entities[0].content",
-        ),
-        (
-            r#"{"entities":[{"kind":"key","path":"k","handle":"0x80000000","policy":"a b","secret":""}]}"#,
-            SceneKind::NoSuchPolicy,
-            "entities[0].policy",
-        ),
-        (
-            r#"{"entities":[{"kind":"key","path":"k","handle":"0x80000000","policy":"a b","secret":""},0]}"#,
-            SceneKind::WrongKind,
-            "entities[1]",
-        ),
-    ];
-    for (text, kind, place) in &cases {
+// Scenes with a member that is missing or of another kind of JSON value.
+const MEMBERS: [(&str, SceneKind, &str); 7] = [
+    (r#"[]"#, SceneKind::WrongKind, "$"),
+    (
+        r#"{"entities":null,"pcrs":0}"#,
+        SceneKind::WrongKind,
+        "pcrs",
+    ),
+    (r#"{"safe":null}"#, SceneKind::WrongKind, "safe"),
+    (
+        r#"{"entities":[{}]}"#,
+        SceneKind::Missing,
+        "entities[0].kind",
+    ),
+    (
+        r#"{"pcrs":[{"pcr":1}]}"#,
+        SceneKind::Missing,
+        "pcrs[0].digest",
+    ),
+    (
+        r#"{"entities":[{"kind":"key","path":"k","handle":"0x80000000"}]}"#,
+        SceneKind::Missing,
+        "entities[0].secret",
+    ),
+    (
+        r#"{"entities":[{"kind":"key","path":"k","handle":"0x80000000","policy":"a b","secret":""},0]}"#,
+        SceneKind::WrongKind,
+        "entities[1]",
+    ),
+];
+
+// Scenes with a value outside its limits.
+const VALUES: [(&str, SceneKind, &str); 8] = [
+    (r#"{"seed":"00"}"#, SceneKind::BadHex, "seed"),
+    (
+        r#"{"owner":"000000000000000000000000000000000000000000000000000000000000000000"}"#,
+        SceneKind::BadHex,
+        "owner",
+    ),
+    (r#"{"owner":[1,256]}"#, SceneKind::BadNumber, "owner[1]"),
+    (
+        r#"{"pcrs":[{"pcr":24}]}"#,
+        SceneKind::BadNumber,
+        "pcrs[0].pcr",
+    ),
+    (
+        r#"{"time":4611686018427387905}"#,
+        SceneKind::BadNumber,
+        "time",
+    ),
+    (
+        r#"{"entities":[{"kind":"nv","path":"n","handle":"0x80000000"}]}"#,
+        SceneKind::BadNumber,
+        "entities[0].handle",
+    ),
+    (
+        r#"{"entities":[{"kind":"nv","path":"n","handle":"0x01000000","attributes":0,"size":2049}]}"#,
+        SceneKind::BadNumber,
+        "entities[0].size",
+    ),
+    (
+        r#"{"entities":[{"kind":"Seal"}]}"#,
+        SceneKind::UnknownKind,
+        "entities[0].kind",
+    ),
+];
+
+// Scenes in which something stands a second time.
+const TWICE: [(&str, SceneKind, &str); 5] = [
+    (
+        r#"{"pcrs":[{"pcr":1,"digest":"0000000000000000000000000000000000000000000000000000000000000000"},{"pcr":1}]}"#,
+        SceneKind::Twice,
+        "pcrs[1].pcr",
+    ),
+    (
+        r#"{"entities":[{"kind":"key","path":"/HE"}]}"#,
+        SceneKind::Twice,
+        "entities[0].path",
+    ),
+    (
+        r#"{"entities":[{"kind":"key","path":"/P_X/k","handle":"0x80000000","secret":""},{"kind":"nv","path":"k"}]}"#,
+        SceneKind::Twice,
+        "entities[1].path",
+    ),
+    (
+        r#"{"entities":[{"kind":"key","path":"k","handle":"0x80000000","secret":""},{"kind":"seal","path":"s","handle":"0x80000000"}]}"#,
+        SceneKind::Twice,
+        "entities[1].handle",
+    ),
+    (
+        r#"{"entities":[{"kind":"key","path":"k","handle":"0x80000000","authPolicy":"","policy":0}]}"#,
+        SceneKind::Twice,
+        "entities[0].policy",
+    ),
+];
+
+// Scenes with an index that cannot be, or with a policy that is not there.
+const STATES: [(&str, SceneKind, &str); 4] = [
+    (
+        r#"{"entities":[{"kind":"nv","path":"n","handle":"0x01000000","attributes":"0x20000000"}]}"#,
+        SceneKind::BadState,
+        "entities[0].attributes",
+    ),
+    (
+        r#"{"entities":[{"kind":"nv","path":"n","handle":"0x01000000","attributes":"0x10","size":9}]}"#,
+        SceneKind::BadState,
+        "entities[0].size",
+    ),
+    (
+        r#"{"entities":[{"kind":"nv","path":"n","handle":"0x01000000","attributes":0,"size":2,"content":"00"}]}"#,
+        SceneKind::BadState,
+        "entities[0].content",
+    ),
+    (
+        r#"{"entities":[{"kind":"key","path":"k","handle":"0x80000000","policy":"a b","secret":""}]}"#,
+        SceneKind::NoSuchPolicy,
+        "entities[0].policy",
+    ),
+];
+
+// Each of these scenes is refused with this kind of fault at this place.
+fn refused(rt: &(impl Abort + AllocGlobal), cases: &[(&str, SceneKind, &str)]) -> Result<(), Fail> {
+    for (text, kind, place) in cases {
         let Err(
             SceneFault::Bad {
                 kind: found,
@@ -197,6 +212,26 @@ fn refuses_the_first_fault(rt: HostRuntime) -> Result<(), Fail> {
         assert_eq!(rt; place_text(rt.alloc(), &at)?.as_str(), *place, "{text}");
     }
     Ok(())
+}
+
+#[test]
+fn members_are_wanted(rt: HostRuntime) -> Result<(), Fail> {
+    refused(&rt, &MEMBERS)
+}
+
+#[test]
+fn values_have_limits(rt: HostRuntime) -> Result<(), Fail> {
+    refused(&rt, &VALUES)
+}
+
+#[test]
+fn nothing_stands_twice(rt: HostRuntime) -> Result<(), Fail> {
+    refused(&rt, &TWICE)
+}
+
+#[test]
+fn states_are_possible(rt: HostRuntime) -> Result<(), Fail> {
+    refused(&rt, &STATES)
 }
 
 #[test]
