@@ -35,82 +35,84 @@ fn text_of_fault(alloc: Global, fault: PolicyFault) -> Result<Text, NoMemory> {
     }
 }
 
+// Each type of elements in two spellings, and other members of such an element.
+const TYPES: [(&str, &str, &str); 17] = [
+    (
+        "OR",
+        "POLICYor",
+        "\"branches\":[{\"policy\":[{\"type\":\"AUTHVALUE\"}]},{\"name\":\"b\",\"description\":\"\",\"policy\":[{\"type\":\"password\"}]}]",
+    ),
+    ("PCR", "PolicyPCR", "\"currentPCRs\":[0,2,\"0x1f\",2]"),
+    (
+        "NV",
+        "PolicyNV",
+        "\"nvPath\":\"/nv/a\",\"operandB\":\"00ff\",\"operation\":\"TPM2_EO_unsigned_le\"",
+    ),
+    (
+        "SECRET",
+        "PolicySecret",
+        "\"objectName\":\"4000000b\",\"policyRef\":[1,2,255],\"expiration\":-2147483648",
+    ),
+    (
+        "SIGNED",
+        "PolicySigned",
+        "\"keyPath\":\"/HS/SRK/k\",\"expiration\":-1",
+    ),
+    (
+        "AUTHORIZE",
+        "PolicyAuthorize",
+        "\"keyPath\":\"k\",\"approvedPolicy\":null",
+    ),
+    (
+        "AUTHORIZENV",
+        "PolicyAuthorizeNV",
+        "\"nvPublic\":{\"nvPublic\":{\"nvIndex\":\"0x01c07f01\",\"nameAlg\":\"SHA256\",\"attributes\":\"0x220f1008\",\"dataSize\":34}}",
+    ),
+    (
+        "LOCALITY",
+        "PolicyLocality",
+        "\"locality\":[\"ZERO\",\"TPM2_LOC_three\"]",
+    ),
+    (
+        "COMMANDCODE",
+        "PolicyCommandCode",
+        "\"code\":\"tpm2_cc_nv_write\"",
+    ),
+    (
+        "CPHASH",
+        "PolicyCpHash",
+        "\"cpHash\":\"0xABABABABABABABABABABABABABABABABABABABABABABABABABABABABABABABAB\"",
+    ),
+    (
+        "NAMEHASH",
+        "PolicyNameHash",
+        "\"namePaths\":[\"a\",\"b\",\"c\"]",
+    ),
+    (
+        "COUNTERTIMER",
+        "PolicyCounterTimer",
+        "\"operandB\":\"\",\"offset\":65535,\"operation\":11",
+    ),
+    (
+        "DUPLICATIONSELECT",
+        "PolicyDuplicationSelect",
+        "\"newParentName\":\"\",\"includeObject\":\"no\"",
+    ),
+    ("NVWRITTEN", "PolicyNvWritten", "\"writtenSet\":\"YES\""),
+    ("AUTHVALUE", "PolicyAuthValue", "\"type\":\"AUTHVALUE\""),
+    ("PASSWORD", "policypassword", "\"type\":\"PASSWORD\""),
+    (
+        "PHYSICALPRESENCE",
+        "PolicyPhysicalPresence",
+        "\"type\":\"PHYSICALPRESENCE\"",
+    ),
+];
+
 #[test]
 fn each_type_in_two_spellings(rt: HostRuntime) -> Result<(), Fail> {
     let zero = "0000000000000000000000000000000000000000000000000000000000000000";
-    let cases = [
-        (
-            "OR",
-            "POLICYor",
-            "\"branches\":[{\"policy\":[{\"type\":\"AUTHVALUE\"}]},{\"name\":\"b\",\"description\":\"\",\"policy\":[{\"type\":\"password\"}]}]",
-        ),
-        ("PCR", "PolicyPCR", "\"currentPCRs\":[0,2,\"0x1f\",2]"),
-        (
-            "NV",
-            "PolicyNV",
-            "\"nvPath\":\"/nv/a\",\"operandB\":\"00ff\",\"operation\":\"TPM2_EO_unsigned_le\"",
-        ),
-        (
-            "SECRET",
-            "PolicySecret",
-            "\"objectName\":\"4000000b\",\"policyRef\":[1,2,255],\"expiration\":-2147483648",
-        ),
-        (
-            "SIGNED",
-            "PolicySigned",
-            "\"keyPath\":\"/HS/SRK/k\",\"expiration\":-1",
-        ),
-        (
-            "AUTHORIZE",
-            "PolicyAuthorize",
-            "\"keyPath\":\"k\",\"approvedPolicy\":null",
-        ),
-        (
-            "AUTHORIZENV",
-            "PolicyAuthorizeNV",
-            "\"nvPublic\":{\"nvPublic\":{\"nvIndex\":\"0x01c07f01\",\"nameAlg\":\"SHA256\",\"attributes\":\"0x220f1008\",\"dataSize\":34}}",
-        ),
-        (
-            "LOCALITY",
-            "PolicyLocality",
-            "\"locality\":[\"ZERO\",\"TPM2_LOC_three\"]",
-        ),
-        (
-            "COMMANDCODE",
-            "PolicyCommandCode",
-            "\"code\":\"tpm2_cc_nv_write\"",
-        ),
-        (
-            "CPHASH",
-            "PolicyCpHash",
-            "\"cpHash\":\"0xABABABABABABABABABABABABABABABABABABABABABABABABABABABABABABABAB\"",
-        ),
-        (
-            "NAMEHASH",
-            "PolicyNameHash",
-            "\"namePaths\":[\"a\",\"b\",\"c\"]",
-        ),
-        (
-            "COUNTERTIMER",
-            "PolicyCounterTimer",
-            "\"operandB\":\"\",\"offset\":65535,\"operation\":11",
-        ),
-        (
-            "DUPLICATIONSELECT",
-            "PolicyDuplicationSelect",
-            "\"newParentName\":\"\",\"includeObject\":\"no\"",
-        ),
-        ("NVWRITTEN", "PolicyNvWritten", "\"writtenSet\":\"YES\""),
-        ("AUTHVALUE", "PolicyAuthValue", "\"type\":\"AUTHVALUE\""),
-        ("PASSWORD", "policypassword", "\"type\":\"PASSWORD\""),
-        (
-            "PHYSICALPRESENCE",
-            "PolicyPhysicalPresence",
-            "\"type\":\"PHYSICALPRESENCE\"",
-        ),
-    ];
     let alloc = rt.alloc();
-    for (short, long, members) in cases {
+    for (short, long, members) in TYPES {
         for name in [short, long] {
             let document = format!(in alloc; "{{\"policy\":[{{{members},\"type\":\"{name}\"}}]}}")?;
             let found = answer(alloc, document.as_str())?;
@@ -125,122 +127,126 @@ fn each_type_in_two_spellings(rt: HostRuntime) -> Result<(), Fail> {
     Ok(())
 }
 
+// Documents, each with its first fault.
+const FAULTS: [(&str, &str); 22] = [
+    (
+        "{\"policy\":[{\"type\":\"OR\",\"branches\":[{\"policy\":[{\"type\":\"NV\",\"nvPath\":\"a\"}]},{}]}]}",
+        "Missing at policy[0].branches[0].policy[0].operandB",
+    ),
+    (
+        "{\"policy\":[{\"type\":\"OR\",\"branches\":[{\"policy\":[7]},{}]}]}",
+        "WrongKind at policy[0].branches[0].policy[0]",
+    ),
+    (
+        "{\"policy\":[{\"type\":\"SECRET\",\"objectName\":\"\"}]}",
+        "BadHex at policy[0].objectName",
+    ),
+    (
+        "{\"policy\":[{\"type\":\"CPHASH\",\"cpHash\":[0,256]}]}",
+        "BadNumber at policy[0].cpHash[1]",
+    ),
+    (
+        "{\"policy\":[{\"type\":\"PCR\",\"pcrs\":[{\"pcr\":32}]}]}",
+        "BadNumber at policy[0].pcrs[0].pcr",
+    ),
+    (
+        "{\"policy\":[{\"type\":\"AUTHVALUE\"},{\"type\":\"XOR\"}]}",
+        "UnknownType at policy[1].type",
+    ),
+    (
+        "{\"policy\":[{\"type\":\"POLICYTEMPLATE\"}]}",
+        "Unsupported at policy[0].type",
+    ),
+    (
+        "{\"policy\":[{\"type\":\"SIGNED\",\"keyPath\":1,\"keyPEM\":\"x\"}]}",
+        "AsymmetricKey at policy[0].keyPEM",
+    ),
+    (
+        "{\"policy\":[{\"type\":\"SIGNED\",\"keyPublic\":{\"publicArea\":{\"type\":\"tpm2_alg_rsa\"}}}]}",
+        "AsymmetricKey at policy[0].keyPublic.publicArea.type",
+    ),
+    (
+        "{\"policy\":[{\"type\":\"AUTHVALUE\"}],\"policyAuthorizations\":[{\"type\":\"pem\"}]}",
+        "AsymmetricKey at policyAuthorizations[0].type",
+    ),
+    (
+        "{\"policy\":[{\"type\":\"PCR\",\"currentPCRandBanks\":[{\"hash\":\"SHA1\"}]}]}",
+        "OtherHash at policy[0].currentPCRandBanks[0].hash",
+    ),
+    (
+        "{\"policy\":[{\"type\":\"OR\",\"branches\":[{}]}]}",
+        "BranchCount at policy[0].branches",
+    ),
+    (
+        "{\"policy\":[{\"type\":\"OR\",\"branches\":[{},{},{},{},{},{},{},{},{}]}]}",
+        "BranchCount at policy[0].branches",
+    ),
+    (
+        "{\"policy\":[{\"type\":\"OR\",\"branches\":[{\"policy\":[]},{}]}]}",
+        "EmptyPolicy at policy[0].branches[0].policy",
+    ),
+    (
+        "{\"description\":\"\",\"policy\":[]}",
+        "EmptyPolicy at policy",
+    ),
+    (
+        "{\"policy\":[{\"type\":\"OR\"}]}",
+        "Missing at policy[0].branches",
+    ),
+    (
+        "{\"policy\":[{\"type\":\"NV\",\"nvPath\":\"a\",\"nvPublic\":1}]}",
+        "Twice at policy[0].nvPublic",
+    ),
+    (
+        "{\"policy\":[{\"type\":\"PCR\",\"pcrs\":[{\"pcr\":3,\"hashAlg\":11,\"digest\":\"0000000000000000000000000000000000000000000000000000000000000000\"},{\"pcr\":3}]}]}",
+        "Twice at policy[0].pcrs[1].pcr",
+    ),
+    (
+        "{\"policy\":[{\"type\":\"DUPLICATIONSELECT\",\"newParentPath\":\"p\",\"includeObject\":true}]}",
+        "Missing at policy[0].objectName",
+    ),
+    (
+        "{\"policy\":[{\"type\":\"SECRET\",\"objectPath\":\"/HS\",\"expiration\":2147483648}]}",
+        "BadNumber at policy[0].expiration",
+    ),
+    ("[]", "WrongKind at $"),
+    ("{", "NotJson"),
+];
+
 #[test]
 fn each_kind_at_a_nested_place(rt: HostRuntime) -> Result<(), Fail> {
     let alloc = rt.alloc();
-    let cases = [
-        (
-            "{\"policy\":[{\"type\":\"OR\",\"branches\":[{\"policy\":[{\"type\":\"NV\",\"nvPath\":\"a\"}]},{}]}]}",
-            "Missing at policy[0].branches[0].policy[0].operandB",
-        ),
-        (
-            "{\"policy\":[{\"type\":\"OR\",\"branches\":[{\"policy\":[7]},{}]}]}",
-            "WrongKind at policy[0].branches[0].policy[0]",
-        ),
-        (
-            "{\"policy\":[{\"type\":\"SECRET\",\"objectName\":\"\"}]}",
-            "BadHex at policy[0].objectName",
-        ),
-        (
-            "{\"policy\":[{\"type\":\"CPHASH\",\"cpHash\":[0,256]}]}",
-            "BadNumber at policy[0].cpHash[1]",
-        ),
-        (
-            "{\"policy\":[{\"type\":\"PCR\",\"pcrs\":[{\"pcr\":32}]}]}",
-            "BadNumber at policy[0].pcrs[0].pcr",
-        ),
-        (
-            "{\"policy\":[{\"type\":\"AUTHVALUE\"},{\"type\":\"XOR\"}]}",
-            "UnknownType at policy[1].type",
-        ),
-        (
-            "{\"policy\":[{\"type\":\"POLICYTEMPLATE\"}]}",
-            "Unsupported at policy[0].type",
-        ),
-        (
-            "{\"policy\":[{\"type\":\"SIGNED\",\"keyPath\":1,\"keyPEM\":\"x\"}]}",
-            "AsymmetricKey at policy[0].keyPEM",
-        ),
-        (
-            "{\"policy\":[{\"type\":\"SIGNED\",\"keyPublic\":{\"publicArea\":{\"type\":\"tpm2_alg_rsa\"}}}]}",
-            "AsymmetricKey at policy[0].keyPublic.publicArea.type",
-        ),
-        (
-            "{\"policy\":[{\"type\":\"AUTHVALUE\"}],\"policyAuthorizations\":[{\"type\":\"pem\"}]}",
-            "AsymmetricKey at policyAuthorizations[0].type",
-        ),
-        (
-            "{\"policy\":[{\"type\":\"PCR\",\"currentPCRandBanks\":[{\"hash\":\"SHA1\"}]}]}",
-            "OtherHash at policy[0].currentPCRandBanks[0].hash",
-        ),
-        (
-            "{\"policy\":[{\"type\":\"OR\",\"branches\":[{}]}]}",
-            "BranchCount at policy[0].branches",
-        ),
-        (
-            "{\"policy\":[{\"type\":\"OR\",\"branches\":[{},{},{},{},{},{},{},{},{}]}]}",
-            "BranchCount at policy[0].branches",
-        ),
-        (
-            "{\"policy\":[{\"type\":\"OR\",\"branches\":[{\"policy\":[]},{}]}]}",
-            "EmptyPolicy at policy[0].branches[0].policy",
-        ),
-        (
-            "{\"description\":\"\",\"policy\":[]}",
-            "EmptyPolicy at policy",
-        ),
-        (
-            "{\"policy\":[{\"type\":\"OR\"}]}",
-            "Missing at policy[0].branches",
-        ),
-        (
-            "{\"policy\":[{\"type\":\"NV\",\"nvPath\":\"a\",\"nvPublic\":1}]}",
-            "Twice at policy[0].nvPublic",
-        ),
-        (
-            "{\"policy\":[{\"type\":\"PCR\",\"pcrs\":[{\"pcr\":3,\"hashAlg\":11,\"digest\":\"0000000000000000000000000000000000000000000000000000000000000000\"},{\"pcr\":3}]}]}",
-            "Twice at policy[0].pcrs[1].pcr",
-        ),
-        (
-            "{\"policy\":[{\"type\":\"DUPLICATIONSELECT\",\"newParentPath\":\"p\",\"includeObject\":true}]}",
-            "Missing at policy[0].objectName",
-        ),
-        (
-            "{\"policy\":[{\"type\":\"SECRET\",\"objectPath\":\"/HS\",\"expiration\":2147483648}]}",
-            "BadNumber at policy[0].expiration",
-        ),
-        ("[]", "WrongKind at $"),
-        ("{", "NotJson"),
-    ];
-    for (document, expected) in cases {
+    for (document, expected) in FAULTS {
         let found = answer(alloc, document)?;
         assert_eq!(rt; found.as_str(), expected, "{document}");
     }
     Ok(())
 }
 
+// Documents, each with the places of its unknown members.
+const NOTES: [(&str, &str); 4] = [
+    (
+        "{\"policy\":[{\"type\":\"authvalue\",\"x\":1}]}",
+        "ok policy[0].x",
+    ),
+    (
+        "{\"policy\":[{\"type\":\"CommandCode\",\"code\":\"unseal\"}],\"z\":0,\"a\":0}",
+        "ok a z",
+    ),
+    (
+        "{\"policy\":[{\"type\":\"AUTHVALUE\",\"keyPEM\":1,\"a b\":2,\"policyDigests\":3}],\"policyDigests\":[]}",
+        "ok policy[0].\"a b\" policy[0].keyPEM policy[0].policyDigests",
+    ),
+    (
+        "{\"policy\":[{\"type\":\"NV\",\"nvIndex\":1,\"operandB\":\"80\",\"nvPublic\":{\"size\":0,\"nvPublic\":{\"nvIndex\":29392641,\"nameAlg\":\"SHA256\",\"attributes\":571412488,\"authPolicy\":\"\",\"dataSize\":34}}}]}",
+        "ok policy[0].nvPublic.size policy[0].nvIndex",
+    ),
+];
+
 #[test]
 fn unknown_members_are_noted_in_order(rt: HostRuntime) -> Result<(), Fail> {
     let alloc = rt.alloc();
-    let cases = [
-        (
-            "{\"policy\":[{\"type\":\"authvalue\",\"x\":1}]}",
-            "ok policy[0].x",
-        ),
-        (
-            "{\"policy\":[{\"type\":\"CommandCode\",\"code\":\"unseal\"}],\"z\":0,\"a\":0}",
-            "ok a z",
-        ),
-        (
-            "{\"policy\":[{\"type\":\"AUTHVALUE\",\"keyPEM\":1,\"a b\":2,\"policyDigests\":3}],\"policyDigests\":[]}",
-            "ok policy[0].\"a b\" policy[0].keyPEM policy[0].policyDigests",
-        ),
-        (
-            "{\"policy\":[{\"type\":\"NV\",\"nvIndex\":1,\"operandB\":\"80\",\"nvPublic\":{\"size\":0,\"nvPublic\":{\"nvIndex\":29392641,\"nameAlg\":\"SHA256\",\"attributes\":571412488,\"authPolicy\":\"\",\"dataSize\":34}}}]}",
-            "ok policy[0].nvPublic.size policy[0].nvIndex",
-        ),
-    ];
-    for (document, expected) in cases {
+    for (document, expected) in NOTES {
         let found = answer(alloc, document)?;
         assert_eq!(rt; found.as_str(), expected, "{document}");
     }
