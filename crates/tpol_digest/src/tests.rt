@@ -116,8 +116,7 @@ fn gives(rt: &impl Abort, assertion: Assertion, digest: &[u8; 32]) {
 }
 
 #[test]
-fn assertions_alone(rt: HostRuntime) -> Result<(), Fail> {
-    let alloc = rt.alloc();
+fn assertions_of_plain_values(rt: HostRuntime) -> Result<(), Fail> {
     gives(&rt, Assertion::AuthValue, AUTH_VALUE);
     gives(&rt, Assertion::Password, AUTH_VALUE);
     gives(&rt, Assertion::CommandCode(0x14b), CODE_DUPLICATE);
@@ -130,9 +129,21 @@ fn assertions_alone(rt: HostRuntime) -> Result<(), Fail> {
         CP_HASH,
     );
     gives(&rt, Assertion::NvWritten(true), NV_WRITTEN);
+    Ok(())
+}
+
+#[test]
+fn assertions_of_secrets(rt: HostRuntime) -> Result<(), Fail> {
+    let alloc = rt.alloc();
     gives(&rt, secret(alloc, ENDORSEMENT, &[])?, SECRET_ENDORSEMENT);
     gives(&rt, secret(alloc, OWNER, &[])?, SECRET_OWNER);
     gives(&rt, secret(alloc, ENDORSEMENT, &[0x5a; 64])?, SECRET_REF);
+    Ok(())
+}
+
+#[test]
+fn assertions_of_machine_values(rt: HostRuntime) -> Result<(), Fail> {
+    let alloc = rt.alloc();
     gives(&rt, timer(alloc, &[0; 8], 8)?, COUNTER_TIMER);
     gives(&rt, pcr(alloc, 0x01, &[0xff; 32]), PCR_0);
     gives(&rt, pcr(alloc, 0x100, &[0; 32]), PCR_8);
@@ -194,7 +205,7 @@ fn either(
 }
 
 #[test]
-fn documents(rt: HostRuntime) -> Result<(), Fail> {
+fn nine_assertions(rt: HostRuntime) -> Result<(), Fail> {
     let alloc = rt.alloc();
     let mut nine = assert_before(alloc, Assertion::AuthValue, ClosedElements::End)?;
     nine = assert_before(alloc, Assertion::PhysicalPresence, nine)?;
@@ -210,7 +221,12 @@ fn documents(rt: HostRuntime) -> Result<(), Fail> {
     nine = assert_before(alloc, pcr(alloc, 0x100, &[0; 32]), nine)?;
     nine = assert_before(alloc, Assertion::Locality(31), nine)?;
     assert_eq!(rt; &digest_of(&Closed { elements: nine }).bytes, NINE);
+    Ok(())
+}
 
+#[test]
+fn a_key_approves(rt: HostRuntime) -> Result<(), Fail> {
+    let alloc = rt.alloc();
     let unseal = assert_before(alloc, Assertion::CommandCode(0x15e), ClosedElements::End)?;
     let authorize = ClosedElement::Authorize {
         key: Name::Hash(Digest32 { bytes: *KEY }),
@@ -223,12 +239,11 @@ fn documents(rt: HostRuntime) -> Result<(), Fail> {
     Ok(())
 }
 
+// The branches of an OR start from the digest before it.
 #[test]
-fn branches(rt: HostRuntime) -> Result<(), Fail> {
+fn branches_start_behind(rt: HostRuntime) -> Result<(), Fail> {
     let alloc = rt.alloc();
     let none = Approvals::new(alloc);
-
-    // The branches of an OR start from the digest before it.
     let value = assert_before(alloc, Assertion::AuthValue, ClosedElements::End)?;
     let locality = assert_before(alloc, Assertion::Locality(1), ClosedElements::End)?;
     let or = before(alloc, either(alloc, value, locality)?, ClosedElements::End)?;
@@ -243,8 +258,14 @@ fn branches(rt: HostRuntime) -> Result<(), Fail> {
         assert_eq!(rt; path.moves.len(), 3);
         assert!(rt; !path.outside);
     }
+    Ok(())
+}
 
-    // An AUTHORIZENV that no document meets has its outside path alone.
+// An AUTHORIZENV that no document meets has its outside path alone.
+#[test]
+fn an_index_approves(rt: HostRuntime) -> Result<(), Fail> {
+    let alloc = rt.alloc();
+    let none = Approvals::new(alloc);
     let key = assert_before(alloc, secret(alloc, ENDORSEMENT, &[])?, ClosedElements::End)?;
     let authorize = ClosedElement::AuthorizeNv {
         index: Name::Hash(Digest32 { bytes: *INDEX }),
@@ -293,39 +314,52 @@ fn limits(rt: HostRuntime) -> Result<(), Fail> {
     Ok(())
 }
 
+const POLICY_REF: [u8; 8] = [0x00, 0x00, 0x01, 0x6c, 0x00, 0x00, 0x01, 0x5e];
+
+// What the first stage of a PolicySecret of the owner hashes first.
+fn first_stage() -> [u8; 40] {
+    let mut first = [0; 40];
+    first[34] = 0x01;
+    first[35] = 0x51;
+    first[36] = 0x40;
+    first[39] = 0x01;
+    first
+}
+
 #[test]
-fn strings(rt: HostRuntime) -> Result<(), Fail> {
+fn inputs_of_two_stages(rt: HostRuntime) -> Result<(), Fail> {
     let alloc = rt.alloc();
-    let policy_ref = [0x00, 0x00, 0x01, 0x6c, 0x00, 0x00, 0x01, 0x5e];
     let owner = assert_before(
         alloc,
-        secret(alloc, OWNER, &policy_ref)?,
+        secret(alloc, OWNER, &POLICY_REF)?,
         ClosedElements::End,
     )?;
     let value = assert_before(alloc, Assertion::AuthValue, ClosedElements::End)?;
     let policy = Closed {
         elements: before(alloc, either(alloc, owner, value)?, ClosedElements::End)?,
     };
+    assert_eq!(rt; &digest_of(&policy).bytes, TWO_STAGES);
     let inputs = inputs_of(alloc, &policy, &Approvals::new(alloc))?;
     assert_eq!(rt; inputs.len(), 4);
-    let mut first = [0; 40];
-    first[34] = 0x01;
-    first[35] = 0x51;
-    first[36] = 0x40;
-    first[39] = 0x01;
-    assert_eq!(rt; inputs.as_slice()[0].as_slice(), first.as_slice());
+    assert_eq!(rt; inputs.as_slice()[0].as_slice(), first_stage().as_slice());
+    Ok(())
+}
 
+#[test]
+fn inputs_of_a_session(rt: HostRuntime) -> Result<(), Fail> {
+    let alloc = rt.alloc();
     let mut facts = Facts::new(alloc)?;
     facts.push(Fact {
         event: 1,
-        act: Move::Assert(secret(alloc, OWNER, &policy_ref)?),
+        act: Move::Assert(secret(alloc, OWNER, &POLICY_REF)?),
         cp_hash: None,
         deadline: None,
     });
-    assert_eq!(rt; inputs_of_facts(alloc, &facts)?.len(), 2);
+    let inputs = inputs_of_facts(alloc, &facts)?;
+    assert_eq!(rt; inputs.len(), 2);
+    assert_eq!(rt; inputs.as_slice()[0].as_slice(), first_stage().as_slice());
     assert!(rt; run_facts(&facts) == hash(inputs.as_slice()[1].as_slice()));
     facts.clear();
     assert!(rt; run_facts(&facts) == Digest32::ZERO);
-    assert_eq!(rt; &digest_of(&policy).bytes, TWO_STAGES);
     Ok(())
 }

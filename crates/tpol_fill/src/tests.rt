@@ -176,29 +176,25 @@ fn started(alloc: Global) -> Result<Sight, NoMemory> {
     )
 }
 
+// Policies, each with the digest that a TPM gives it.
+const FILLED: [(&[Part], &[u8; 32]); 7] = [
+    (&[Part::Secret("/HE")], ENDORSEMENT_POLICY),
+    (&[Part::ApprovedByPublic, Part::Unseal], APPROVED_UNSEAL),
+    (
+        &[Part::ApprovedBy("P_RSA/HS/SRK/approver"), Part::Unseal],
+        APPROVED_UNSEAL,
+    ),
+    (&[Part::NvPublic], HIGHEST_BIT_SET),
+    (&[Part::NvPath("/nv/Owner/policy")], HIGHEST_BIT_SET),
+    (&[Part::Pcr(23)], PCR_23_AT_ZERO),
+    (&[Part::Current(0x80_0000)], PCR_23_AT_ZERO),
+];
+
 #[test]
 fn digests_of_a_tpm(rt: HostRuntime) -> Result<(), Fail> {
     let alloc = rt.alloc();
     let sight = started(alloc)?;
-    let cases = [
-        ([Part::Secret("/HE")].as_slice(), ENDORSEMENT_POLICY),
-        (
-            [Part::ApprovedByPublic, Part::Unseal].as_slice(),
-            APPROVED_UNSEAL,
-        ),
-        (
-            [Part::ApprovedBy("P_RSA/HS/SRK/approver"), Part::Unseal].as_slice(),
-            APPROVED_UNSEAL,
-        ),
-        ([Part::NvPublic].as_slice(), HIGHEST_BIT_SET),
-        (
-            [Part::NvPath("/nv/Owner/policy")].as_slice(),
-            HIGHEST_BIT_SET,
-        ),
-        ([Part::Pcr(23)].as_slice(), PCR_23_AT_ZERO),
-        ([Part::Current(0x80_0000)].as_slice(), PCR_23_AT_ZERO),
-    ];
-    for (parts, digest) in &cases {
+    for (parts, digest) in &FILLED {
         match outcome_of(alloc, parts, Some(&sight))? {
             Answer::Digest(filled) => assert_eq!(rt; &filled, *digest),
             Answer::Fault(_, place) => assert_eq!(rt; place.as_str(), "no fault"),
@@ -207,47 +203,49 @@ fn digests_of_a_tpm(rt: HostRuntime) -> Result<(), Fail> {
     Ok(())
 }
 
+// Policies without a machine, each with its first place that has no value.
+const WITHOUT_A_VALUE: [(&[Part], FillKind, &str); 7] = [
+    (
+        &[Part::AuthValue, Part::ApprovedBy("/k")],
+        FillKind::VoidPrefix,
+        "policy[1]",
+    ),
+    (
+        &[Part::ApprovedBy("/k")],
+        FillKind::NoSuchPath,
+        "policy[0].keyPath",
+    ),
+    (
+        &[Part::ApprovedBy("/HS")],
+        FillKind::NoSuchPath,
+        "policy[0].keyPath",
+    ),
+    (
+        &[Part::NvPath("/HE")],
+        FillKind::NoSuchPath,
+        "policy[0].nvPath",
+    ),
+    (
+        &[Part::Pcr(24)],
+        FillKind::NoSuchPcr,
+        "policy[0].pcrs[0].pcr",
+    ),
+    (
+        &[Part::Current(0x80_0000)],
+        FillKind::NoSuchPcr,
+        "policy[0].currentPCRs[0]",
+    ),
+    (
+        &[Part::AuthValue, Part::Secret("HX")],
+        FillKind::NoSuchPath,
+        "policy[1].objectPath",
+    ),
+];
+
 #[test]
 fn first_places_without_a_value(rt: HostRuntime) -> Result<(), Fail> {
     let alloc = rt.alloc();
-    let cases = [
-        (
-            [Part::AuthValue, Part::ApprovedBy("/k")].as_slice(),
-            FillKind::VoidPrefix,
-            "policy[1]",
-        ),
-        (
-            [Part::ApprovedBy("/k")].as_slice(),
-            FillKind::NoSuchPath,
-            "policy[0].keyPath",
-        ),
-        (
-            [Part::ApprovedBy("/HS")].as_slice(),
-            FillKind::NoSuchPath,
-            "policy[0].keyPath",
-        ),
-        (
-            [Part::NvPath("/HE")].as_slice(),
-            FillKind::NoSuchPath,
-            "policy[0].nvPath",
-        ),
-        (
-            [Part::Pcr(24)].as_slice(),
-            FillKind::NoSuchPcr,
-            "policy[0].pcrs[0].pcr",
-        ),
-        (
-            [Part::Current(0x80_0000)].as_slice(),
-            FillKind::NoSuchPcr,
-            "policy[0].currentPCRs[0]",
-        ),
-        (
-            [Part::AuthValue, Part::Secret("HX")].as_slice(),
-            FillKind::NoSuchPath,
-            "policy[1].objectPath",
-        ),
-    ];
-    for (parts, kind, place) in &cases {
+    for (parts, kind, place) in &WITHOUT_A_VALUE {
         match outcome_of(alloc, parts, None)? {
             Answer::Fault(found, text) => {
                 assert_eq!(rt; found, *kind);
