@@ -1,4 +1,3 @@
-pub mod CanonErased
 pub mod ClosedSteps
 pub mod FilledErased
 pub mod LimitTests

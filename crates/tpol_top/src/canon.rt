@@ -25,7 +25,7 @@ pub fn canon(alloc: Global, input: &[u8]) -> Result<Outcome, Halt>
     }
 }
 
-#[tactic(auto, using(crate::proofs::CanonErased::canonical_text_erased))]
+#[tactic(auto, using(tpol_write::proofs::CanonErased::canonical_text_erased))]
 fn canonical(alloc: Global, policy: &Policy) -> Result<Outcome, NoMemory>
     ensures { IfOk result (λ outcome. outcome ≡ one_line (canonical_text (erased_policy policy.now)) Verdict.Done) }
 {

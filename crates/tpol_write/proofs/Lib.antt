@@ -11,4 +11,5 @@ mod PcrsBack
 mod RowsBack
 mod ElementsBack
 mod DocumentsBack
+pub mod CanonErased
 mod Stands
