@@ -1,8 +1,8 @@
 -- When a call of the outside may answer that it failed, and what a call of a sink leaves.
-use Rattle.std.specs.Prelude.{◌≡◌, ℕ, ◌+◌, ◌-◌, ◌^◌, ◌≤◌, List, min, take, Option, Some, IfSome, Result, OnErr, IsErrOf}
+use Rattle.std.specs.Prelude.{◌≡◌, ℕ, ◌+◌, ◌-◌, ◌^◌, ◌≤◌, List, min, take, Option, Some, IfSome, Result, OnOk, OnErr, IsErrOf}
 use Rattle.std.specs.Io.KnownBytes.{append_known}
 use Rattle.tpol_base.specs.declared.outside.Lapse.{Lapse}
-use Rattle.tpol_base.specs.declared.outside.Lapse.TheVariants.{Failed}
+use Rattle.tpol_base.specs.declared.outside.Lapse.TheVariants.{Failed, NoMemory}
 
 -- a count of faults rose, or stands at the last value of a 64-bit counter
 abbrev pub Rose : ℕ → ℕ → Type 0
@@ -17,6 +17,11 @@ pub record HasCause {T E : Type 0} (before now : ℕ) (result : Result T E) : Ty
 pub record HasLapse {T : Type 0} (before now : ℕ) (result : Result T Lapse) : Type 0 where
   pub later : before ≤ now
   pub failed : IsErrOf result Failed → Rose before now
+
+-- the count stays where such a call did not fail
+pub record IsQuiet {T : Type 0} (before now : ℕ) (result : Result T Lapse) : Type 0 where
+  pub ok : OnOk result (now ≡ before)
+  pub memory : IsErrOf result NoMemory → now ≡ before
 
 -- what is told afterwards is what was told before, and then these bytes
 abbrev pub Grows : Option (List ℕ) → Option (List ℕ) → List ℕ → Type 0

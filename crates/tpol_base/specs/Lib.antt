@@ -3,5 +3,6 @@ pub mod Compare
 pub mod Cursor
 pub mod Digest
 pub mod Documents
+pub mod Failing
 pub mod Name
 pub mod PolicyName

@@ -1,14 +1,12 @@
-ghost use Rattle.std.specs.Prelude.{None, ◌≡◌, ◌≤◌};
+ghost use Rattle.std.specs.Prelude.{None, ◌≡◌, ◌≤◌, ◌↔◌};
+ghost use Rattle.std.specs.IoError.{error_kind};
 ghost use Rattle.tpol_base.specs.Causes.{Rose};
 
-use crate::{Blob, Lapse, Shelf, Text, Texts, is_policy_name};
+use crate::{Blob, Lapse, Shelf, Text, Texts, is_policy_name, most_handed_out};
 use std::alloc::{AllocError, Global};
 use std::io::{ErrorKind, Read, Write};
 use std::rt::Files;
 use std::{fs, io};
-
-/// The number of bytes that a shelf hands out at most: one more than a document may have.
-const HANDED_OUT: u64 = 1_048_577;
 
 /// A folder of the file system as a shelf: a document's name is its file's name. A file is listed where its
 /// name is the name of a policy followed by `.json` or `.scene`. A folder that is not there is an empty
@@ -23,7 +21,10 @@ pub struct FolderShelf<R: Files + AllocGlobal + Clone + Drop> {
 
 impl<R: Files + AllocGlobal + Clone + Drop> FolderShelf<R> {
     /// The shelf of this folder, with no fault so far.
-    pub fn new(rt: R, folder: String) -> FolderShelf<R> {
+    pub fn new(rt: R, folder: String) -> FolderShelf<R>
+        ensures folder { result.folder ≡ folder }
+        ensures no_fault { result.faults ≡ 0 }
+    {
         FolderShelf {
             rt,
             folder,
@@ -35,6 +36,8 @@ impl<R: Files + AllocGlobal + Clone + Drop> FolderShelf<R> {
     fn lapse(&mut self, error: io::Error) -> Lapse
         ensures later { self.old.faults ≤ self.new.faults }
         ensures failed { result ≡ Lapse.Failed → Rose self.old.faults self.new.faults }
+        ensures quiet { result ≡ Lapse.NoMemory → self.new.faults ≡ self.old.faults }
+        ensures memory { (result ≡ Lapse.NoMemory) ↔ (error_kind error ≡ ErrorKind.OutOfMemory) }
     {
         if error.kind() == ErrorKind::OutOfMemory {
             return Lapse::NoMemory;
@@ -94,7 +97,7 @@ fn read_document<R: Files + AllocGlobal>(
         Err(error) => return Err(error),
     };
     let mut bytes = Vec::new(rt.alloc());
-    file.take(HANDED_OUT).read_to_end(&mut bytes)?;
+    file.take(most_handed_out() as u64).read_to_end(&mut bytes)?;
     Ok(Some(Blob::from_vec(bytes)))
 }
 

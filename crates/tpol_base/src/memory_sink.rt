@@ -1,4 +1,4 @@
-ghost use Rattle.std.specs.Prelude.{◌≡◌, Some, [], Option, List, ℕ};
+ghost use Rattle.std.specs.Prelude.{◌≡◌, Some, [], Option, List, ℕ, option_map};
 
 use crate::{Failed, Sink};
 use std::alloc::Global;
@@ -32,7 +32,9 @@ impl MemorySink {
     }
 
     /// The bytes that were written, where none was lost for want of memory.
-    pub fn written(&self) -> Option<&[u8]> {
+    pub fn written(&self) -> Option<&[u8]>
+        ensures { option_map (λ bytes. bytes.now) result ≡ self.now }
+    {
         if self.lost {
             None
         } else {

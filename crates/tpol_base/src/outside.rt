@@ -3,7 +3,7 @@ ghost use Rattle.std.specs.Option.{option_map};
 ghost use Rattle.std.specs.Io.{ReadsAtMost};
 ghost use Rattle.std.specs.Io.KnownBytes.{ReadConsumes};
 ghost use Rattle.std.specs.List.Sorted.{IsPermutation};
-ghost use Rattle.tpol_base.specs.Causes.{HasCause, HasLapse, Grows, GrowsInPart};
+ghost use Rattle.tpol_base.specs.Causes.{HasCause, HasLapse, IsQuiet, Grows, GrowsInPart};
 ghost use Rattle.tpol_base.specs.Documents.{document_of, handed_out, put_document, names_of};
 ghost use Rattle.tpol_base.specs.declared.document.Document.{Document};
 
@@ -39,12 +39,14 @@ pub trait Source {
     ghost faults: { Self → ℕ };
 
     /// Reads into `buf`, which is not empty: the number of bytes read, which is 0 at the end of the input
-    /// alone. `Failed` comes only where the count of faults rose in this call.
+    /// alone. `Failed` comes only where the count of faults rose in this call, and the count rises in no
+    /// call that is answered `Ok`.
     fn read(&mut self, buf: &mut [u8]) -> Result<usize, Failed>
         requires { 0 < length buf.old }
         ensures bound { ReadsAtMost result buf.new }
         ensures bytes { ReadConsumes (left self.old) (left self.new) result buf.new }
-        ensures cause { HasCause (faults self.old) (faults self.new) result };
+        ensures cause { HasCause (faults self.old) (faults self.new) result }
+        ensures quiet { OnOk result (faults self.new ≡ faults self.old) };
 }
 
 /// Where lines are written to.
@@ -56,15 +58,17 @@ pub trait Sink {
     ghost faults: { Self → ℕ };
 
     /// Appends all of `bytes`. After `Failed`, which comes only where the count of faults rose in this
-    /// call, a first part of them was appended.
+    /// call, a first part of them was appended. The count rises in no call that is answered `Ok`.
     fn write(&mut self, bytes: &[u8]) -> Result<(), Failed>
         ensures written { MatchResult result
             (λ _. Grows (contents self.old) (contents self.new) bytes.now)
             (λ _. GrowsInPart (contents self.old) (contents self.new) bytes.now) }
-        ensures cause { HasCause (faults self.old) (faults self.new) result };
+        ensures cause { HasCause (faults self.old) (faults self.new) result }
+        ensures quiet { OnOk result (faults self.new ≡ faults self.old) };
 }
 
-/// Where documents are kept, by name. `Failed` comes only where the count of faults rose in the call.
+/// Where documents are kept, by name. `Failed` comes only where the count of faults rose in the call, and
+/// the count rises in no other call.
 pub trait Shelf {
     /// The documents, where the shelf tells them.
     ghost documents: { Self → Option (List Document) };
@@ -78,19 +82,22 @@ pub trait Shelf {
         ensures keeps { documents self.new ≡ documents self.old }
         ensures found { IfSome (documents self.old)
             (λ all. IfOk result (λ found. found ≡ handed_out (document_of name.now all))) }
-        ensures cause { HasLapse (faults self.old) (faults self.new) result };
+        ensures cause { HasLapse (faults self.old) (faults self.new) result }
+        ensures quiet { IsQuiet (faults self.old) (faults self.new) result };
 
     /// Replaces the document of this name, or adds it. After a lapse the documents are as before.
     fn put(&mut self, name: &str, bytes: &[u8]) -> Result<(), Lapse>
         ensures put { OnOk result
             (documents self.new ≡ option_map (put_document name.now bytes.now) (documents self.old)) }
         ensures keeps { OnErr result (documents self.new ≡ documents self.old) }
-        ensures cause { HasLapse (faults self.old) (faults self.new) result };
+        ensures cause { HasLapse (faults self.old) (faults self.new) result }
+        ensures quiet { IsQuiet (faults self.old) (faults self.new) result };
 
     /// The names of all documents, in any order.
     fn names(&mut self) -> Result<Texts, Lapse>
         ensures keeps { documents self.new ≡ documents self.old }
         ensures listed { IfSome (documents self.old)
             (λ all. IfOk result (λ listed. IsPermutation (names_of all) listed)) }
-        ensures cause { HasLapse (faults self.old) (faults self.new) result };
+        ensures cause { HasLapse (faults self.old) (faults self.new) result }
+        ensures quiet { IsQuiet (faults self.old) (faults self.new) result };
 }

@@ -1,4 +1,4 @@
-ghost use Rattle.std.specs.Prelude.{None};
+ghost use Rattle.std.specs.Prelude.{◌≡◌, None};
 
 use crate::{Failed, Sink};
 use std::io::Write;
@@ -13,7 +13,9 @@ pub struct StdSink<W: Write> {
 
 impl<W: Write> StdSink<W> {
     /// A sink over a writer that has not failed.
-    pub fn new(writer: W) -> StdSink<W> {
+    pub fn new(writer: W) -> StdSink<W>
+        ensures no_fault { result.faults ≡ 0 }
+    {
         StdSink { writer, faults: 0 }
     }
 }

@@ -86,6 +86,8 @@ fn a_folder_keeps_documents(rt: HostRuntime) -> Result<(), Fail> {
     let found = blob_of(shelf.fetch("a.json")?).ok_or("a.json")?;
     assert_eq!(rt; found.as_slice(), b"second".as_slice());
     assert_eq!(rt; shelf.names()?.len(), 1);
+    shelf.put("a.scene", b"{}")?;
+    assert_eq!(rt; shelf.names()?.len(), 2);
     // A folder in the place of a document is a fault.
     fs::create_dir(&rt, "policies/b.json")?;
     assert!(rt; shelf.fetch("b.json").is_err());
