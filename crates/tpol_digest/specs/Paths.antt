@@ -29,6 +29,12 @@ same_name (Handle a) (Handle b) = nat_eq a b
 same_name (Hash a) (Hash b) = bytes_eq a.bytes b.bytes
 same_name _ _ = false
 
+-- whether a choice is outside the listed documents
+abbrev pub is_outside : PathStep → Bool
+is_outside (Branch position name) = false
+is_outside (Document name) = false
+is_outside Outside = true
+
 -- the path with no choice and no move
 abbrev pub empty_path : Path
 empty_path = record { steps = []; moves = []; outside = false }

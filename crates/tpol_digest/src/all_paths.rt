@@ -1,6 +1,7 @@
 ghost use Rattle.std.specs.Prelude.{◌≡◌, ◌<◌, ◌≤◌, ◌↔◌, All, Any, IfOk, IsErrOf, length, min};
 ghost use Rattle.tpol_digest.specs.Digest.{digest_of_moves, policy_digest};
-ghost use Rattle.tpol_digest.specs.Paths.{paths_of};
+ghost use Rattle.std.specs.List.{list_any};
+ghost use Rattle.tpol_digest.specs.Paths.{is_outside, paths_of};
 ghost use Rattle.tpol_digest.specs.Sound.{IsSound};
 ghost use Rattle.tpol_digest.specs.WellFormed.{HaveBranchCounts, IsWellFormed};
 
@@ -17,7 +18,7 @@ const MAX_LEVELS: u8 = 4;
 /// All ways through a policy, in document order: earlier choices vary slowest. Each branch of an OR is a
 /// way, and then the OR; each approved document that an AUTHORIZE or AUTHORIZENV accepts is one, and then
 /// the approval; last comes the way by a policy that no listed document has. At most four approvals lie
-/// inside one another.
+/// inside one another. A path's `outside` says whether one of its choices is such a way.
 ///
 /// Every way gives the policy's digest. Where the policy with its approvals is well formed, each OR and
 /// each approval on it meets the digest before it. An outside path begins with its approval of the zero
@@ -36,6 +37,7 @@ pub fn paths(
     ensures too_long { IsErrOf result TreeFault.TooLong
         ↔ ((length (paths_of policy.now approvals.now) ≤ 4096)
         × Any (λ path. 512 < length path.moves) (paths_of policy.now approvals.now)) }
+    ensures outside { IfOk result (All (λ path. path.outside ≡ list_any is_outside path.steps)) }
 
     // All branches meet.
     ensures digest { IfOk result (All (λ path. digest_of_moves path.moves ≡ policy_digest policy.now)) }

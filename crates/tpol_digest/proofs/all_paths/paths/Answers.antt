@@ -1,13 +1,20 @@
 use Rattle.std.proofs.Common.{◌≡◌, sym, ap, ◌∙◌, subst}
 use Rattle.std.specs.Prelude.{All}
+use Rattle.std.specs.List.{list_any}
 use Rattle.std.proofs.lemmas.Result.{IfOk-weaker}
 use Rattle.tpol_tree.specs.declared.path.Path.{Path}
 use Rattle.tpol_digest.specs.Digest.{digest_of_moves, policy_digest}
-use Rattle.tpol_digest.specs.Paths.{paths_of}
+use Rattle.tpol_digest.specs.Paths.{is_outside, paths_of}
 use Rattle.tpol_digest.specs.Sound.{IsSound}
 use Rattle.tpol_digest.proofs.Meeting.{paths_of_meet}
+use Rattle.tpol_digest.proofs.OutsideSteps.{paths_of_tell}
 use Rattle.tpol_digest.proofs.Soundness.{paths_of_sound}
 use Rattle.tpol_digest.proofs.all_paths.paths.Goals as goal
+
+pub returns-clause-outside : goal.returns-clause-outside
+returns-clause-outside c =
+    let tells = All (λ (path : Path). path.outside ≡ list_any is_outside path.steps) in
+    IfOk-weaker c.checked_paths.result (λ all. all ≡ paths_of c.args.policy.now c.as_slice.result.now) tells (λ all h. subst tells (sym h) (paths_of_tell c.args.policy.now c.as_slice.result.now)) c.checked_paths.ensures.list
 
 pub returns-clause-digest : goal.returns-clause-digest
 returns-clause-digest c =
