@@ -127,11 +127,21 @@ mutual
   counts_branches-filled sight (MoreBranches' p name description elements q rest) h =
       (counts-filled sight elements h.0, counts_branches-filled sight rest h.1)
 
+-- in what is filled without faults each approval leads
+pub approvals_lead-filled : (list : Place) (elements : Elements) (sight : Option Sight) (closed : Closed) → elements_faults sight true list 0 elements ≡ [] → erased_elements closed.elements ≡ filled_elements sight elements → ApprovalsLead true closed.elements
+approvals_lead-filled list elements sight closed none same =
+    lead-erased true closed.elements (subst (ApprovalsLead true) (sym same) (lead-filled sight true list 0 elements none))
+
+-- in what is filled the digest of PCRs is that of their values
+pub pcr_digests-filled : (elements : Elements) (sight : Option Sight) (closed : Closed) → erased_elements closed.elements ≡ filled_elements sight elements → EachAssertion HasPcrDigest closed.elements
+pcr_digests-filled elements sight closed same =
+    each-erased HasPcrDigest closed.elements (subst (EachAssertion HasPcrDigest) (sym same) (pcrs-filled sight elements))
+
 -- what is filled without faults is well formed
 pub well_formed-filled : (list : Place) (elements : Elements) (sight : Option Sight) (closed : Closed) → EachOrHasBranches elements → elements_faults sight true list 0 elements ≡ [] → erased_elements closed.elements ≡ filled_elements sight elements → IsWellFormedPolicy closed
 well_formed-filled list elements sight closed counts none same =
     record {
-      approvals_lead = lead-erased true closed.elements (subst (ApprovalsLead true) (sym same) (lead-filled sight true list 0 elements none));
-      pcr_digests = each-erased HasPcrDigest closed.elements (subst (EachAssertion HasPcrDigest) (sym same) (pcrs-filled sight elements));
+      approvals_lead = approvals_lead-filled list elements sight closed none same;
+      pcr_digests = pcr_digests-filled elements sight closed same;
       branch_counts = counts-erased closed.elements (subst HasBranchCounts (sym same) (counts-filled sight elements counts));
     }

@@ -1,11 +1,12 @@
 //! Policies, element after element.
 
-ghost use Rattle.std.specs.Prelude.{◌≡◌, IfOk, IfErr, List};
+ghost use Rattle.std.specs.Prelude.{◌≡◌, true, IfOk, IfErr, List};
 ghost use Rattle.std.specs.Option.{option_copied};
 ghost use Rattle.tpol_digest.specs.Digest.{policy_digest};
 ghost use Rattle.tpol_digest.specs.Paths.{paths_of};
-ghost use Rattle.tpol_digest.specs.WellFormed.{IsWellFormedPolicy};
+ghost use Rattle.tpol_digest.specs.WellFormed.{HasPcrDigest, IsWellFormedPolicy};
 ghost use Rattle.tpol_tree.specs.BranchCounts.{EachOrHasBranches};
+ghost use Rattle.tpol_tree.specs.Closed.{ApprovalsLead, EachAssertion};
 ghost use Rattle.tpol_fill.specs.declared.fault.FillFault.TheVariants.{NoMemory as no_memory};
 ghost use Rattle.tpol_fill.specs.Erased.{erased_branches, erased_element, erased_elements, nowhere};
 ghost use Rattle.tpol_fill.specs.Filling.{FillsBranches, FillsElement, FillsElements, FillsPolicy, filled};
@@ -40,6 +41,8 @@ use tpol_tree::{
 ///   POLICYOR that encloses it. It comes before the other kinds at that element.
 pub fn fill(alloc: Global, policy: &Policy, sight: Option<&Sight>) -> Result<Closed, FillFault>
     ensures fills { FillsPolicy (option_copied sight.entry) policy.now result }
+    ensures approvals_lead { IfOk result (λ closed. ApprovalsLead true closed.elements) }
+    ensures pcr_digests { IfOk result (λ closed. EachAssertion HasPcrDigest closed.elements) }
     ensures well_formed { EachOrHasBranches policy.now.elements → IfOk result IsWellFormedPolicy }
     ensures digest { IfOk result (λ closed.
         policy_digest closed ≡ policy_digest (filled policy.now (option_copied sight.entry))) }
