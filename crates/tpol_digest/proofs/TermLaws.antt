@@ -3,7 +3,7 @@ use Rattle.std.proofs.Common.{◌≡◌, ℕ, Bool, true, false, List, [], ◌�
 use Rattle.std.proofs.lemmas.List.{append-nil}
 use Rattle.std.specs.Int.{to_be_bytes, w32}
 use Rattle.tpol_base.specs.declared.digest.Digest32.{Digest32}
-use Rattle.tpol_hash.specs.Sha256.{digest_of_bytes}
+use Rattle.tpol_hash.specs.Sha256.{sha256_digest}
 use Rattle.tpol_tree.specs.declared.closed.ClosedElements.{ClosedElements}
 use Rattle.tpol_tree.specs.declared.closed.ClosedElements.TheVariants.{More', End}
 use Rattle.tpol_tree.specs.declared.closed.ClosedElement.{ClosedElement}
@@ -22,11 +22,11 @@ start_bytes false t = refl
 
 inner_bytes : (inner : Option (List ℕ)) (parts : Parts) → bytes_of_parts (inner_then inner parts) ≡ inner_digest inner ++ bytes_of_parts parts
 inner_bytes None parts = refl
-inner_bytes (Some inner) parts = ap (λ s. (digest_of_bytes s).bytes ++ bytes_of_parts parts) (append-nil inner)
+inner_bytes (Some inner) parts = ap (λ s. (sha256_digest s).bytes ++ bytes_of_parts parts) (append-nil inner)
 
 second_bytes : (policy_ref : Option (List ℕ)) (t : Term) → bytes_of_term (term_after_second policy_ref t) ≡ after_second policy_ref (bytes_of_term t)
 second_bytes None t = refl
-second_bytes (Some policy_ref) t = ap (λ s. digest_of_bytes ((bytes_of_term t).bytes ++ s)) (append-nil policy_ref)
+second_bytes (Some policy_ref) t = ap (λ s. sha256_digest ((bytes_of_term t).bytes ++ s)) (append-nil policy_ref)
 
 head_bytes : (s : Stage) → bytes_of_parts (BytesThen (to_be_bytes w32 s.code) (inner_then s.inner (BytesThen s.rest NoParts))) ≡ head_of s
 head_bytes s =
@@ -36,8 +36,8 @@ head_bytes s =
 pub stage_bytes : (s : Stage) (t : Term) → bytes_of_term (term_after_stage s t) ≡ after_stage s (bytes_of_term t)
 stage_bytes s t =
     second_bytes s.policy_ref _
-    ∙ ap (λ l. after_second s.policy_ref (digest_of_bytes ((bytes_of_term (start_term s.fresh t)).bytes ++ l))) (head_bytes s)
-    ∙ ap (λ d. after_second s.policy_ref (digest_of_bytes (d.bytes ++ head_of s))) (start_bytes s.fresh t)
+    ∙ ap (λ l. after_second s.policy_ref (sha256_digest ((bytes_of_term (start_term s.fresh t)).bytes ++ l))) (head_bytes s)
+    ∙ ap (λ d. after_second s.policy_ref (sha256_digest (d.bytes ++ head_of s))) (start_bytes s.fresh t)
 
 pub moves_bytes : (moves : List Move) (t : Term) → bytes_of_term (term_from t moves) ≡ digest_from (bytes_of_term t) moves
 moves_bytes [] t = refl
@@ -53,7 +53,7 @@ mutual
   term_at_element_bytes : (element : ClosedElement) (t : Term) → bytes_of_term (term_at_element element t) ≡ digest_at_element element (bytes_of_term t)
   term_at_element_bytes (Assert assertion) t = stage_bytes (stage_of_assertion assertion) t
   term_at_element_bytes (Or branches) t =
-      ap (λ l. digest_of_bytes (zero_digest.bytes ++ (to_be_bytes w32 0x171 ++ l))) (branch_terms_bytes branches t)
+      ap (λ l. sha256_digest (zero_digest.bytes ++ (to_be_bytes w32 0x171 ++ l))) (branch_terms_bytes branches t)
   term_at_element_bytes (Authorize key policy_ref) t = stage_bytes (stage_of_approve key policy_ref) t
   term_at_element_bytes (AuthorizeNv index) t = stage_bytes (stage_of_approve_nv index) t
 

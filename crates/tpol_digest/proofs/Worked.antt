@@ -5,7 +5,7 @@ use Rattle.sha2.specs.Sha256.{compress, digest_bytes, first_words, hash_after, r
 use Rattle.tpol_base.specs.declared.compare.Compare.TheVariants.{BitSet, UnsignedGe}
 use Rattle.tpol_base.specs.declared.digest.Digest32.{Digest32}
 use Rattle.tpol_base.specs.declared.name.Name.TheVariants.{Handle, Hash as HashName}
-use Rattle.tpol_hash.specs.Sha256.{digest_of_bytes}
+use Rattle.tpol_hash.specs.Sha256.{sha256_digest}
 use Rattle.tpol_tree.specs.declared.closed.Assertion.TheVariants.{AuthValue, CommandCode, CounterTimer, CpHash, Locality, Nv, NvWritten, Pcr, Secret}
 use Rattle.tpol_tree.specs.declared.path.Move.TheVariants.{Approve, Assert}
 use Rattle.tpol_digest.specs.Digest.{zero_digest, digest_after_assertion, approve_nv_digest, or_digest, digest_of_moves}
@@ -81,7 +81,7 @@ unfolding first_words schedule rounds compress hash_after digest_bytes sha256
 nv = refl
 
 -- PolicyPCR of PCR 8 at zero: the second byte of the selection
-pub pcr : (digest_after_assertion (Pcr 0x100 (digest_of_bytes (replicate 32 0)) []) zero_digest).bytes ≡
+pub pcr : (digest_after_assertion (Pcr 0x100 (sha256_digest (replicate 32 0)) []) zero_digest).bytes ≡
     0x2a ∷ 0x90 ∷ 0xac ∷ 0x03 ∷ 0x19 ∷ 0x65 ∷ 0x73 ∷ 0xf1 ∷ 0x29 ∷ 0xe7 ∷ 0x0a ∷ 0x9e ∷ 0x04 ∷ 0x48 ∷ 0x5b ∷ 0xff ∷
     0x58 ∷ 0x1d ∷ 0x28 ∷ 0x90 ∷ 0xfe ∷ 0x58 ∷ 0x82 ∷ 0xd3 ∷ 0xc2 ∷ 0x66 ∷ 0x72 ∷ 0x90 ∷ 0xd8 ∷ 0x4b ∷ 0x49 ∷ 0x7b ∷ []
 unfolding first_words schedule rounds compress hash_after digest_bytes sha256

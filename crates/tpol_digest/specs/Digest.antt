@@ -3,7 +3,7 @@ use Rattle.std.specs.Prelude.{ℕ, Bool, true, false, List, [], ◌∷◌, ◌++
 use Rattle.std.specs.Int.{to_be_bytes, w32}
 use Rattle.tpol_base.specs.declared.digest.Digest32.{Digest32}
 use Rattle.tpol_base.specs.declared.name.Name.{Name}
-use Rattle.tpol_hash.specs.Sha256.{digest_of_bytes}
+use Rattle.tpol_hash.specs.Sha256.{sha256_digest}
 use Rattle.tpol_tree.specs.declared.closed.Assertion.{Assertion}
 use Rattle.tpol_tree.specs.declared.closed.Closed.{Closed}
 use Rattle.tpol_tree.specs.declared.closed.ClosedElements.{ClosedElements}
@@ -27,7 +27,7 @@ start_of false d = d
 -- the digest of the inner string, if there is one
 abbrev pub inner_digest : Option (List ℕ) → List ℕ
 inner_digest None = []
-inner_digest (Some inner) = (digest_of_bytes inner).bytes
+inner_digest (Some inner) = (sha256_digest inner).bytes
 
 -- the bytes that the first hash takes behind the start
 abbrev pub head_of : Stage → List ℕ
@@ -40,11 +40,11 @@ first_string s d = (start_of s.fresh d).bytes ++ head_of s
 -- the digest after a second hash, if there is one
 abbrev pub after_second : Option (List ℕ) → Digest32 → Digest32
 after_second None first = first
-after_second (Some policy_ref) first = digest_of_bytes (first.bytes ++ policy_ref)
+after_second (Some policy_ref) first = sha256_digest (first.bytes ++ policy_ref)
 
 -- the digest after a stage
 abbrev pub after_stage : Stage → Digest32 → Digest32
-after_stage s d = after_second s.policy_ref (digest_of_bytes (first_string s d))
+after_stage s d = after_second s.policy_ref (sha256_digest (first_string s d))
 
 -- the digest after an assertion, after a move, and after moves in a row
 abbrev pub digest_after_assertion : Assertion → Digest32 → Digest32

@@ -3,7 +3,7 @@ use Rattle.std.specs.Prelude.{ℕ, List, [], ◌∷◌, ◌++◌, Option, Some, 
 use Rattle.std.specs.List.{flat_map}
 use Rattle.std.specs.Option.{option_to_list}
 use Rattle.tpol_base.specs.declared.digest.Digest32.{Digest32}
-use Rattle.tpol_hash.specs.Sha256.{digest_of_bytes}
+use Rattle.tpol_hash.specs.Sha256.{sha256_digest}
 use Rattle.tpol_tree.specs.declared.closed.Assertion.{Assertion}
 use Rattle.tpol_tree.specs.declared.closed.Assertion.TheVariants.{Pcr}
 use Rattle.tpol_tree.specs.declared.closed.Closed.{Closed}
@@ -23,7 +23,7 @@ use Rattle.tpol_digest.specs.Sound.{moves_of_facts}
 -- the string of the second hash, if there is one
 abbrev pub second_string : Stage → Digest32 → Option (List ℕ) → List (List ℕ)
 second_string s d None = []
-second_string s d (Some policy_ref) = ((digest_of_bytes (first_string s d)).bytes ++ policy_ref) ∷ []
+second_string s d (Some policy_ref) = ((sha256_digest (first_string s d)).bytes ++ policy_ref) ∷ []
 
 -- the strings of a stage, where d is the digest before: the inner one, then those of the two hashes
 abbrev pub strings_of : Stage → Digest32 → List (List ℕ)

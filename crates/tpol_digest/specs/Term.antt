@@ -2,7 +2,7 @@
 use Rattle.std.specs.Prelude.{ℕ, Bool, true, false, List, [], ◌∷◌, ◌++◌, Option, Some, None}
 use Rattle.std.specs.Int.{to_be_bytes, w32}
 use Rattle.tpol_base.specs.declared.digest.Digest32.{Digest32}
-use Rattle.tpol_hash.specs.Sha256.{digest_of_bytes}
+use Rattle.tpol_hash.specs.Sha256.{sha256_digest}
 use Rattle.tpol_tree.specs.declared.closed.Assertion.{Assertion}
 use Rattle.tpol_tree.specs.declared.closed.Closed.{Closed}
 use Rattle.tpol_tree.specs.declared.closed.ClosedElements.{ClosedElements}
@@ -31,7 +31,7 @@ mutual
 abbrev mutual
   pub bytes_of_term : Term → Digest32
   bytes_of_term Zero = zero_digest
-  bytes_of_term (Hash parts) = digest_of_bytes (bytes_of_parts parts)
+  bytes_of_term (Hash parts) = sha256_digest (bytes_of_parts parts)
 
   pub bytes_of_parts : Parts → List ℕ
   bytes_of_parts NoParts = []

@@ -1,6 +1,6 @@
 -- Policies whose digests are what they say.
 use Rattle.std.specs.Prelude.{◌≡◌, true, List, ⊤, All}
-use Rattle.tpol_hash.specs.Sha256.{digest_of_bytes}
+use Rattle.tpol_hash.specs.Sha256.{sha256_digest}
 use Rattle.tpol_tree.specs.declared.closed.Assertion.{Assertion}
 use Rattle.tpol_tree.specs.declared.closed.Assertion.TheVariants.{Pcr}
 use Rattle.tpol_tree.specs.declared.closed.Closed.{Closed}
@@ -11,7 +11,7 @@ use Rattle.tpol_digest.specs.Digest.{policy_digest}
 
 -- the digest of a PCR assertion is the hash of its values joined
 abbrev pub HasPcrDigest : Assertion → Type 0
-HasPcrDigest (Pcr mask digest values) = digest ≡ digest_of_bytes (joined values)
+HasPcrDigest (Pcr mask digest values) = digest ≡ sha256_digest (joined values)
 HasPcrDigest _ = ⊤
 
 -- one policy, without what it leaves to approvals

@@ -2,7 +2,7 @@
 
 ghost use Rattle.std.specs.Prelude.{◌≡◌, ◌++◌, IfOk, OnOk};
 ghost use Rattle.std.specs.Option.{option_map, option_to_list};
-ghost use Rattle.tpol_hash.specs.Sha256.{digest_of_bytes};
+ghost use Rattle.tpol_hash.specs.Sha256.{sha256_digest};
 ghost use Rattle.tpol_digest.specs.Digest.{first_string, digest_after};
 ghost use Rattle.tpol_digest.specs.Inputs as spec;
 ghost use Rattle.tpol_digest.specs.Sound.{moves_of_facts};

@@ -4,7 +4,7 @@
 ghost use Rattle.std.specs.Prelude.{◌≡◌, ◌++◌, ℕ, List};
 ghost use Rattle.std.specs.Int.{to_be_bytes, w16, w32};
 ghost use Rattle.tpol_base.specs.Name.{name_bytes};
-ghost use Rattle.tpol_hash.specs.Sha256.{digest_of_bytes};
+ghost use Rattle.tpol_hash.specs.Sha256.{sha256_digest};
 ghost use Rattle.tpol_hash.specs.Messages.{Holds};
 ghost use Rattle.tpol_digest.specs.Stage.{comparison, one_hash, two_hashes};
 ghost use Rattle.tpol_digest.specs.Digest.{after_stage};
@@ -60,7 +60,7 @@ pub fn hash_twice(old: &Digest32, code: u32, name: &Name, policy_ref: &Blob) -> 
 
 // The digest of what PolicyNV and PolicyCounterTimer compare with, and how.
 pub fn comparison_digest(operand: &Blob, offset: u16, operation: Compare) -> Digest32
-    ensures { result ≡ digest_of_bytes (comparison operand.now offset operation) }
+    ensures { result ≡ sha256_digest (comparison operand.now offset operation) }
 {
     let mut hasher = Hasher::new();
     hasher.put(operand.as_slice());

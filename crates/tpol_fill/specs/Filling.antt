@@ -11,7 +11,7 @@ use Rattle.tpol_fill.specs.declared.fault.FillFault.{FillFault}
 use Rattle.tpol_fill.specs.declared.fault.FillFault.TheVariants.{Bad}
 use Rattle.tpol_fill.specs.declared.fault.FillKind.{FillKind}
 use Rattle.tpol_fill.specs.declared.fault.FillKind.TheVariants.{NoSuchPcr, VoidPrefix}
-use Rattle.tpol_hash.specs.Sha256.{digest_of_bytes}
+use Rattle.tpol_hash.specs.Sha256.{sha256_digest}
 use Rattle.tpol_json.specs.declared.place.Place.{Place}
 use Rattle.tpol_json.specs.Places.{root, at_item, at_member}
 use Rattle.tpol_name.specs.declared.sight.Sight.{Sight}
@@ -75,7 +75,7 @@ or_zero value = result_unwrap_or value zero_digest
 
 -- the assertion of these PCRs with these values
 abbrev pub pcr_assertion : ℕ → List Digest32 → Assertion
-pcr_assertion mask values = closed.Pcr mask (digest_of_bytes (joined values)) values
+pcr_assertion mask values = closed.Pcr mask (sha256_digest (joined values)) values
 
 -- the assertion of PCRs with the values as written, or the current ones
 abbrev pub filled_pcrs : PcrWish → Option Sight → Assertion
@@ -99,7 +99,7 @@ pcr_faults sight place (Current mask) =
 
 -- the digest of Names joined
 abbrev pub names_digest : List Name → Digest32
-names_digest names = digest_of_bytes (flat_map name_bytes names)
+names_digest names = sha256_digest (flat_map name_bytes names)
 
 abbrev pub filled_names : NamesWish → Option Sight → Digest32
 filled_names (Digest digest) sight = digest

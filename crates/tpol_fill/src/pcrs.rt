@@ -5,7 +5,7 @@ ghost use Rattle.std.specs.Option.{option_copied};
 ghost use Rattle.tpol_digest.specs.Stage.{joined};
 ghost use Rattle.tpol_fill.specs.Filling.{current_faults, current_value, filled_pcrs, mask_of_pcrs, pcr_assertion, pcr_faults, pcrs_of_mask, value_faults, or_zero};
 ghost use Rattle.tpol_fill.specs.Outcome.{Fills, each_fault};
-ghost use Rattle.tpol_hash.specs.Sha256.{digest_of_bytes};
+ghost use Rattle.tpol_hash.specs.Sha256.{sha256_digest};
 ghost use Rattle.tpol_json.specs.Places.{at_member};
 ghost use Rattle.tpol_tree.specs.declared.wishes.PcrWish.TheVariants.{Current};
 
@@ -150,7 +150,7 @@ fn pcr_assertion(mask: u32, values: Digests) -> Assertion
 
 // The digest of values joined.
 fn digest_of_values(values: &[Digest32]) -> Digest32
-    ensures { result ≡ digest_of_bytes (joined values.now) }
+    ensures { result ≡ sha256_digest (joined values.now) }
 {
     let mut hasher = Hasher::new();
     for value in values {

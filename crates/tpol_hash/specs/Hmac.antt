@@ -2,7 +2,7 @@
 use Rattle.std.specs.Prelude.{ℕ, ◌-◌, List, ◌++◌, length, map, replicate, bit_xor, nat_lt, if◌then◌else◌}
 use Rattle.sha2.specs.Sha256.{sha256}
 use Rattle.tpol_base.specs.declared.digest.Digest32.{Digest32}
-use Rattle.tpol_hash.specs.Sha256.{digest_of_bytes}
+use Rattle.tpol_hash.specs.Sha256.{sha256_digest}
 
 -- a key of at most one block; a longer one is hashed
 abbrev pub short_key : List ℕ → List ℕ
@@ -19,4 +19,4 @@ padded_key key pad = map (λ byte. bit_xor byte pad) (block_key key)
 -- H((K0 xor opad) || H((K0 xor ipad) || text)), where ipad is the byte 36 and opad the byte 5c
 abbrev pub hmac_sha256 : List ℕ → List ℕ → Digest32
 hmac_sha256 key text =
-    digest_of_bytes (padded_key key 0x5c ++ sha256 (padded_key key 0x36 ++ text))
+    sha256_digest (padded_key key 0x5c ++ sha256 (padded_key key 0x36 ++ text))

@@ -5,5 +5,5 @@ use Rattle.sha2.proofs.Facts256.{length-sha256}
 use Rattle.tpol_base.specs.declared.digest.Digest32.{Digest32}
 
 -- the SHA-256 digest of a message
-abbrev pub digest_of_bytes : List ℕ → Digest32
-digest_of_bytes message = record { bytes = sha256 message; whole = length-sha256 message }
+abbrev pub sha256_digest : List ℕ → Digest32
+sha256_digest message = record { bytes = sha256 message; whole = length-sha256 message }

@@ -2,7 +2,7 @@
 
 ghost use Rattle.std.specs.Prelude.{◌≡◌, ℕ, List, [], ◌++◌};
 ghost use Rattle.tpol_hash.specs.Messages.{Holds};
-ghost use Rattle.tpol_hash.specs.Sha256.{digest_of_bytes};
+ghost use Rattle.tpol_hash.specs.Sha256.{sha256_digest};
 
 use sha2::{Digest, Sha256};
 use tpol_base::Digest32;
@@ -30,7 +30,7 @@ impl Hasher {
 
     /// The digest of the message.
     pub fn done(self) -> Digest32
-        ensures digest { (m : List ℕ) → Holds self m → result ≡ digest_of_bytes m }
+        ensures digest { (m : List ℕ) → Holds self m → result ≡ sha256_digest m }
     {
         Digest32 {
             bytes: self.sha.finalize(),
@@ -40,7 +40,7 @@ impl Hasher {
 
 /// The SHA-256 digest of a message.
 pub fn hash(bytes: &[u8]) -> Digest32
-    ensures digest { result ≡ digest_of_bytes bytes.now }
+    ensures digest { result ≡ sha256_digest bytes.now }
 {
     let mut hasher = Hasher::new();
     hasher.put(bytes);

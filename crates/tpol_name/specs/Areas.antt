@@ -4,7 +4,7 @@ use Rattle.std.specs.Prelude.{ℕ, Bool, List, [], ◌∷◌, ◌++◌, ◌==◌
 use Rattle.std.specs.Int.{to_be_bytes, w16, w32}
 use Rattle.tpol_base.specs.declared.name.Name.{Name}
 use Rattle.tpol_base.specs.declared.name.Name.TheVariants.{Hash}
-use Rattle.tpol_hash.specs.Sha256.{digest_of_bytes}
+use Rattle.tpol_hash.specs.Sha256.{sha256_digest}
 use Rattle.tpol_name.specs.declared.areas.NvPublic.{NvPublic}
 use Rattle.tpol_name.specs.declared.areas.ObjectPublic.{ObjectPublic}
 use Rattle.tpol_name.specs.declared.areas.Scheme.{Scheme}
@@ -28,7 +28,7 @@ object_area public =
 
 -- the Name of an object
 abbrev pub object_name : ObjectPublic → Name
-object_name public = Hash (digest_of_bytes (object_area public))
+object_name public = Hash (sha256_digest (object_area public))
 
 -- the public area of an index: the handle, the name algorithm, the attributes, authPolicy and the size
 abbrev pub index_area : NvPublic → List ℕ
@@ -38,7 +38,7 @@ index_area public =
 
 -- the Name of an index
 abbrev pub index_name : NvPublic → Name
-index_name public = Hash (digest_of_bytes (index_area public))
+index_name public = Hash (sha256_digest (index_area public))
 
 -- whether the attributes of an index have WRITTEN, bit 29
 abbrev pub is_written : ℕ → Bool
