@@ -1,15 +1,14 @@
 -- The steps to a closed policy, one after the other.
-use Rattle.std.proofs.Common.{◌≡◌, ℕ, List, Option, Some, None, Result, Ok, Err, IfSome, refl}
+use Rattle.std.proofs.Common.{◌≡◌, ℕ, List, Option, Some, None, Result, Ok, IfSome}
 use Rattle.tpol_base.specs.declared.document.Document.{Document}
 use Rattle.tpol_json.specs.declared.place.Place.{Place}
 use Rattle.tpol_name.specs.declared.sight.Sight.{Sight}
 use Rattle.tpol_top.specs.declared.halt.Halt.{Halt}
-use Rattle.tpol_top.specs.declared.outcome.Outcome.{Outcome}
 use Rattle.tpol_top.specs.Closed.{closed_step, with_notes}
 use Rattle.tpol_top.specs.Filled.{filled_step}
 use Rattle.tpol_top.specs.ReadStep.{read_step}
 use Rattle.tpol_top.specs.SceneStep.{sight_step}
-use Rattle.tpol_top.specs.Steps.{Answers, Halts, Step}
+use Rattle.tpol_top.specs.Steps.{Answers}
 use Rattle.tpol_tree.specs.declared.closed.Closed.{Closed}
 use Rattle.tpol_tree.specs.declared.policy.Policy.{Policy}
 

@@ -15,7 +15,7 @@ use Rattle.tpol_tree.specs.declared.closed.ClosedElements.TheVariants.{More' as 
 use Rattle.tpol_tree.specs.declared.policy.Branches.{Branches}
 use Rattle.tpol_tree.specs.declared.policy.Branches.TheVariants.{More' as MoreBranches', End as EndBranches}
 use Rattle.tpol_tree.specs.declared.policy.Element.{Element}
-use Rattle.tpol_tree.specs.declared.policy.Element.TheVariants.{Or, Pcr, Nv, Secret, Signed, Authorize, AuthorizeNv, Locality, CommandCode, CpHash, NameHash, CounterTimer, Duplication, NvWritten, AuthValue, Password, PhysicalPresence}
+use Rattle.tpol_tree.specs.declared.policy.Element.TheVariants.{Or}
 use Rattle.tpol_tree.specs.declared.policy.Elements.{Elements}
 use Rattle.tpol_tree.specs.declared.policy.Elements.TheVariants.{More', End}
 use Rattle.tpol_tree.specs.declared.policy.Policy.{Policy}

@@ -1,5 +1,5 @@
 -- Lists of words of a length that no command has.
-use Rattle.std.proofs.Common.{◌≡◌, ℕ, ◌<◌, ◌≤◌, List, [], ◌∷◌, length, map, None, refl, sym, subst, arith}
+use Rattle.std.proofs.Common.{◌≡◌, ℕ, ◌<◌, ◌≤◌, List, [], ◌∷◌, length, None, refl, arith}
 use Rattle.tpol_top.specs.Words.{command_of}
 
 -- two words

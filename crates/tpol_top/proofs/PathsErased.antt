@@ -1,5 +1,5 @@
 -- The list of paths does not depend on where a policy's boxes lie.
-use Rattle.std.proofs.Common.{◌≡◌, ℕ, ◌+◌, ◌++◌, [], ◌∷◌, List, map, refl, ap, ◌∙◌}
+use Rattle.std.proofs.Common.{◌≡◌, ℕ, ◌+◌, ◌++◌, List, map, refl, ap, ◌∙◌}
 use Rattle.tpol_base.specs.declared.digest.Digest32.{Digest32}
 use Rattle.tpol_digest.specs.Digest.{digest_at_element, branch_digests, zero_digest}
 use Rattle.tpol_digest.specs.Paths.{between, document_paths, paths_at, paths_at_branches, paths_at_element, paths_of, product}

@@ -1,5 +1,5 @@
 -- What `canon` prints.
-use Rattle.std.specs.Prelude.{ℕ, List, [], ◌∷◌, Ok}
+use Rattle.std.specs.Prelude.{ℕ, List, Ok}
 use Rattle.tpol_top.specs.declared.outcome.Outcome.{Outcome}
 use Rattle.tpol_top.specs.declared.outcome.Verdict.TheVariants.{Done}
 use Rattle.tpol_top.specs.Outcome.{one_line}

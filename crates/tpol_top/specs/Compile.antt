@@ -1,5 +1,5 @@
 -- The commands `compile` and `paths`: what they print of a document.
-use Rattle.std.specs.Prelude.{ℕ, List, [], ◌∷◌, ◌++◌, map, codes}
+use Rattle.std.specs.Prelude.{List, [], ◌∷◌, ◌++◌, map}
 use Rattle.tpol_digest.specs.Digest.{policy_digest}
 use Rattle.tpol_json.specs.declared.place.Place.{Place}
 use Rattle.tpol_top.specs.declared.outcome.Outcome.{Outcome}

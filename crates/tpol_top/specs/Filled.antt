@@ -1,5 +1,5 @@
 -- The step that fills a document.
-use Rattle.std.specs.Prelude.{List, [], ◌∷◌, Option, Result, Ok, Err}
+use Rattle.std.specs.Prelude.{List, [], ◌∷◌, Option, Ok, Err}
 use Rattle.tpol_fill.specs.declared.fault.FillFault.{FillFault}
 use Rattle.tpol_fill.specs.declared.fault.FillFault.TheVariants.{Bad, NoMemory}
 use Rattle.tpol_fill.specs.Filling.{filled, fill_faults}

@@ -1,5 +1,5 @@
 -- What a command has to say.
-use Rattle.std.specs.Prelude.{ℕ, List, [], ◌∷◌, ◌++◌, codes}
+use Rattle.std.specs.Prelude.{ℕ, List, [], ◌∷◌, ◌++◌}
 use Rattle.std.specs.List.{flat_map}
 use Rattle.tpol_top.specs.declared.outcome.Verdict.{Verdict}
 use Rattle.tpol_top.specs.declared.outcome.Verdict.TheVariants as V

@@ -1,5 +1,5 @@
 -- What a run of the program prints and answers, and what it leaves on the shelf.
-use Rattle.std.specs.Prelude.{ℕ, List, [], ◌∷◌, take, length, codes, nat_le, Option, None, Some, IfSome, if◌then◌else◌}
+use Rattle.std.specs.Prelude.{◌≡◌, ◌≤◌, ℕ, List, take, drop, length, codes, nat_le, Option, None, Some, IfSome, if◌then◌else◌}
 use Rattle.tpol_base.specs.declared.document.Document.{Document}
 use Rattle.tpol_top.specs.declared.outcome.Outcome.{Outcome}
 use Rattle.tpol_top.specs.declared.outcome.Verdict.TheVariants.{Usage, TooLarge}
@@ -51,3 +51,7 @@ OfChoice choice left documents P =
 abbrev pub OfReport : List (List ℕ) → Option (List ℕ) → Option (List Document) → (Report → Type 0) → Type 0
 OfReport words left documents P =
     IfSome left (λ held. IfSome documents (λ all. P (report_of words (take most_read held) all)))
+
+-- what a source tells that it holds is what it told before, but for at most so many bytes at the front
+abbrev pub LosesAtMost : ℕ → Option (List ℕ) → Option (List ℕ) → Type 0
+LosesAtMost most old new = IfSome old (λ held. (n : ℕ) × (n ≤ most) × (new ≡ Some (drop n held)))

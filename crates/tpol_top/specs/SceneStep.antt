@@ -1,5 +1,5 @@
 -- The step that reads a scene of the shelf.
-use Rattle.std.specs.Prelude.{ℕ, List, [], ◌∷◌, ◌++◌, codes, length, nat_le, Option, Some, None, Result, Ok, Err, if◌then◌else◌}
+use Rattle.std.specs.Prelude.{ℕ, List, [], ◌∷◌, ◌++◌, codes, length, nat_le, Option, Some, None, Ok, Err, if◌then◌else◌}
 use Rattle.serde_json.specs.Data.{Data}
 use Rattle.tpol_base.specs.declared.document.Document.{Document}
 use Rattle.tpol_base.specs.Documents.{document_of, handed_out, most_handed_out}

@@ -1,4 +1,4 @@
-ghost use Rattle.std.specs.Prelude.{◌≡◌, ◌≤◌, IfSome, IfOk, IsSome, IsErrOf};
+ghost use Rattle.std.specs.Prelude.{◌≡◌, ◌≤◌, false, is_some, IfSome, IfOk, IsSome, IsErrOf};
 ghost use Rattle.tpol_base.specs.Causes.{Rose};
 ghost use Rattle.tpol_fill.specs.Erased.{erased};
 ghost use Rattle.std.specs.Option.{option_copied};
@@ -31,6 +31,7 @@ pub fn closed_document<H: Shelf>(
         Answers (λ found. (erased found.0, found.1)) (closed_step scene.now input.now all) result) }
     ensures branches { IfOk result (λ found. HasBranchCounts found.0.elements) }
     ensures keeps { H.documents shelf.new ≡ H.documents shelf.old }
+    ensures untouched { is_some scene.now ≡ false → shelf.new ≡ shelf.old }
     ensures later { H.faults shelf.old ≤ H.faults shelf.new }
     ensures failed { IsErrOf result Halt.ShelfFailed → Rose (H.faults shelf.old) (H.faults shelf.new) }
     ensures named { IsErrOf result Halt.ShelfFailed → IsSome scene.now }

@@ -1,4 +1,4 @@
-ghost use Rattle.std.specs.Prelude.{◌≡◌, ◌≤◌, IfSome, IsSome, IsTrue, IsErrOf};
+ghost use Rattle.std.specs.Prelude.{◌≡◌, ◌≤◌, false, is_some, IfSome, IsSome, IsTrue, IsErrOf};
 ghost use Rattle.tpol_base.specs.Causes.{Rose};
 ghost use Rattle.tpol_top.specs.Commands.{command_step, compile_step, paths_step};
 ghost use Rattle.tpol_top.specs.Steps.{Answers};
@@ -24,6 +24,7 @@ pub fn answer_of_command<H: Shelf>(
     ensures answer { IfSome (H.documents shelf.old) (λ all.
         Answers (λ outcome. outcome) (command_step command.now input.now all) result) }
     ensures keeps { H.documents shelf.new ≡ H.documents shelf.old }
+    ensures untouched { uses_shelf_for command.now ≡ false → shelf.new ≡ shelf.old }
     ensures later { H.faults shelf.old ≤ H.faults shelf.new }
     ensures failed { IsErrOf result Halt.ShelfFailed → Rose (H.faults shelf.old) (H.faults shelf.new) }
     ensures named { IsErrOf result Halt.ShelfFailed → IsTrue (uses_shelf_for command.now) }
@@ -46,6 +47,7 @@ fn compile<H: Shelf>(
     ensures answer { IfSome (H.documents shelf.old) (λ all.
         Answers (λ outcome. outcome) (compile_step scene.now input.now all) result) }
     ensures keeps { H.documents shelf.new ≡ H.documents shelf.old }
+    ensures untouched { is_some scene.now ≡ false → shelf.new ≡ shelf.old }
     ensures later { H.faults shelf.old ≤ H.faults shelf.new }
     ensures failed { IsErrOf result Halt.ShelfFailed → Rose (H.faults shelf.old) (H.faults shelf.new) }
     ensures named { IsErrOf result Halt.ShelfFailed → IsSome scene.now }
@@ -67,6 +69,7 @@ fn list_paths<H: Shelf>(
     ensures answer { IfSome (H.documents shelf.old) (λ all.
         Answers (λ outcome. outcome) (paths_step scene.now input.now all) result) }
     ensures keeps { H.documents shelf.new ≡ H.documents shelf.old }
+    ensures untouched { is_some scene.now ≡ false → shelf.new ≡ shelf.old }
     ensures later { H.faults shelf.old ≤ H.faults shelf.new }
     ensures failed { IsErrOf result Halt.ShelfFailed → Rose (H.faults shelf.old) (H.faults shelf.new) }
     ensures named { IsErrOf result Halt.ShelfFailed → IsSome scene.now }

@@ -1,5 +1,6 @@
 ghost use Rattle.std.specs.Prelude.{◌≡◌, Some, IfSome, IfOk, take, drop};
 ghost use Rattle.tpol_base.specs.Causes.{HasLapse};
+ghost use Rattle.tpol_top.specs.Report.{LosesAtMost};
 
 use std::alloc::Global;
 use tpol_base::{Blob, Failed, Lapse, Source};
@@ -8,6 +9,7 @@ use tpol_base::{Blob, Failed, Lapse, Source};
 pub fn read_input<S: Source>(alloc: Global, source: &mut S, limit: usize) -> Result<Blob, Lapse>
     ensures whole { IfSome (S.left source.old) (λ held. IfOk result (λ bytes.
         (bytes ≡ take limit held) × (S.left source.new ≡ Some (drop limit held)))) }
+    ensures at_most { LosesAtMost limit (S.left source.old) (S.left source.new) }
     ensures cause { HasLapse (S.faults source.old) (S.faults source.new) result }
 {
     let mut bytes = Blob::new(alloc);

@@ -1,7 +1,7 @@
 ghost use Rattle.std.specs.Prelude.{◌≡◌, ◌≤◌, Some, None, false, IsTrue, IfSome, IfOk, OnOk, OnErr, IsErrOf, map, drop};
 ghost use Rattle.std.specs.String.{string_bytes};
 ghost use Rattle.tpol_base.specs.Causes.{Rose, HasLapse};
-ghost use Rattle.tpol_top.specs.Report.{OfChoice, OfReport, most_read, report_of_command, report_of_input};
+ghost use Rattle.tpol_top.specs.Report.{LosesAtMost, OfChoice, OfReport, most_read, report_of_command, report_of_input};
 ghost use Rattle.tpol_top.specs.Words.{command_of, reads_source, uses_shelf, uses_shelf_for};
 ghost use Rattle.tpol_top.specs.Status.{status_of_stop, IsPastReadingResult};
 
@@ -59,8 +59,9 @@ pub fn outcome_of_words<S: Source, H: Shelf>(
     ensures read_whole { IsTrue (reads_source (map string_bytes words.now.items))
         → IsPastReadingResult result
         → IfSome (S.left source.old) (λ held. S.left source.new ≡ Some (drop most_read held)) }
-    ensures unread { reads_source (map string_bytes words.now.items) ≡ false
-        → S.left source.new ≡ S.left source.old }
+    ensures read_at_most { LosesAtMost most_read (S.left source.old) (S.left source.new) }
+    ensures unread { reads_source (map string_bytes words.now.items) ≡ false → source.new ≡ source.old }
+    ensures untouched { uses_shelf (map string_bytes words.now.items) ≡ false → shelf.new ≡ shelf.old }
     ensures read_fault { IsErrOf result Stop.ReadFault → Rose (S.faults source.old) (S.faults source.new) }
     ensures read_fault_of { IsErrOf result Stop.ReadFault
         → IsTrue (reads_source (map string_bytes words.now.items)) }
@@ -89,6 +90,8 @@ fn outcome_of_source<S: Source, H: Shelf>(
     ensures keeps { OnErr result (H.documents shelf.new ≡ H.documents shelf.old) }
     ensures read_whole { IsPastReadingResult result
         → IfSome (S.left source.old) (λ held. S.left source.new ≡ Some (drop most_read held)) }
+    ensures read_at_most { LosesAtMost most_read (S.left source.old) (S.left source.new) }
+    ensures untouched { uses_shelf_for command.now ≡ false → shelf.new ≡ shelf.old }
     ensures read_fault { IsErrOf result Stop.ReadFault → Rose (S.faults source.old) (S.faults source.new) }
     ensures shelf_fault { IsErrOf result Stop.ShelfFault → Rose (H.faults shelf.old) (H.faults shelf.new) }
     ensures shelf_fault_of { IsErrOf result Stop.ShelfFault → IsTrue (uses_shelf_for command.now) }
@@ -125,6 +128,7 @@ fn outcome_of_input<H: Shelf>(
         let report = report_of_input command.now input.now all in
         (outcome ≡ report.outcome) × (H.documents shelf.new ≡ Some report.documents))) }
     ensures keeps { OnErr result (H.documents shelf.new ≡ H.documents shelf.old) }
+    ensures untouched { uses_shelf_for command.now ≡ false → shelf.new ≡ shelf.old }
     ensures cause { HasLapse (H.faults shelf.old) (H.faults shelf.new) result }
     ensures shelf_fault_of { IsErrOf result Lapse.Failed → IsTrue (uses_shelf_for command.now) }
 {
@@ -145,6 +149,7 @@ fn outcome_of_command<H: Shelf>(
         let report = report_of_command command.now input.now all in
         (outcome ≡ report.outcome) × (H.documents shelf.new ≡ Some report.documents))) }
     ensures keeps { OnErr result (H.documents shelf.new ≡ H.documents shelf.old) }
+    ensures untouched { uses_shelf_for command.now ≡ false → shelf.new ≡ shelf.old }
     ensures cause { HasLapse (H.faults shelf.old) (H.faults shelf.new) result }
     ensures shelf_fault_of { IsErrOf result Lapse.Failed → IsTrue (uses_shelf_for command.now) }
 {

@@ -1,4 +1,4 @@
-ghost use Rattle.std.specs.Prelude.{◌≡◌, ◌≤◌, ◌++◌, IfSome, IfOk, IsSome, IsErrOf, codes};
+ghost use Rattle.std.specs.Prelude.{◌≡◌, ◌≤◌, ◌++◌, false, is_some, IfSome, IfOk, IsSome, IsErrOf, codes};
 ghost use Rattle.tpol_base.specs.Causes.{Rose};
 ghost use Rattle.tpol_base.specs.Documents.{most_handed_out};
 ghost use Rattle.tpol_top.specs.SceneStep.{opening_of, scene_file, scene_of_bytes, sight_of_found, sight_step, too_large_in};
@@ -22,6 +22,7 @@ pub fn sight_of_scene<H: Shelf>(
 ) -> Result<Option<Sight>, Halt>
     ensures answer { IfSome (H.documents shelf.old) (λ all. Answers (λ sight. sight) (sight_step scene.now all) result) }
     ensures keeps { H.documents shelf.new ≡ H.documents shelf.old }
+    ensures untouched { is_some scene.now ≡ false → shelf.new ≡ shelf.old }
     ensures later { H.faults shelf.old ≤ H.faults shelf.new }
     ensures failed { IsErrOf result Halt.ShelfFailed → Rose (H.faults shelf.old) (H.faults shelf.new) }
     ensures named { IsErrOf result Halt.ShelfFailed → IsSome scene.now }

@@ -250,6 +250,22 @@ fn faults_of_the_outside_are_told(rt: HostRuntime) -> Result<(), Fail> {
 }
 
 #[test]
+fn each_line_is_one_write(rt: HostRuntime) -> Result<(), Fail> {
+    let alloc = rt.alloc();
+    let words = words_of(alloc, &["paths"])?;
+    let mut source = MemorySource::new(BEFORE_AN_OR.as_bytes().to_vec(alloc)?);
+    let mut sink = Failing::new(MemorySink::new(alloc), vec![in alloc; 3]?);
+    let mut shelf = MemoryShelf::new(alloc);
+    let status = policy_main(alloc, &words, &mut source, &mut sink, &mut shelf);
+    assert_eq!(rt; status, Status::WriteFault);
+    assert_eq!(rt;
+        sink.inner().written().ok_or("lost")?,
+        "path 1 \"a\" CommandCode,AuthValue,Or\npath 2 \"b\" CommandCode,Locality,Or\n".as_bytes()
+    );
+    Ok(())
+}
+
+#[test]
 fn a_source_is_read_to_its_limit(rt: HostRuntime) -> Result<(), Fail> {
     let alloc = rt.alloc();
     let words = words_of(alloc, &["compile"])?;

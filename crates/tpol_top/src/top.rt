@@ -2,7 +2,7 @@ ghost use Rattle.std.specs.Prelude.{◌≡◌, ◌≤◌, ◌⊎◌, Some, false
 ghost use Rattle.std.specs.String.{string_bytes};
 ghost use Rattle.tpol_base.specs.Causes.{Rose, Grows, GrowsInPart};
 ghost use Rattle.tpol_top.specs.Outcome.{status_of, text_of};
-ghost use Rattle.tpol_top.specs.Report.{OfReport, most_read};
+ghost use Rattle.tpol_top.specs.Report.{LosesAtMost, OfReport, most_read};
 ghost use Rattle.tpol_top.specs.Status.{IsWhole, IsSilent, IsPastReading};
 ghost use Rattle.tpol_top.specs.Words.{reads_source, uses_shelf};
 
@@ -45,15 +45,18 @@ pub fn policy_main<S: Source, K: Sink, H: Shelf>(
         GrowsInPart (K.contents out.old) (K.contents out.new) (text_of report.outcome.lines)
         × ((H.documents shelf.new ≡ H.documents shelf.old) ⊎ (H.documents shelf.new ≡ Some report.documents))) }
 
-    // Where the source or the shelf failed, nothing was written, and the shelf is as before.
-    ensures silent { IsSilent result → K.contents out.new ≡ K.contents out.old }
+    // Where the source or the shelf failed, the sink was not called, and the shelf is as before.
+    ensures silent { IsSilent result → out.new ≡ out.old }
     ensures unchanged { IsSilent result → H.documents shelf.new ≡ H.documents shelf.old }
 
-    // A command that reads the source reads it to its end, or to its byte 16,777,217.
+    // A command that reads the source reads it to its end, or to its byte 16,777,217, and never further.
     ensures read_whole { IsTrue (reads_source (map string_bytes words.now.items)) → IsPastReading result
         → IfSome (S.left source.old) (λ held. S.left source.new ≡ Some (drop most_read held)) }
-    ensures unread { reads_source (map string_bytes words.now.items) ≡ false
-        → S.left source.new ≡ S.left source.old }
+    ensures read_at_most { LosesAtMost most_read (S.left source.old) (S.left source.new) }
+
+    // Words that are no command leave the source alone, and a command that names no scene the shelf.
+    ensures unread { reads_source (map string_bytes words.now.items) ≡ false → source.new ≡ source.old }
+    ensures untouched { uses_shelf (map string_bytes words.now.items) ≡ false → shelf.new ≡ shelf.old }
 
     // Each fault comes only where its object failed in this call, and only of commands that use the object.
     ensures read_fault { result ≡ Status.ReadFault → Rose (S.faults source.old) (S.faults source.new) }

@@ -1,4 +1,4 @@
-use Rattle.std.proofs.Common.{length, map, sym, arith}
+use Rattle.std.proofs.Common.{map, sym}
 use Rattle.std.proofs.lemmas.List.{length-map}
 use Rattle.std.specs.String.{string_bytes}
 use Rattle.tpol_top.proofs.NoCommand.{no_command-two, no_command-four}

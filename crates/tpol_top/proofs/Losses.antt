@@ -1,0 +1,12 @@
+-- What a source loses to reads.
+use Rattle.std.proofs.Common.{◌≤◌, ℕ, List, length, drop, Option, None, Some, sym, ap, ◌∙◌}
+use Rattle.std.proofs.Math.Seq.{drop-append_seam}
+use Rattle.std.specs.Io.KnownBytes.{Consumes}
+use Rattle.tpol_top.specs.Report.{LosesAtMost}
+
+-- what was taken from the front is at most so much
+pub loses_at_most : (most : ℕ) (old new : Option (List ℕ)) (bytes : List ℕ) → Consumes old new bytes → length bytes ≤ most → LosesAtMost most old new
+loses_at_most most None new bytes taken within = tt
+loses_at_most most (Some held) None bytes taken within = absurd taken
+loses_at_most most (Some held) (Some left) bytes taken within =
+    (length bytes, within, ap Some (sym (drop-append_seam bytes left) ∙ ap (drop (length bytes)) (sym taken)))
