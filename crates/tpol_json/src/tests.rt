@@ -102,8 +102,6 @@ fn documents(rt: HostRuntime) -> Result<(), Fail> {
     let text = text_of(alloc, kind, &Place::root(alloc)).ok();
     assert!(rt; text.ok_or("no text")?.as_str() == "POLICYAUTHVALUE");
     assert!(rt; member(&document, "Type").is_none());
-    let unnamed = parse(alloc, b"{\"\":1}")?;
-    assert!(rt; member(&unnamed, "").is_some());
     let refused: [&[u8]; 5] = [b"", b"{", b"\xef\xbb\xbf{}", b"\"\\ud800\"", b"1e999"];
     for bytes in &refused {
         assert!(rt; matches!(parse(alloc, bytes), Err(ParseFault::NotJson)));
