@@ -1,14 +1,15 @@
 -- The steps to a closed policy, one after the other.
-use Rattle.std.proofs.Common.{◌≡◌, ℕ, List, Option, Some, None, Result, Ok, IfSome}
+use Rattle.std.proofs.Common.{◌≡◌, ℕ, List, Option, Some, None, Result, Ok, Err, IfSome}
 use Rattle.tpol_base.specs.declared.document.Document.{Document}
 use Rattle.tpol_json.specs.declared.place.Place.{Place}
 use Rattle.tpol_name.specs.declared.sight.Sight.{Sight}
 use Rattle.tpol_top.specs.declared.halt.Halt.{Halt}
+use Rattle.tpol_top.specs.declared.halt.Halt.TheVariants.{Refused, ShelfFailed, NoMemory}
 use Rattle.tpol_top.specs.Closed.{closed_step, with_notes}
 use Rattle.tpol_top.specs.Filled.{filled_step}
 use Rattle.tpol_top.specs.ReadStep.{read_step}
 use Rattle.tpol_top.specs.SceneStep.{sight_step}
-use Rattle.tpol_top.specs.Steps.{Answers}
+use Rattle.tpol_top.specs.Steps.{Answers, Halts}
 use Rattle.tpol_tree.specs.declared.closed.Closed.{Closed}
 use Rattle.tpol_tree.specs.declared.policy.Policy.{Policy}
 
@@ -22,3 +23,14 @@ pub answer_after : {A : Type 0} (view : A → Closed × List Place) (documents :
 answer_after view None scene input policy notes sight result is_read is_seen answer = tt
 answer_after view (Some all) scene input policy notes sight result is_read is_seen answer =
     rw (closed_after scene input all policy notes sight is_read is_seen) answer
+
+-- the scene was not read
+halts_of : (halt : Halt) (scene : Option (List ℕ)) (input : List ℕ) (all : List Document) (policy : Policy) (notes : List Place) → read_step input ≡ Ok (policy, notes) → Halts halt (sight_step scene all) → Halts halt (closed_step scene input all)
+unfolding closed_step
+halts_of (Refused outcome) scene input all policy notes is_read halts = rw (is_read, halts)
+halts_of ShelfFailed scene input all policy notes is_read halts = tt
+halts_of NoMemory scene input all policy notes is_read halts = tt
+
+pub halts_after : (halt : Halt) (documents : Option (List Document)) (scene : Option (List ℕ)) (input : List ℕ) (policy : Policy) (notes : List Place) → read_step input ≡ Ok (policy, notes) → IfSome documents (λ all. Halts halt (sight_step scene all)) → IfSome documents (λ all. Halts halt (closed_step scene input all))
+halts_after halt None scene input policy notes is_read halts = tt
+halts_after halt (Some all) scene input policy notes is_read halts = halts_of halt scene input all policy notes is_read halts

@@ -1,4 +1,4 @@
-ghost use Rattle.std.specs.Prelude.{◌≡◌, ◌≤◌, false, is_some, IfSome, IfOk, IsSome, IsErrOf};
+ghost use Rattle.std.specs.Prelude.{◌≡◌, ◌≤◌, ◌⊎◌, false, is_some, IfSome, IfOk, IsSome, IsErrOf};
 ghost use Rattle.tpol_base.specs.Causes.{Rose};
 ghost use Rattle.tpol_fill.specs.Erased.{erased};
 ghost use Rattle.std.specs.Option.{option_copied};
@@ -34,6 +34,7 @@ pub fn closed_document<H: Shelf>(
     ensures untouched { is_some scene.now ≡ false → shelf.new ≡ shelf.old }
     ensures later { H.faults shelf.old ≤ H.faults shelf.new }
     ensures failed { IsErrOf result Halt.ShelfFailed → Rose (H.faults shelf.old) (H.faults shelf.new) }
+    ensures stays { IsErrOf result Halt.ShelfFailed ⊎ (H.faults shelf.new ≡ H.faults shelf.old) }
     ensures named { IsErrOf result Halt.ShelfFailed → IsSome scene.now }
 {
     let (policy, notes) = match read_document(alloc, input) {

@@ -1,4 +1,4 @@
-ghost use Rattle.std.specs.Prelude.{◌≡◌, ◌≤◌, false, is_some, IfSome, IsSome, IsTrue, IsErrOf};
+ghost use Rattle.std.specs.Prelude.{◌≡◌, ◌≤◌, ◌⊎◌, false, is_some, IfSome, IsSome, IsTrue, IsErrOf};
 ghost use Rattle.tpol_base.specs.Causes.{Rose};
 ghost use Rattle.tpol_top.specs.Commands.{command_step, compile_step, paths_step};
 ghost use Rattle.tpol_top.specs.Steps.{Answers};
@@ -27,6 +27,7 @@ pub fn answer_of_command<H: Shelf>(
     ensures untouched { uses_shelf_for command.now ≡ false → shelf.new ≡ shelf.old }
     ensures later { H.faults shelf.old ≤ H.faults shelf.new }
     ensures failed { IsErrOf result Halt.ShelfFailed → Rose (H.faults shelf.old) (H.faults shelf.new) }
+    ensures stays { IsErrOf result Halt.ShelfFailed ⊎ (H.faults shelf.new ≡ H.faults shelf.old) }
     ensures named { IsErrOf result Halt.ShelfFailed → IsTrue (uses_shelf_for command.now) }
 {
     match command {
@@ -50,6 +51,7 @@ fn compile<H: Shelf>(
     ensures untouched { is_some scene.now ≡ false → shelf.new ≡ shelf.old }
     ensures later { H.faults shelf.old ≤ H.faults shelf.new }
     ensures failed { IsErrOf result Halt.ShelfFailed → Rose (H.faults shelf.old) (H.faults shelf.new) }
+    ensures stays { IsErrOf result Halt.ShelfFailed ⊎ (H.faults shelf.new ≡ H.faults shelf.old) }
     ensures named { IsErrOf result Halt.ShelfFailed → IsSome scene.now }
 {
     match closed_document(alloc, scene, input, shelf) {
@@ -72,6 +74,7 @@ fn list_paths<H: Shelf>(
     ensures untouched { is_some scene.now ≡ false → shelf.new ≡ shelf.old }
     ensures later { H.faults shelf.old ≤ H.faults shelf.new }
     ensures failed { IsErrOf result Halt.ShelfFailed → Rose (H.faults shelf.old) (H.faults shelf.new) }
+    ensures stays { IsErrOf result Halt.ShelfFailed ⊎ (H.faults shelf.new ≡ H.faults shelf.old) }
     ensures named { IsErrOf result Halt.ShelfFailed → IsSome scene.now }
 {
     match closed_document(alloc, scene, input, shelf) {

@@ -1,5 +1,5 @@
 ghost use Rattle.std.specs.Prelude.{◌≡◌, Some, IfSome, IfOk, take, drop};
-ghost use Rattle.tpol_base.specs.Causes.{HasLapse};
+ghost use Rattle.tpol_base.specs.Causes.{HasLapse, IsQuiet};
 ghost use Rattle.tpol_top.specs.Report.{LosesAtMost};
 
 use std::alloc::Global;
@@ -11,6 +11,7 @@ pub fn read_input<S: Source>(alloc: Global, source: &mut S, limit: usize) -> Res
         (bytes ≡ take limit held) × (S.left source.new ≡ Some (drop limit held)))) }
     ensures at_most { LosesAtMost limit (S.left source.old) (S.left source.new) }
     ensures cause { HasLapse (S.faults source.old) (S.faults source.new) result }
+    ensures quiet { IsQuiet (S.faults source.old) (S.faults source.new) result }
 {
     let mut bytes = Blob::new(alloc);
     let mut piece = [0; 4096];

@@ -1,4 +1,4 @@
-ghost use Rattle.std.specs.Prelude.{MatchResult};
+ghost use Rattle.std.specs.Prelude.{◌≡◌, MatchResult, OnOk};
 ghost use Rattle.tpol_base.specs.Causes.{HasCause, Grows, GrowsInPart};
 ghost use Rattle.tpol_top.specs.Outcome.{text_of};
 
@@ -10,6 +10,7 @@ pub fn print_lines<K: Sink>(out: &mut K, lines: &[Blob]) -> Result<(), Failed>
         (λ _. Grows (K.contents out.old) (K.contents out.new) (text_of lines.now))
         (λ _. GrowsInPart (K.contents out.old) (K.contents out.new) (text_of lines.now)) }
     ensures cause { HasCause (K.faults out.old) (K.faults out.new) result }
+    ensures quiet { OnOk result (K.faults out.new ≡ K.faults out.old) }
 {
     for line in lines {
         match out.write(line.as_slice()) {

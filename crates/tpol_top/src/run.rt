@@ -1,6 +1,6 @@
-ghost use Rattle.std.specs.Prelude.{◌≡◌, ◌≤◌, Some, None, false, IsTrue, IfSome, IfOk, OnOk, OnErr, IsErrOf, map, drop};
+ghost use Rattle.std.specs.Prelude.{◌≡◌, ◌≤◌, ◌⊎◌, Some, None, false, IsTrue, IfSome, IfOk, OnOk, OnErr, IsErrOf, map, drop};
 ghost use Rattle.std.specs.String.{string_bytes};
-ghost use Rattle.tpol_base.specs.Causes.{Rose, HasLapse};
+ghost use Rattle.tpol_base.specs.Causes.{Rose, HasLapse, IsQuiet};
 ghost use Rattle.tpol_top.specs.Report.{LosesAtMost, OfChoice, OfReport, most_read, report_of_command, report_of_input};
 ghost use Rattle.tpol_top.specs.Words.{command_of, reads_source, uses_shelf, uses_shelf_for};
 ghost use Rattle.tpol_top.specs.Status.{status_of_stop, IsPastReadingResult};
@@ -68,6 +68,8 @@ pub fn outcome_of_words<S: Source, H: Shelf>(
     ensures shelf_fault { IsErrOf result Stop.ShelfFault → Rose (H.faults shelf.old) (H.faults shelf.new) }
     ensures shelf_fault_of { IsErrOf result Stop.ShelfFault
         → IsTrue (uses_shelf (map string_bytes words.now.items)) }
+    ensures read_told { IsErrOf result Stop.ReadFault ⊎ (S.faults source.new ≡ S.faults source.old) }
+    ensures shelf_told { IsErrOf result Stop.ShelfFault ⊎ (H.faults shelf.new ≡ H.faults shelf.old) }
     ensures source_count { S.faults source.old ≤ S.faults source.new }
     ensures shelf_count { H.faults shelf.old ≤ H.faults shelf.new }
 {
@@ -95,6 +97,8 @@ fn outcome_of_source<S: Source, H: Shelf>(
     ensures read_fault { IsErrOf result Stop.ReadFault → Rose (S.faults source.old) (S.faults source.new) }
     ensures shelf_fault { IsErrOf result Stop.ShelfFault → Rose (H.faults shelf.old) (H.faults shelf.new) }
     ensures shelf_fault_of { IsErrOf result Stop.ShelfFault → IsTrue (uses_shelf_for command.now) }
+    ensures read_told { IsErrOf result Stop.ReadFault ⊎ (S.faults source.new ≡ S.faults source.old) }
+    ensures shelf_told { IsErrOf result Stop.ShelfFault ⊎ (H.faults shelf.new ≡ H.faults shelf.old) }
     ensures source_count { S.faults source.old ≤ S.faults source.new }
     ensures shelf_count { H.faults shelf.old ≤ H.faults shelf.new }
 {
@@ -130,6 +134,7 @@ fn outcome_of_input<H: Shelf>(
     ensures keeps { OnErr result (H.documents shelf.new ≡ H.documents shelf.old) }
     ensures untouched { uses_shelf_for command.now ≡ false → shelf.new ≡ shelf.old }
     ensures cause { HasLapse (H.faults shelf.old) (H.faults shelf.new) result }
+    ensures quiet { IsQuiet (H.faults shelf.old) (H.faults shelf.new) result }
     ensures shelf_fault_of { IsErrOf result Lapse.Failed → IsTrue (uses_shelf_for command.now) }
 {
     if input.len() >= most_read() {
@@ -151,6 +156,7 @@ fn outcome_of_command<H: Shelf>(
     ensures keeps { OnErr result (H.documents shelf.new ≡ H.documents shelf.old) }
     ensures untouched { uses_shelf_for command.now ≡ false → shelf.new ≡ shelf.old }
     ensures cause { HasLapse (H.faults shelf.old) (H.faults shelf.new) result }
+    ensures quiet { IsQuiet (H.faults shelf.old) (H.faults shelf.new) result }
     ensures shelf_fault_of { IsErrOf result Lapse.Failed → IsTrue (uses_shelf_for command.now) }
 {
     match answer_of_command(alloc, command, input, shelf) {

@@ -1,4 +1,4 @@
-ghost use Rattle.std.specs.Prelude.{◌≡◌, ◌≤◌, ◌++◌, false, is_some, IfSome, IfOk, IsSome, IsErrOf, codes};
+ghost use Rattle.std.specs.Prelude.{◌≡◌, ◌≤◌, ◌⊎◌, ◌++◌, false, is_some, IfSome, IfOk, IsSome, IsErrOf, codes};
 ghost use Rattle.tpol_base.specs.Causes.{Rose};
 ghost use Rattle.tpol_base.specs.Documents.{most_handed_out};
 ghost use Rattle.tpol_top.specs.SceneStep.{opening_of, scene_file, scene_of_bytes, sight_of_found, sight_step, too_large_in};
@@ -25,6 +25,7 @@ pub fn sight_of_scene<H: Shelf>(
     ensures untouched { is_some scene.now ≡ false → shelf.new ≡ shelf.old }
     ensures later { H.faults shelf.old ≤ H.faults shelf.new }
     ensures failed { IsErrOf result Halt.ShelfFailed → Rose (H.faults shelf.old) (H.faults shelf.new) }
+    ensures stays { IsErrOf result Halt.ShelfFailed ⊎ (H.faults shelf.new ≡ H.faults shelf.old) }
     ensures named { IsErrOf result Halt.ShelfFailed → IsSome scene.now }
 {
     match scene {
@@ -39,6 +40,7 @@ fn sight_of_name<H: Shelf>(alloc: Global, name: &Text, shelf: &mut H) -> Result<
     ensures keeps { H.documents shelf.new ≡ H.documents shelf.old }
     ensures later { H.faults shelf.old ≤ H.faults shelf.new }
     ensures failed { IsErrOf result Halt.ShelfFailed → Rose (H.faults shelf.old) (H.faults shelf.new) }
+    ensures stays { IsErrOf result Halt.ShelfFailed ⊎ (H.faults shelf.new ≡ H.faults shelf.old) }
 {
     let file = scene_file(alloc, name)?;
     match shelf.fetch(file.as_str()) {

@@ -65,6 +65,11 @@ pub fn policy_main<S: Source, K: Sink, H: Shelf>(
     ensures read_fault_of { result ≡ Status.ReadFault → IsTrue (reads_source (map string_bytes words.now.items)) }
     ensures shelf_fault_of { result ≡ Status.ShelfFault → IsTrue (uses_shelf (map string_bytes words.now.items)) }
 
+    // Each fault is told: a count rises in no call that answers otherwise.
+    ensures read_told { (result ≡ Status.ReadFault) ⊎ (S.faults source.new ≡ S.faults source.old) }
+    ensures write_told { (result ≡ Status.WriteFault) ⊎ (K.faults out.new ≡ K.faults out.old) }
+    ensures shelf_told { (result ≡ Status.ShelfFault) ⊎ (H.faults shelf.new ≡ H.faults shelf.old) }
+
     // No count falls.
     ensures source_count { S.faults source.old ≤ S.faults source.new }
     ensures sink_count { K.faults out.old ≤ K.faults out.new }

@@ -9,5 +9,5 @@ invariant-loop-turn g l = record {
   consumed : Consumes (g.S.Source.left l.initial.source) (g.S.Source.left l.source) l.bytes;
   within : length l.bytes ≤ l.limit;
   turns : l._turn ≤ length l.bytes;
-  faults : g.S.Source.faults l.initial.source ≤ g.S.Source.faults l.source;
+  faults : g.S.Source.faults l.source ≡ g.S.Source.faults l.initial.source;
 }

@@ -1,4 +1,4 @@
-use Rattle.std.proofs.Common.{◌≤◌, take}
+use Rattle.std.proofs.Common.{◌≡◌, take}
 use Rattle.tpol_base.specs.Causes.{Grows}
 use Rattle.tpol_top.specs.Outcome.{text_of}
 use Rattle.tpol_top.proofs.print.print_lines.Given as goal
@@ -7,5 +7,5 @@ use Rattle.tpol_top.proofs.print.print_lines.Given as goal
 abbrev pub invariant-loop-line : goal.invariant-loop-line
 invariant-loop-line g l = record {
   written : Grows (g.K.Sink.contents l.initial.out) (g.K.Sink.contents l.out) (text_of (take l.line-index l.lines));
-  faults : g.K.Sink.faults l.initial.out ≤ g.K.Sink.faults l.out;
+  faults : g.K.Sink.faults l.out ≡ g.K.Sink.faults l.initial.out;
 }
