@@ -1,5 +1,5 @@
--- Digests out of bytes.
-use Rattle.std.specs.Prelude.{◌≡◌, ℕ, zero, suc, List, [], ◌∷◌, length, refl}
+-- Digests out of bytes, and the zero digest.
+use Rattle.std.specs.Prelude.{◌≡◌, ℕ, zero, suc, List, [], ◌∷◌, length, replicate, refl}
 use Rattle.std.proofs.Common.{ap}
 use Rattle.tpol_base.specs.declared.digest.Digest32.{Digest32}
 
@@ -17,3 +17,7 @@ length-front (suc n) (byte ∷ bytes) = ap suc (length-front n bytes)
 -- the digest of the first 32 bytes
 unfoldable pub digest_of_bytes : List ℕ → Digest32
 digest_of_bytes bytes = record { bytes = front 32 bytes; whole = length-front 32 bytes }
+
+-- 32 zero bytes
+abbrev pub zero_digest : Digest32
+zero_digest = record { bytes = replicate 32 0; whole = refl }

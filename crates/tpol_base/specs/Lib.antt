@@ -1,3 +1,4 @@
+pub mod Adapters
 pub mod Causes
 pub mod Compare
 pub mod Cursor
@@ -6,3 +7,4 @@ pub mod Documents
 pub mod Failing
 pub mod Name
 pub mod PolicyName
+pub mod Sized

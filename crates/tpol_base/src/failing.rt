@@ -6,7 +6,8 @@ ghost use Rattle.std.specs.List.Sorted.{IsPermutation};
 ghost use Rattle.std.specs.Option.{option_map};
 ghost use Rattle.tpol_base.specs.Causes.{HasCause, HasLapse, IsQuiet, Grows, GrowsInPart, Rose};
 ghost use Rattle.tpol_base.specs.Documents.{document_of, handed_out, names_of, put_document};
-ghost use Rattle.tpol_base.specs.Failing.{IsCounted, fails_next};
+ghost use Rattle.tpol_base.specs.Failing as below;
+ghost use Rattle.tpol_base.specs.Failing.{IsCounted, calls_made, failing_calls, fails_next, inner, own_faults};
 
 use crate::{Blob, Failed, Lapse, Shelf, Sink, Source, Texts};
 
@@ -23,10 +24,10 @@ pub struct Failing<T> {
 impl<T> Failing<T> {
     /// `inner`, with these calls failing.
     pub fn new(inner: T, failing: Vec<u64>) -> Failing<T>
-        ensures inner { result.inner ≡ inner }
-        ensures list { result.failing.items ≡ failing.items }
-        ensures no_call { result.calls ≡ 0 }
-        ensures no_fault { result.faults ≡ 0 }
+        ensures inner { below.inner result ≡ inner }
+        ensures list { failing_calls result ≡ failing.items }
+        ensures no_call { calls_made result ≡ 0 }
+        ensures no_fault { own_faults result ≡ 0 }
     {
         Failing {
             inner,
@@ -38,7 +39,7 @@ impl<T> Failing<T> {
 
     /// What stands below.
     pub fn inner(&self) -> &T
-        ensures { result.now ≡ self.now.inner }
+        ensures { result.now ≡ inner self.now }
     {
         &self.inner
     }
@@ -47,10 +48,10 @@ impl<T> Failing<T> {
     fn fails_now(&mut self) -> bool
         ensures fails { result ≡ fails_next self.old }
         ensures counted { IsCounted self.old self.new }
-        ensures inner { self.new.inner ≡ self.old.inner }
-        ensures later { self.old.faults ≤ self.new.faults }
-        ensures passes { OnFalse result (self.new.faults ≡ self.old.faults) }
-        ensures rose { OnTrue result (Rose self.old.faults self.new.faults) }
+        ensures inner { inner self.new ≡ inner self.old }
+        ensures later { own_faults self.old ≤ own_faults self.new }
+        ensures passes { OnFalse result (own_faults self.new ≡ own_faults self.old) }
+        ensures rose { OnTrue result (Rose (own_faults self.old) (own_faults self.new)) }
     {
         self.calls = self.calls.saturating_add(1);
         let fails = self.failing.contains(&self.calls);
@@ -62,21 +63,22 @@ impl<T> Failing<T> {
 }
 
 impl<T: Source> Source for Failing<T> {
-    ghost left = { λ s. T.left s.inner };
+    ghost left = { λ s. T.left (inner s) };
 
-    ghost faults = { λ s. s.faults + T.faults s.inner };
+    ghost faults = { λ s. own_faults s + T.faults (inner s) };
 
     fn read(&mut self, buf: &mut [u8]) -> Result<usize, Failed>
         requires { 0 < length buf.old }
         ensures bound { ReadsAtMost result buf.new }
-        ensures bytes { ReadConsumes (T.left self.old.inner) (T.left self.new.inner) result buf.new }
-        ensures cause { HasCause (self.old.faults + T.faults self.old.inner)
-            (self.new.faults + T.faults self.new.inner) result }
-        ensures quiet { OnOk result (self.new.faults + T.faults self.new.inner
-            ≡ self.old.faults + T.faults self.old.inner) }
+        ensures bytes { ReadConsumes (T.left (inner self.old)) (T.left (inner self.new)) result buf.new }
+        ensures cause { HasCause (own_faults self.old + T.faults (inner self.old))
+            (own_faults self.new + T.faults (inner self.new)) result }
+        ensures quiet { OnOk result (own_faults self.new + T.faults (inner self.new)
+            ≡ own_faults self.old + T.faults (inner self.old)) }
         ensures counted { IsCounted self.old self.new }
         ensures fails { IsTrue (fails_next self.old) → IsErr result }
-        ensures passes { IsFalse (fails_next self.old) → self.new.faults ≡ self.old.faults }
+        ensures still { IsTrue (fails_next self.old) → inner self.new ≡ inner self.old }
+        ensures passes { IsFalse (fails_next self.old) → own_faults self.new ≡ own_faults self.old }
     {
         if self.fails_now() {
             return Err(Failed);
@@ -86,21 +88,22 @@ impl<T: Source> Source for Failing<T> {
 }
 
 impl<T: Sink> Sink for Failing<T> {
-    ghost contents = { λ s. T.contents s.inner };
+    ghost contents = { λ s. T.contents (inner s) };
 
-    ghost faults = { λ s. s.faults + T.faults s.inner };
+    ghost faults = { λ s. own_faults s + T.faults (inner s) };
 
     fn write(&mut self, bytes: &[u8]) -> Result<(), Failed>
         ensures written { MatchResult result
-            (λ _. Grows (T.contents self.old.inner) (T.contents self.new.inner) bytes.now)
-            (λ _. GrowsInPart (T.contents self.old.inner) (T.contents self.new.inner) bytes.now) }
-        ensures cause { HasCause (self.old.faults + T.faults self.old.inner)
-            (self.new.faults + T.faults self.new.inner) result }
-        ensures quiet { OnOk result (self.new.faults + T.faults self.new.inner
-            ≡ self.old.faults + T.faults self.old.inner) }
+            (λ _. Grows (T.contents (inner self.old)) (T.contents (inner self.new)) bytes.now)
+            (λ _. GrowsInPart (T.contents (inner self.old)) (T.contents (inner self.new)) bytes.now) }
+        ensures cause { HasCause (own_faults self.old + T.faults (inner self.old))
+            (own_faults self.new + T.faults (inner self.new)) result }
+        ensures quiet { OnOk result (own_faults self.new + T.faults (inner self.new)
+            ≡ own_faults self.old + T.faults (inner self.old)) }
         ensures counted { IsCounted self.old self.new }
         ensures fails { IsTrue (fails_next self.old) → IsErr result }
-        ensures passes { IsFalse (fails_next self.old) → self.new.faults ≡ self.old.faults }
+        ensures still { IsTrue (fails_next self.old) → inner self.new ≡ inner self.old }
+        ensures passes { IsFalse (fails_next self.old) → own_faults self.new ≡ own_faults self.old }
     {
         if self.fails_now() {
             return Err(Failed);
@@ -110,21 +113,22 @@ impl<T: Sink> Sink for Failing<T> {
 }
 
 impl<T: Shelf> Shelf for Failing<T> {
-    ghost documents = { λ s. T.documents s.inner };
+    ghost documents = { λ s. T.documents (inner s) };
 
-    ghost faults = { λ s. s.faults + T.faults s.inner };
+    ghost faults = { λ s. own_faults s + T.faults (inner s) };
 
     fn fetch(&mut self, name: &str) -> Result<Option<Blob>, Lapse>
-        ensures keeps { T.documents self.new.inner ≡ T.documents self.old.inner }
-        ensures found { IfSome (T.documents self.old.inner)
+        ensures keeps { T.documents (inner self.new) ≡ T.documents (inner self.old) }
+        ensures found { IfSome (T.documents (inner self.old))
             (λ all. IfOk result (λ found. found ≡ handed_out (document_of name.now all))) }
-        ensures cause { HasLapse (self.old.faults + T.faults self.old.inner)
-            (self.new.faults + T.faults self.new.inner) result }
-        ensures quiet { IsQuiet (self.old.faults + T.faults self.old.inner)
-            (self.new.faults + T.faults self.new.inner) result }
+        ensures cause { HasLapse (own_faults self.old + T.faults (inner self.old))
+            (own_faults self.new + T.faults (inner self.new)) result }
+        ensures quiet { IsQuiet (own_faults self.old + T.faults (inner self.old))
+            (own_faults self.new + T.faults (inner self.new)) result }
         ensures counted { IsCounted self.old self.new }
         ensures fails { IsTrue (fails_next self.old) → IsErrOf result Lapse.Failed }
-        ensures passes { IsFalse (fails_next self.old) → self.new.faults ≡ self.old.faults }
+        ensures still { IsTrue (fails_next self.old) → inner self.new ≡ inner self.old }
+        ensures passes { IsFalse (fails_next self.old) → own_faults self.new ≡ own_faults self.old }
     {
         if self.fails_now() {
             return Err(Lapse::Failed);
@@ -133,16 +137,17 @@ impl<T: Shelf> Shelf for Failing<T> {
     }
 
     fn put(&mut self, name: &str, bytes: &[u8]) -> Result<(), Lapse>
-        ensures put { OnOk result (T.documents self.new.inner
-            ≡ option_map (put_document name.now bytes.now) (T.documents self.old.inner)) }
-        ensures keeps { OnErr result (T.documents self.new.inner ≡ T.documents self.old.inner) }
-        ensures cause { HasLapse (self.old.faults + T.faults self.old.inner)
-            (self.new.faults + T.faults self.new.inner) result }
-        ensures quiet { IsQuiet (self.old.faults + T.faults self.old.inner)
-            (self.new.faults + T.faults self.new.inner) result }
+        ensures put { OnOk result (T.documents (inner self.new)
+            ≡ option_map (put_document name.now bytes.now) (T.documents (inner self.old))) }
+        ensures keeps { OnErr result (T.documents (inner self.new) ≡ T.documents (inner self.old)) }
+        ensures cause { HasLapse (own_faults self.old + T.faults (inner self.old))
+            (own_faults self.new + T.faults (inner self.new)) result }
+        ensures quiet { IsQuiet (own_faults self.old + T.faults (inner self.old))
+            (own_faults self.new + T.faults (inner self.new)) result }
         ensures counted { IsCounted self.old self.new }
         ensures fails { IsTrue (fails_next self.old) → IsErrOf result Lapse.Failed }
-        ensures passes { IsFalse (fails_next self.old) → self.new.faults ≡ self.old.faults }
+        ensures still { IsTrue (fails_next self.old) → inner self.new ≡ inner self.old }
+        ensures passes { IsFalse (fails_next self.old) → own_faults self.new ≡ own_faults self.old }
     {
         if self.fails_now() {
             return Err(Lapse::Failed);
@@ -151,16 +156,17 @@ impl<T: Shelf> Shelf for Failing<T> {
     }
 
     fn names(&mut self) -> Result<Texts, Lapse>
-        ensures keeps { T.documents self.new.inner ≡ T.documents self.old.inner }
-        ensures listed { IfSome (T.documents self.old.inner)
+        ensures keeps { T.documents (inner self.new) ≡ T.documents (inner self.old) }
+        ensures listed { IfSome (T.documents (inner self.old))
             (λ all. IfOk result (λ listed. IsPermutation (names_of all) listed)) }
-        ensures cause { HasLapse (self.old.faults + T.faults self.old.inner)
-            (self.new.faults + T.faults self.new.inner) result }
-        ensures quiet { IsQuiet (self.old.faults + T.faults self.old.inner)
-            (self.new.faults + T.faults self.new.inner) result }
+        ensures cause { HasLapse (own_faults self.old + T.faults (inner self.old))
+            (own_faults self.new + T.faults (inner self.new)) result }
+        ensures quiet { IsQuiet (own_faults self.old + T.faults (inner self.old))
+            (own_faults self.new + T.faults (inner self.new)) result }
         ensures counted { IsCounted self.old self.new }
         ensures fails { IsTrue (fails_next self.old) → IsErrOf result Lapse.Failed }
-        ensures passes { IsFalse (fails_next self.old) → self.new.faults ≡ self.old.faults }
+        ensures still { IsTrue (fails_next self.old) → inner self.new ≡ inner self.old }
+        ensures passes { IsFalse (fails_next self.old) → own_faults self.new ≡ own_faults self.old }
     {
         if self.fails_now() {
             return Err(Lapse::Failed);

@@ -1,5 +1,7 @@
 ghost use Rattle.std.specs.Prelude.{None, ◌≡◌, ◌≤◌, ◌↔◌};
 ghost use Rattle.std.specs.IoError.{error_kind};
+ghost use Rattle.std.specs.String.{string_bytes};
+ghost use Rattle.tpol_base.specs.Adapters.{folder_of, shelf_faults};
 ghost use Rattle.tpol_base.specs.Causes.{Rose};
 
 use crate::{Blob, Lapse, Shelf, Text, Texts, is_policy_name, most_handed_out};
@@ -9,7 +11,7 @@ use std::rt::Files;
 use std::{fs, io};
 
 /// A folder of the file system as a shelf: a document's name is its file's name. A file is listed where its
-/// name is the name of a policy followed by `.json` or `.scene`. A folder that is not there is an empty
+/// name is the name of a policy followed by `.json` or `.scene`; a folder inside is not. A folder that is not there is an empty
 /// shelf; `put` makes it. The shelf raises its count at each error of the file system but want of memory,
 /// and tells nothing of the content.
 #[derive(Drop)]
@@ -22,8 +24,8 @@ pub struct FolderShelf<R: Files + AllocGlobal + Clone + Drop> {
 impl<R: Files + AllocGlobal + Clone + Drop> FolderShelf<R> {
     /// The shelf of this folder, with no fault so far.
     pub fn new(rt: R, folder: String) -> FolderShelf<R>
-        ensures folder { result.folder ≡ folder }
-        ensures no_fault { result.faults ≡ 0 }
+        ensures folder { folder_of result ≡ string_bytes folder }
+        ensures no_fault { shelf_faults result ≡ 0 }
     {
         FolderShelf {
             rt,
@@ -50,7 +52,7 @@ impl<R: Files + AllocGlobal + Clone + Drop> FolderShelf<R> {
 impl<R: Files + AllocGlobal + Clone + Drop> Shelf for FolderShelf<R> {
     ghost documents = { λ _. None };
 
-    ghost faults = { λ s. s.faults };
+    ghost faults = { λ s. shelf_faults s };
 
     fn fetch(&mut self, name: &str) -> Result<Option<Blob>, Lapse> {
         match read_document(&self.rt, self.folder.as_str(), name) {
@@ -132,7 +134,7 @@ fn list_documents<R: Files + AllocGlobal + Clone + Drop>(
             Err(error) if error.kind() == ErrorKind::InvalidFilename => continue,
             Err(error) => return Err(error),
         };
-        if is_listed(entry.file_name()) {
+        if is_listed(entry.file_name()) && !entry.file_type()?.is_dir() {
             add_name(rt.alloc(), &mut names, entry.file_name())?;
         }
     }

@@ -39,7 +39,7 @@ pub use memory_source::MemorySource;
 pub use name::Name;
 pub use no_memory::NoMemory;
 pub use outside::{Failed, Lapse, Shelf, Sink, Source};
-pub use policy_name::is_policy_name;
+pub use policy_name::{is_policy_name, without_folder};
 pub use rc::Rc;
 pub use sequence::Sequence;
 pub use std_sink::StdSink;

@@ -3,13 +3,17 @@ ghost use Rattle.tpol_base.specs.Name.{name_bytes, name_of_bytes};
 ghost use Rattle.tpol_base.specs.declared.name.Name.{Name as EntityName};
 
 use crate::{Blob, Digest32, NoMemory};
+use std::alloc::Global;
 
 /// The Name of an entity (TPM 2.0 Part 1, "Names"). Its bytes are nothing, the four bytes of a handle
 /// (hierarchies, PCRs, sessions), or the two bytes `000b` of SHA-256 and a digest (objects and indices).
 #[derive(Clone, Copy, PartialEq, Eq)]
 pub enum Name {
+    /// No Name, where an entity has none.
     Empty,
+    /// The Name of what has no public area: its handle.
     Handle(u32),
+    /// The Name of an object or an index: the digest of its public area.
     Hash(Digest32),
 }
 
@@ -25,6 +29,21 @@ impl Name {
             4 => Some(Name::Handle(u32::from_be_bytes([bytes[0], bytes[1], bytes[2], bytes[3]]))),
             34 => hash_name(bytes),
             _ => None,
+        }
+    }
+
+    /// The bytes of the Name: 0, 4 or 34.
+    pub fn to_bytes(&self, alloc: Global) -> Result<Blob, NoMemory>
+        ensures { IfOk result (λ bytes. bytes ≡ name_bytes self.now) }
+    {
+        match self {
+            Name::Empty => Ok(Blob::new(alloc)),
+            Name::Handle(handle) => Blob::from_slice(alloc, &handle.to_be_bytes()),
+            Name::Hash(digest) => {
+                let mut bytes = Blob::from_slice(alloc, b"\x00\x0b")?;
+                bytes.extend_from_slice(&digest.bytes)?;
+                Ok(bytes)
+            }
         }
     }
 }

@@ -1,4 +1,6 @@
 ghost use Rattle.std.specs.Prelude.{◌≡◌, None};
+ghost use Rattle.tpol_base.specs.Adapters as adapters;
+ghost use Rattle.tpol_base.specs.Adapters.{sink_faults};
 
 use crate::{Failed, Sink};
 use std::io::Write;
@@ -14,7 +16,8 @@ pub struct StdSink<W: Write> {
 impl<W: Write> StdSink<W> {
     /// A sink over a writer that has not failed.
     pub fn new(writer: W) -> StdSink<W>
-        ensures no_fault { result.faults ≡ 0 }
+        ensures writer { adapters.writer result ≡ writer }
+        ensures no_fault { sink_faults result ≡ 0 }
     {
         StdSink { writer, faults: 0 }
     }
@@ -23,7 +26,7 @@ impl<W: Write> StdSink<W> {
 impl<W: Write> Sink for StdSink<W> {
     ghost contents = { λ _. None };
 
-    ghost faults = { λ s. s.faults };
+    ghost faults = { λ s. sink_faults s };
 
     fn write(&mut self, bytes: &[u8]) -> Result<(), Failed> {
         let mut written = 0;

@@ -1,10 +1,12 @@
-ghost use Rattle.std.specs.Prelude.{◌≡◌, None};
+ghost use Rattle.std.specs.Prelude.{◌≡◌};
+ghost use Rattle.tpol_base.specs.Adapters as adapters;
+ghost use Rattle.tpol_base.specs.Adapters.{source_faults};
 
 use crate::{Failed, Source};
 use std::io::Read;
 
 /// Standard input, or any other reader of std, as a source. It raises its count at each `Err` of the
-/// reader and tells nothing of the content.
+/// reader. It tells what its reader tells: of standard input nothing.
 #[derive(Drop)]
 pub struct StdSource<R: Read> {
     reader: R,
@@ -14,16 +16,17 @@ pub struct StdSource<R: Read> {
 impl<R: Read> StdSource<R> {
     /// A source over a reader that has not failed.
     pub fn new(reader: R) -> StdSource<R>
-        ensures no_fault { result.faults ≡ 0 }
+        ensures reader { adapters.reader result ≡ reader }
+        ensures no_fault { source_faults result ≡ 0 }
     {
         StdSource { reader, faults: 0 }
     }
 }
 
 impl<R: Read> Source for StdSource<R> {
-    ghost left = { λ _. None };
+    ghost left = { λ s. R.remaining (adapters.reader s) };
 
-    ghost faults = { λ s. s.faults };
+    ghost faults = { λ s. source_faults s };
 
     fn read(&mut self, buf: &mut [u8]) -> Result<usize, Failed> {
         match self.reader.read(buf) {

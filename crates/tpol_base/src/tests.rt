@@ -1,7 +1,8 @@
 use super::*;
 use std::collections::VecDeque;
-use std::fs;
+use std::io::Write;
 use std::test::Fail;
+use std::{fs, io};
 
 fn blob_of(found: Option<Blob>) -> Option<Vec<u8>> {
     found.map(|blob| blob.into_vec())
@@ -72,6 +73,32 @@ fn standard_output_takes_all_of_a_line(rt: HostRuntime) -> Result<(), Fail> {
     Ok(())
 }
 
+/// A writer that takes one byte a call.
+#[derive(Drop)]
+struct Slow(Vec<u8>);
+
+impl Write for Slow {
+    fn write(&mut self, bytes: &[u8]) -> io::Result<usize> {
+        let count = bytes.len().min(1);
+        self.0.extend_from_slice(&bytes[..count])?;
+        Ok(count)
+    }
+
+    fn flush(&mut self) -> io::Result<()> {
+        Ok(())
+    }
+}
+
+#[test]
+fn a_line_is_written_in_pieces(rt: HostRuntime) -> Result<(), Fail> {
+    let mut slow = Slow(Vec::new(rt.alloc()));
+    let mut sink = StdSink::new(&mut slow);
+    assert_eq!(rt; sink.write(b"abcd"), Ok(()));
+    assert_eq!(rt; sink.write(b"ef"), Ok(()));
+    assert_eq!(rt; slow.0.as_slice(), b"abcdef".as_slice());
+    Ok(())
+}
+
 #[test]
 fn a_folder_keeps_documents(rt: HostRuntime) -> Result<(), Fail> {
     let alloc = rt.alloc();
@@ -88,17 +115,22 @@ fn a_folder_keeps_documents(rt: HostRuntime) -> Result<(), Fail> {
     assert_eq!(rt; shelf.names()?.len(), 1);
     shelf.put("a.scene", b"{}")?;
     assert_eq!(rt; shelf.names()?.len(), 2);
-    // A folder in the place of a document is a fault.
+    // A folder in the place of a document is a fault, and is not listed.
     fs::create_dir(&rt, "policies/b.json")?;
     assert!(rt; shelf.fetch("b.json").is_err());
+    assert_eq!(rt; shelf.names()?.len(), 2);
     Ok(())
 }
 
 #[test]
 fn a_shelf_hands_out_one_byte_more_than_a_document_may_have(rt: HostRuntime) -> Result<(), Fail> {
     let alloc = rt.alloc();
-    let mut shelf = MemoryShelf::new(alloc);
     let long = vec![in alloc; 0u8; 1_048_578]?;
+    let mut shelf = MemoryShelf::new(alloc);
+    shelf.put("long.json", long.as_slice())?;
+    let found = blob_of(shelf.fetch("long.json")?).ok_or("long.json")?;
+    assert_eq!(rt; found.len(), 1_048_577);
+    let mut shelf = FolderShelf::new(rt.clone()?, String::from_str(alloc, "long")?);
     shelf.put("long.json", long.as_slice())?;
     let found = blob_of(shelf.fetch("long.json")?).ok_or("long.json")?;
     assert_eq!(rt; found.len(), 1_048_577);

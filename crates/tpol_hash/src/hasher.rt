@@ -1,11 +1,12 @@
 //! SHA-256 of a message that comes in pieces.
 
 ghost use Rattle.std.specs.Prelude.{◌≡◌, ℕ, List, [], ◌++◌};
+ghost use Rattle.tpol_base.specs.Name.{name_bytes};
 ghost use Rattle.tpol_hash.specs.Messages.{Holds};
 ghost use Rattle.tpol_hash.specs.Sha256.{sha256_digest};
 
 use sha2::{Digest, Sha256};
-use tpol_base::Digest32;
+use tpol_base::{Digest32, Name};
 
 /// A running SHA-256 (FIPS 180-4).
 #[derive(Drop)]
@@ -26,6 +27,20 @@ impl Hasher {
         ensures longer { (m : List ℕ) → Holds self.old m → Holds self.new (m ++ bytes.now) }
     {
         self.sha.update(bytes);
+    }
+
+    /// Adds the bytes of a Name to the message.
+    pub fn put_name(&mut self, name: &Name)
+        ensures longer { (m : List ℕ) → Holds self.old m → Holds self.new (m ++ name_bytes name.now) }
+    {
+        match name {
+            Name::Empty => {}
+            Name::Handle(handle) => self.put(&handle.to_be_bytes()),
+            Name::Hash(digest) => {
+                self.put(&[0x00, 0x0b]);
+                self.put(&digest.bytes);
+            }
+        }
     }
 
     /// The digest of the message.
