@@ -5,6 +5,7 @@ pub mod Limits
 pub mod Listings
 pub mod Measures
 pub mod Meeting
+pub mod OutsideFirst
 pub mod OutsideSteps
 pub mod Products
 pub mod Soundness

@@ -1,5 +1,5 @@
 -- The ways through a policy, in document order: earlier choices vary slowest.
-use Rattle.std.specs.Prelude.{ℕ, zero, suc, ◌+◌, Bool, true, false, ◌||◌, ◌&&◌, if◌then◌else◌, List, [], ◌∷◌, ◌++◌, map, Option, Some, None, nat_eq}
+use Rattle.std.specs.Prelude.{◌≡◌, ℕ, zero, suc, ◌+◌, Bool, true, false, ◌||◌, ◌&&◌, if◌then◌else◌, List, [], ◌∷◌, ◌++◌, map, Option, Some, None, nat_eq}
 use Rattle.std.specs.List.{flat_map}
 use Rattle.std.specs.Str.{bytes_eq}
 use Rattle.tpol_base.specs.declared.digest.Digest32.{Digest32}
@@ -122,3 +122,14 @@ document_paths documents (suc levels) document =
 -- the paths of a policy, with at most four approvals inside one another
 abbrev pub paths_of : Closed → List ApprovedDoc → List Path
 paths_of policy documents = paths_at (document_paths documents 4) documents policy.elements zero_digest
+
+-- the move approves 32 zero bytes
+abbrev pub ApprovesZero : Move → Type 0
+ApprovesZero (Approve key policy_ref approved signature) = approved ≡ zero_digest
+ApprovesZero (ApproveNv index approved) = approved ≡ zero_digest
+ApprovesZero _ = ⊥
+
+-- there is a first move, and it approves 32 zero bytes
+abbrev pub BeginsWithZeroApproval : List Move → Type 0
+BeginsWithZeroApproval [] = ⊥
+BeginsWithZeroApproval (act ∷ rest) = ApprovesZero act

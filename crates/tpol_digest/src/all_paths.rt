@@ -1,7 +1,7 @@
-ghost use Rattle.std.specs.Prelude.{◌≡◌, ◌<◌, ◌≤◌, ◌↔◌, All, Any, IfOk, IsErrOf, length, min};
+ghost use Rattle.std.specs.Prelude.{◌≡◌, ◌<◌, ◌≤◌, ◌↔◌, All, Any, IfOk, IsErrOf, IsTrue, length, min};
 ghost use Rattle.tpol_digest.specs.Digest.{digest_of_moves, policy_digest};
 ghost use Rattle.std.specs.List.{list_any};
-ghost use Rattle.tpol_digest.specs.Paths.{is_outside, paths_of};
+ghost use Rattle.tpol_digest.specs.Paths.{is_outside, paths_of, BeginsWithZeroApproval};
 ghost use Rattle.tpol_digest.specs.Sound.{IsSound};
 ghost use Rattle.tpol_digest.specs.WellFormed.{HaveBranchCounts, IsWellFormed};
 
@@ -42,6 +42,8 @@ pub fn paths(
     // All branches meet.
     ensures digest { IfOk result (All (λ path. digest_of_moves path.moves ≡ policy_digest policy.now)) }
     ensures sound { IsWellFormed policy.now approvals.now → IfOk result (All (λ path. IsSound path.moves)) }
+    ensures outside_first { IsWellFormed policy.now approvals.now
+        → IfOk result (All (λ path. IsTrue path.outside → BeginsWithZeroApproval path.moves)) }
 {
     checked_paths(alloc, policy, approvals.as_slice())
 }
