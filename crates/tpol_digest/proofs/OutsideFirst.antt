@@ -1,5 +1,5 @@
 -- An outside path of a well-formed policy begins with an approval of 32 zero bytes.
-use Rattle.std.proofs.Common.{◌≡◌, ℕ, zero, suc, ◌+◌, Bool, true, false, IsTrue, List, [], ◌∷◌, ◌++◌, map, Option, Some, None, refl, sym, ap, ◌∙◌, subst}
+use Rattle.std.proofs.Common.{◌≡◌, ℕ, zero, suc, ◌+◌, Bool, true, false, IsTrue, List, [], ◌∷◌, ◌++◌, map, Option, Some, None, refl, sym, ap, ◌∙◌}
 use Rattle.std.specs.Prelude.{All, ◌||◌}
 use Rattle.std.specs.List.{AllByRecursion}
 use Rattle.std.proofs.lemmas.Bool.{false≢true}
@@ -20,7 +20,7 @@ use Rattle.tpol_tree.specs.declared.path.PathStep.{PathStep}
 use Rattle.tpol_tree.specs.declared.path.PathStep.TheVariants.{Branch, Document}
 use Rattle.tpol_tree.specs.Closed.{ApprovalsLead, ApprovalsLeadElement, ApprovalsLeadBranches}
 use Rattle.tpol_digest.specs.Digest.{zero_digest, digest_at_element, branch_digests}
-use Rattle.tpol_digest.specs.Paths.{followed_by, between, approval_of, paths_by_approval, approved_paths, outside_paths, paths_at, paths_at_element, paths_at_branches, document_paths, paths_of, ApprovesZero, BeginsWithZeroApproval}
+use Rattle.tpol_digest.specs.Paths.{followed_by, between, approval_of, paths_by_approval, approved_paths, outside_paths, paths_at, paths_at_element, paths_at_branches, document_paths, paths_of, BeginsWithZeroApproval}
 use Rattle.tpol_digest.specs.WellFormed.{IsWellFormed, IsWellFormedDocument}
 use Rattle.tpol_digest.proofs.Products.{Each-append, Each-map, Each-flat_map, Each-product}
 

@@ -2,6 +2,7 @@
 use Rattle.std.specs.Prelude.{ℕ, Bool, true, false, List, [], ◌∷◌, ◌++◌, Option, Some, None}
 use Rattle.std.specs.Int.{to_be_bytes, w32}
 use Rattle.tpol_base.specs.declared.digest.Digest32.{Digest32}
+use Rattle.tpol_base.specs.declared.name.Name.{Name}
 use Rattle.tpol_hash.specs.Sha256.{sha256_digest}
 use Rattle.tpol_tree.specs.declared.closed.Assertion.{Assertion}
 use Rattle.tpol_tree.specs.declared.closed.Closed.{Closed}
@@ -12,7 +13,7 @@ use Rattle.tpol_tree.specs.declared.closed.ClosedElement.TheVariants.{Assert, Or
 use Rattle.tpol_tree.specs.declared.closed.ClosedBranches.{ClosedBranches}
 use Rattle.tpol_tree.specs.declared.closed.ClosedBranches.TheVariants.{More' as MoreBranches', End as EndBranches}
 use Rattle.tpol_tree.specs.declared.path.Move.{Move}
-use Rattle.tpol_digest.specs.Stage.{Stage, stage_of, stage_of_assertion, stage_of_approve, stage_of_approve_nv}
+use Rattle.tpol_digest.specs.Stage.{Stage, stage_of, stage_of_assertion, stage_of_or, stage_of_approve, stage_of_approve_nv}
 use Rattle.tpol_digest.specs.Digest.{zero_digest}
 
 mutual
@@ -72,6 +73,16 @@ term_from t (act ∷ rest) = term_from (term_after act t) rest
 abbrev pub term_of_moves : List Move → Term
 term_of_moves moves = term_from Zero moves
 
+-- the terms after PolicyOR, PolicyAuthorize and PolicyAuthorizeNV, whatever the term before is
+abbrev pub term_of_or : List Digest32 → Term
+term_of_or digests = term_after_stage (stage_of_or digests) Zero
+
+abbrev pub term_of_approve : Name → List ℕ → Term
+term_of_approve key policy_ref = term_after_stage (stage_of_approve key policy_ref) Zero
+
+abbrev pub term_of_approve_nv : Name → Term
+term_of_approve_nv index = term_after_stage (stage_of_approve_nv index) Zero
+
 -- the term after elements and after one element, where t is the term before, and the terms of branches,
 -- each of which starts from the term before the OR
 abbrev mutual
@@ -82,8 +93,8 @@ abbrev mutual
   pub term_at_element : ClosedElement → Term → Term
   term_at_element (Assert assertion) t = term_after_assertion assertion t
   term_at_element (Or branches) t = Hash (TermThen Zero (BytesThen (to_be_bytes w32 0x171) (branch_terms branches t)))
-  term_at_element (Authorize key policy_ref) t = term_after_stage (stage_of_approve key policy_ref) t
-  term_at_element (AuthorizeNv index) t = term_after_stage (stage_of_approve_nv index) t
+  term_at_element (Authorize key policy_ref) t = term_of_approve key policy_ref
+  term_at_element (AuthorizeNv index) t = term_of_approve_nv index
 
   pub branch_terms : ClosedBranches → Term → Parts
   branch_terms EndBranches t = NoParts

@@ -1,24 +1,27 @@
 ghost use Rattle.std.specs.Prelude.{◌≡◌, ◌++◌, []};
 ghost use Rattle.tpol_base.specs.Name.{name_bytes};
 ghost use Rattle.tpol_digest.specs.Digest.{after_stage, digest_after_assertion};
+ghost use Rattle.tpol_digest.specs.Term.{Term, bytes_of_term, term_after_assertion};
 ghost use Rattle.tpol_digest.specs.Stage.{hash_of_inner, one_hash, comparison, duplication, pcr_selection};
 
-use crate::command_code;
-use crate::update::{comparison_digest, hash_once, hash_twice, put_name, start};
+use crate::command_code::{self, code_of_assertion};
+use crate::update::{comparison_digest, hash_once, hash_twice, put_name, selection_bytes, start};
 use tpol_base::{Blob, Compare, Digest32, Name};
 use tpol_tree::Assertion;
 
 /// The policy digest after an assertion, where `old` is the digest before (TPM 2.0 Part 3, the policy
 /// command of the assertion's name).
 pub fn extend(old: Digest32, assertion: &Assertion) -> Digest32
-    ensures { result ≡ digest_after_assertion assertion.now old }
+    ensures digest { result ≡ digest_after_assertion assertion.now old }
+    ensures term { (t : Term) → old ≡ bytes_of_term t → result ≡ bytes_of_term (term_after_assertion assertion.now t) }
 {
     let before = &old;
+    let code = code_of_assertion(assertion);
     match assertion {
         Assertion::Pcr {
             mask,
             pcr_digest,
-            values: _,
+            ..
         } => after_pcr(before, *mask, pcr_digest),
         Assertion::Nv {
             index,
@@ -27,58 +30,37 @@ pub fn extend(old: Digest32, assertion: &Assertion) -> Digest32
             operation,
         } => { after_nv(before, index, operand, *offset, *operation) }
         Assertion::Secret {
-            entity,
+            entity: name,
             policy_ref,
-            cp_hash: _,
-            expiration: _,
-        } => { hash_twice(before, command_code::POLICY_SECRET, entity, policy_ref) }
-        Assertion::Signed {
-            key,
+            ..
+        }
+        | Assertion::Signed {
+            key: name,
             policy_ref,
-            cp_hash: _,
-            expiration: _,
-        } => { hash_twice(before, command_code::POLICY_SIGNED, key, policy_ref) }
+            ..
+        } => hash_twice(before, code, name, policy_ref),
         Assertion::CounterTimer {
             operand,
             offset,
             operation,
         } => {
-            let compared = comparison_digest(operand, *offset, *operation);
-            hash_once(before, command_code::POLICY_COUNTER_TIMER, &compared.bytes)
-        }
-        Assertion::CommandCode(code) => {
             hash_once(
                 before,
-                command_code::POLICY_COMMAND_CODE,
-                &code.to_be_bytes(),
+                code,
+                &comparison_digest(operand, *offset, *operation).bytes,
             )
         }
-        Assertion::Locality(locality) => hash_once(
+        Assertion::CommandCode(command) => hash_once(before, code, &command.to_be_bytes()),
+        Assertion::Locality(localities) => hash_once(before, code, &[*localities]),
+        Assertion::CpHash(digest) | Assertion::NameHash(digest) => hash_once(
             before,
-            command_code::POLICY_LOCALITY,
-            &[*locality],
-        ),
-        Assertion::CpHash(digest) => hash_once(before, command_code::POLICY_CP_HASH, &digest.bytes),
-        Assertion::NameHash(digest) => hash_once(
-            before,
-            command_code::POLICY_NAME_HASH,
+            code,
             &digest.bytes,
         ),
-        Assertion::NvWritten(written) => {
-            hash_once(
-                before,
-                command_code::POLICY_NV_WRITTEN,
-                &[u8::from(*written)],
-            )
+        Assertion::NvWritten(written) => hash_once(before, code, &[u8::from(*written)]),
+        Assertion::AuthValue | Assertion::Password | Assertion::PhysicalPresence => {
+            hash_once(before, code, &[])
         }
-        Assertion::AuthValue | Assertion::Password => {
-            hash_once(before, command_code::POLICY_AUTH_VALUE, &[])
-        }
-        Assertion::PhysicalPresence => hash_once(
-            before,
-            command_code::POLICY_PHYSICAL_PRESENCE,
-            &[],
-        ),
         Assertion::Duplication {
             object,
             parent,
@@ -90,11 +72,8 @@ pub fn extend(old: Digest32, assertion: &Assertion) -> Digest32
 fn after_pcr(old: &Digest32, mask: u32, pcr_digest: &Digest32) -> Digest32
     ensures { result ≡ after_stage (one_hash 0x17f (pcr_selection mask ++ pcr_digest.now.bytes)) old.now }
 {
-    let [first, second, third, _] = mask.to_le_bytes();
     let mut hasher = start(old, command_code::POLICY_PCR);
-    hasher.put(&[
-        0x00, 0x00, 0x00, 0x01, 0x00, 0x0b, 0x03, first, second, third,
-    ]);
+    hasher.put(&selection_bytes(mask));
     hasher.put(&pcr_digest.bytes);
     hasher.done()
 }

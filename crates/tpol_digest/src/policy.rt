@@ -2,7 +2,7 @@ ghost use Rattle.std.specs.Prelude.{◌≡◌, ◌++◌, ℕ, List, OnOk};
 ghost use Rattle.tpol_hash.specs.Messages.{Holds};
 ghost use Rattle.tpol_digest.specs.Stage.{joined};
 ghost use Rattle.tpol_digest.specs.Digest as spec;
-ghost use Rattle.tpol_digest.specs.Term.{bytes_of_term, term_of_policy};
+ghost use Rattle.tpol_digest.specs.Term.{bytes_of_term, term_of_approve, term_of_approve_nv, term_of_or, term_of_policy};
 
 use crate::assertion::extend;
 use crate::command_code;
@@ -13,7 +13,8 @@ use tpol_tree::{Closed, ClosedBranches, ClosedElement, ClosedElements};
 
 /// The digest after PolicyOR with these digests (TPM 2.0 Part 3, PolicyOR).
 pub fn or_digest(digests: &Digests) -> Digest32
-    ensures { result ≡ spec.or_digest digests.now }
+    ensures digest { result ≡ spec.or_digest digests.now }
+    ensures term { result ≡ bytes_of_term (term_of_or digests.now) }
 {
     let mut hasher = start(&Digest32::ZERO, command_code::POLICY_OR);
     for digest in digests.as_slice() {
@@ -24,7 +25,8 @@ pub fn or_digest(digests: &Digests) -> Digest32
 
 /// The digest after PolicyAuthorize of this key with this policyRef (TPM 2.0 Part 3, PolicyAuthorize).
 pub fn approve_digest(key: &Name, policy_ref: &Blob) -> Digest32
-    ensures { result ≡ spec.approve_digest key.now policy_ref.now }
+    ensures digest { result ≡ spec.approve_digest key.now policy_ref.now }
+    ensures term { result ≡ bytes_of_term (term_of_approve key.now policy_ref.now) }
 {
     hash_twice(
         &Digest32::ZERO,
@@ -36,7 +38,8 @@ pub fn approve_digest(key: &Name, policy_ref: &Blob) -> Digest32
 
 /// The digest after PolicyAuthorizeNV with this index (TPM 2.0 Part 3, PolicyAuthorizeNV).
 pub fn approve_nv_digest(index: &Name) -> Digest32
-    ensures { result ≡ spec.approve_nv_digest index.now }
+    ensures digest { result ≡ spec.approve_nv_digest index.now }
+    ensures term { result ≡ bytes_of_term (term_of_approve_nv index.now) }
 {
     let mut hasher = start(&Digest32::ZERO, command_code::POLICY_AUTHORIZE_NV);
     put_name(&mut hasher, index);

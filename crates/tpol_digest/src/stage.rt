@@ -5,7 +5,8 @@ ghost use Rattle.tpol_base.specs.Name.{name_bytes};
 ghost use Rattle.tpol_digest.specs.Stage as spec;
 ghost use Rattle.tpol_digest.specs.StageBytes.{stage_value};
 
-use crate::command_code;
+use crate::command_code::{self, code_of_assertion};
+use crate::update::{comparison_end, selection_bytes};
 use std::alloc::Global;
 use tpol_base::{Blob, Compare, Digest32, Digests, Name, NoMemory};
 use tpol_tree::Assertion;
@@ -83,8 +84,7 @@ fn comparison(
         ≡ spec.hash_of_inner code (spec.comparison operand.now offset operation) rest) }
 {
     let mut inner = Blob::from_slice(alloc, operand.as_slice())?;
-    inner.extend_from_slice(&offset.to_be_bytes())?;
-    inner.extend_from_slice(&operation.number().to_be_bytes())?;
+    inner.extend_from_slice(&comparison_end(offset, operation))?;
     Ok(StageBytes {
         fresh: false,
         code,
@@ -98,11 +98,7 @@ fn pcr(alloc: Global, mask: u32, pcr_digest: &Digest32) -> Result<StageBytes, No
     ensures { IfOk result (λ stage. stage_value stage
         ≡ spec.one_hash 0x17f (spec.pcr_selection mask ++ pcr_digest.now.bytes)) }
 {
-    let [first, second, third, _] = mask.to_le_bytes();
-    let selection = [
-        0x00, 0x00, 0x00, 0x01, 0x00, 0x0b, 0x03, first, second, third,
-    ];
-    let mut rest = Blob::from_slice(alloc, &selection)?;
+    let mut rest = Blob::from_slice(alloc, &selection_bytes(mask))?;
     rest.extend_from_slice(&pcr_digest.bytes)?;
     Ok(one_hash(command_code::POLICY_PCR, rest))
 }
@@ -131,11 +127,12 @@ fn duplication(
 pub fn stage_of_assertion(alloc: Global, assertion: &Assertion) -> Result<StageBytes, NoMemory>
     ensures { IfOk result (λ stage. stage_value stage ≡ spec.stage_of_assertion assertion.now) }
 {
+    let code = code_of_assertion(assertion);
     match assertion {
         Assertion::Pcr {
             mask,
             pcr_digest,
-            values: _,
+            ..
         } => pcr(alloc, *mask, pcr_digest),
         Assertion::Nv {
             index,
@@ -144,72 +141,39 @@ pub fn stage_of_assertion(alloc: Global, assertion: &Assertion) -> Result<StageB
             operation,
         } => {
             let rest = blob_of_name(alloc, index)?;
-            comparison(
-                alloc,
-                command_code::POLICY_NV,
-                operand,
-                *offset,
-                *operation,
-                rest,
-            )
+            comparison(alloc, code, operand, *offset, *operation, rest)
         }
         Assertion::Secret {
-            entity,
+            entity: name,
             policy_ref,
-            cp_hash: _,
-            expiration: _,
-        } => two_hashes(alloc, command_code::POLICY_SECRET, entity, policy_ref),
-        Assertion::Signed {
-            key,
+            ..
+        }
+        | Assertion::Signed {
+            key: name,
             policy_ref,
-            cp_hash: _,
-            expiration: _,
-        } => two_hashes(alloc, command_code::POLICY_SIGNED, key, policy_ref),
+            ..
+        } => two_hashes(alloc, code, name, policy_ref),
         Assertion::CounterTimer {
             operand,
             offset,
             operation,
-        } => {
-            let rest = Blob::new(alloc);
-            comparison(
-                alloc,
-                command_code::POLICY_COUNTER_TIMER,
-                operand,
-                *offset,
-                *operation,
-                rest,
-            )
+        } => { comparison(alloc, code, operand, *offset, *operation, Blob::new(alloc)) }
+        Assertion::CommandCode(command) => hashed(alloc, code, &command.to_be_bytes()),
+        Assertion::Locality(localities) => hashed(alloc, code, &[*localities]),
+        Assertion::CpHash(digest) | Assertion::NameHash(digest) => hashed(
+            alloc,
+            code,
+            &digest.bytes,
+        ),
+        Assertion::NvWritten(written) => hashed(alloc, code, &[u8::from(*written)]),
+        Assertion::AuthValue | Assertion::Password | Assertion::PhysicalPresence => {
+            hashed(alloc, code, &[])
         }
         Assertion::Duplication {
             object,
             parent,
             include,
         } => duplication(alloc, object, parent, *include),
-        Assertion::CommandCode(code) => {
-            hashed(
-                alloc,
-                command_code::POLICY_COMMAND_CODE,
-                &code.to_be_bytes(),
-            )
-        }
-        Assertion::Locality(localities) => hashed(
-            alloc,
-            command_code::POLICY_LOCALITY,
-            &[*localities],
-        ),
-        Assertion::CpHash(digest) => hashed(alloc, command_code::POLICY_CP_HASH, &digest.bytes),
-        Assertion::NameHash(digest) => hashed(alloc, command_code::POLICY_NAME_HASH, &digest.bytes),
-        Assertion::NvWritten(written) => {
-            hashed(
-                alloc,
-                command_code::POLICY_NV_WRITTEN,
-                &[u8::from(*written)],
-            )
-        }
-        Assertion::AuthValue | Assertion::Password => {
-            hashed(alloc, command_code::POLICY_AUTH_VALUE, &[])
-        }
-        Assertion::PhysicalPresence => hashed(alloc, command_code::POLICY_PHYSICAL_PRESENCE, &[]),
     }
 }
 

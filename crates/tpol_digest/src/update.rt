@@ -3,10 +3,11 @@
 
 ghost use Rattle.std.specs.Prelude.{◌≡◌, ◌++◌, ℕ, List};
 ghost use Rattle.std.specs.Int.{to_be_bytes, w16, w32};
+ghost use Rattle.tpol_base.specs.Compare.{number_of_compare};
 ghost use Rattle.tpol_base.specs.Name.{name_bytes};
 ghost use Rattle.tpol_hash.specs.Sha256.{sha256_digest};
 ghost use Rattle.tpol_hash.specs.Messages.{Holds};
-ghost use Rattle.tpol_digest.specs.Stage.{comparison, one_hash, two_hashes};
+ghost use Rattle.tpol_digest.specs.Stage.{comparison, one_hash, pcr_selection, two_hashes};
 ghost use Rattle.tpol_digest.specs.Digest.{after_stage};
 
 use tpol_base::{Blob, Compare, Digest32, Name};
@@ -58,13 +59,31 @@ pub fn hash_twice(old: &Digest32, code: u32, name: &Name, policy_ref: &Blob) -> 
     second.done()
 }
 
+// The bytes of a selection of SHA-256 PCRs.
+pub fn selection_bytes(mask: u32) -> [u8; 10]
+    ensures { result ≡ pcr_selection mask }
+{
+    let [first, second, third, _] = mask.to_le_bytes();
+    [
+        0x00, 0x00, 0x00, 0x01, 0x00, 0x0b, 0x03, first, second, third,
+    ]
+}
+
+// The bytes behind the operand of a comparison.
+pub fn comparison_end(offset: u16, operation: Compare) -> [u8; 4]
+    ensures { result ≡ to_be_bytes w16 offset ++ to_be_bytes w16 (number_of_compare operation) }
+{
+    let [high, low] = offset.to_be_bytes();
+    let [number_high, number_low] = operation.number().to_be_bytes();
+    [high, low, number_high, number_low]
+}
+
 // The digest of what PolicyNV and PolicyCounterTimer compare with, and how.
 pub fn comparison_digest(operand: &Blob, offset: u16, operation: Compare) -> Digest32
     ensures { result ≡ sha256_digest (comparison operand.now offset operation) }
 {
     let mut hasher = Hasher::new();
     hasher.put(operand.as_slice());
-    hasher.put(&offset.to_be_bytes());
-    hasher.put(&operation.number().to_be_bytes());
+    hasher.put(&comparison_end(offset, operation));
     hasher.done()
 }
