@@ -1,8 +1,6 @@
 -- The list of paths, as it is made.
-use Rattle.std.proofs.Common.{◌≡◌, ◌≢◌, ℕ, zero, suc, ◌+◌, ◌-◌, ◌<◌, false, List, [], ◌∷◌, ◌++◌, length, get_or, take, map, Option, Some, None, refl, sym, ap, ◌∙◌, arith, append_assoc}
-use Rattle.std.specs.Prelude.{is_some}
+use Rattle.std.proofs.Common.{◌≡◌, ◌≢◌, ℕ, zero, suc, ◌+◌, ◌-◌, ◌<◌, List, [], ◌∷◌, ◌++◌, length, get_or, take, map, Option, Some, None, refl, sym, ap, ◌∙◌, arith, append_assoc}
 use Rattle.std.specs.List.{flat_map}
-use Rattle.std.proofs.lemmas.Bool.{false≢true}
 use Rattle.std.proofs.lemmas.List.{append-nil, take_more, flat_map_more}
 use Rattle.tpol_base.specs.declared.digest.Digest32.{Digest32}
 use Rattle.tpol_tree.specs.declared.closed.ClosedElements.{ClosedElements}
@@ -12,6 +10,7 @@ use Rattle.tpol_tree.specs.declared.path.ApprovedDoc.{ApprovedDoc}
 use Rattle.tpol_tree.specs.declared.path.Move.{Move}
 use Rattle.tpol_tree.specs.declared.path.Path.{Path}
 use Rattle.tpol_tree.specs.declared.path.PathStep.{PathStep}
+use Rattle.tpol_tree.specs.declared.path.PathStep.TheVariants.{Document}
 use Rattle.tpol_digest.specs.Digest.{zero_digest, digest_at_element}
 use Rattle.tpol_digest.specs.Paths.{empty_path, product, between, approval_of, paths_by_approval, approved_paths, paths_at, paths_at_element, paths_at_branches, document_paths}
 use Rattle.tpol_digest.proofs.Products.{empty_product, product_assoc}
@@ -55,10 +54,6 @@ document_paths-some documents (suc levels) document h =
     let e : levels ≡ suc levels - 1 = omega arith in
     ap (λ n. paths_at (document_paths documents n) documents document.closed.elements zero_digest) e
 
-not_approved : (found : Option Move) (document : ApprovedDoc) (paths : List Path) → is_some found ≡ false → paths_by_approval found document paths ≡ []
-not_approved None document paths h = refl
-not_approved (Some act) document paths h = absurd (false≢true (sym h))
-
 module _ (documents : List ApprovedDoc) (levels : ℕ) (element : ClosedElement) (found : List Path) where
   approved_more : (i : ℕ) (document : ApprovedDoc) (now next : List Path) → i < length documents → document ≡ get_or documents i document → now ≡ found ++ approved_paths (document_paths documents levels) (take i documents) element → next ≡ now ++ paths_by_approval (approval_of element document) document (document_paths documents levels document) → next ≡ found ++ approved_paths (document_paths documents levels) (take (i + 1) documents) element
   approved_more i document now next inside is h k =
@@ -69,12 +64,12 @@ module _ (documents : List ApprovedDoc) (levels : ℕ) (element : ClosedElement)
       ∙ ap (λ x. found ++ flat_map by (take i documents ++ x ∷ [])) is
       ∙ ap (λ l. found ++ flat_map by l) (sym (take_more documents i document inside))
 
-  pub documents_entered : (i : ℕ) (document : ApprovedDoc) (now next start inner : List Path) (d : Digest32) → levels ≢ 0 → i < length documents → document ≡ get_or documents i document → now ≡ found ++ approved_paths (document_paths documents levels) (take i documents) element → start ≡ empty_path ∷ [] → d ≡ zero_digest → inner ≡ product start (paths_at (document_paths documents (levels - 1)) documents document.closed.elements d) → next ≡ now ++ paths_by_approval (approval_of element document) document inner → next ≡ found ++ approved_paths (document_paths documents levels) (take (i + 1) documents) element
-  documents_entered i document now next start inner d some inside is h s z e k =
+  pub documents_entered : (i : ℕ) (document : ApprovedDoc) (act : Move) (now next start inner : List Path) (d : Digest32) → levels ≢ 0 → i < length documents → document ≡ get_or documents i document → now ≡ found ++ approved_paths (document_paths documents levels) (take i documents) element → approval_of element document ≡ Some act → start ≡ empty_path ∷ [] → d ≡ zero_digest → inner ≡ product start (paths_at (document_paths documents (levels - 1)) documents document.closed.elements d) → next ≡ now ++ map (between (Document document.document) act) inner → next ≡ found ++ approved_paths (document_paths documents levels) (take (i + 1) documents) element
+  documents_entered i document act now next start inner d some inside is h approved s z e k =
       let entered = paths_at (document_paths documents (levels - 1)) documents document.closed.elements in
       let same : inner ≡ document_paths documents levels document = e ∙ ap (λ x. product x (entered d)) s ∙ empty_product (entered d) ∙ ap entered z ∙ sym (document_paths-some documents levels document some) in
-      approved_more i document now next inside is h (k ∙ ap (λ x. now ++ paths_by_approval (approval_of element document) document x) same)
+      approved_more i document now next inside is h (k ∙ ap (λ x. now ++ paths_by_approval x document inner) (sym approved) ∙ ap (λ x. now ++ paths_by_approval (approval_of element document) document x) same)
 
-  pub documents_passed : (i : ℕ) (document : ApprovedDoc) (now : List Path) → i < length documents → document ≡ get_or documents i document → now ≡ found ++ approved_paths (document_paths documents levels) (take i documents) element → is_some (approval_of element document) ≡ false → now ≡ found ++ approved_paths (document_paths documents levels) (take (i + 1) documents) element
+  pub documents_passed : (i : ℕ) (document : ApprovedDoc) (now : List Path) → i < length documents → document ≡ get_or documents i document → now ≡ found ++ approved_paths (document_paths documents levels) (take i documents) element → approval_of element document ≡ None → now ≡ found ++ approved_paths (document_paths documents levels) (take (i + 1) documents) element
   documents_passed i document now inside is h passed =
-      approved_more i document now now inside is h (sym (append-nil now) ∙ ap (λ l. now ++ l) (sym (not_approved (approval_of element document) document (document_paths documents levels document) passed)))
+      approved_more i document now now inside is h (sym (append-nil now) ∙ ap (λ x. now ++ paths_by_approval x document (document_paths documents levels document)) (sym passed))

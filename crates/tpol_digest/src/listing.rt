@@ -5,7 +5,7 @@ ghost use Rattle.tpol_tree.specs.Closed.{branch_count, HasBranchCounts, ElementH
 ghost use Rattle.tpol_digest.specs.Digest.{zero_digest};
 ghost use Rattle.tpol_digest.specs.Paths as spec;
 
-use crate::approval::accepts;
+use crate::approval::approval;
 use crate::path_parts::{
     add_approved, add_branch, all_before_assertion, one_empty_path, product, push_outside, zero,
 };
@@ -148,11 +148,21 @@ fn add_documents(
         return Ok(());
     }
     for document in approvals {
-        if accepts(element, document) {
-            let start = one_empty_path(alloc)?;
-            let elements = &document.closed.elements;
-            let inner = extend_by_elements(alloc, start, approvals, levels - 1, elements, zero())?;
-            add_approved(alloc, found, element, document, inner)?;
+        match approval(alloc, element, document)? {
+            None => {}
+            Some(act) => {
+                let start = one_empty_path(alloc)?;
+                let elements = &document.closed.elements;
+                let inner = extend_by_elements(
+                    alloc,
+                    start,
+                    approvals,
+                    levels - 1,
+                    elements,
+                    zero(),
+                )?;
+                add_approved(alloc, found, document, act, inner)?;
+            }
         }
     }
     Ok(())

@@ -4,7 +4,6 @@ ghost use Rattle.std.specs.Prelude.{◌≡◌, ◌∷◌, ◌++◌, [], map, IfO
 ghost use Rattle.tpol_digest.specs.Digest.{zero_digest};
 ghost use Rattle.tpol_digest.specs.Paths as spec;
 
-use crate::approval::approval;
 use std::alloc::Global;
 use tpol_base::{Blob, Digest32, Digests, NoMemory, Text};
 use tpol_tree::{
@@ -159,24 +158,19 @@ pub fn add_branch(
     add_between(alloc, found, &step, &act, paths)
 }
 
-// Adds the paths of a document, where the element's approver approved it, at the end of those found.
+// Adds the paths of a document, each before the move that uses its approval, at the end of those found.
 pub fn add_approved(
     alloc: Global,
     found: &mut Paths,
-    element: &ClosedElement,
     document: &ApprovedDoc,
+    act: Move,
     paths: Paths,
 ) -> Result<(), NoMemory>
-    ensures { OnOk result (found.new ≡ found.old
-        ++ spec.paths_by_approval (spec.approval_of element.now document.now) document.now paths) }
+    ensures { OnOk result (found.new
+        ≡ found.old ++ map (spec.between (PathStep.Document document.now.document) act) paths) }
 {
-    match approval(alloc, element, document)? {
-        None => Ok(()),
-        Some(act) => {
-            let step = PathStep::Document(document.document.try_clone(alloc)?);
-            add_between(alloc, found, &step, &act, paths)
-        }
-    }
+    let step = PathStep::Document(document.document.try_clone(alloc)?);
+    add_between(alloc, found, &step, &act, paths)
 }
 
 // Adds the way by a policy that no listed document has, where the element asks for an approval.

@@ -10,7 +10,7 @@ use Rattle.tpol_digest.proofs.Weights.{weight, greatest, weight-lt-greatest, lev
 use Rattle.tpol_digest.proofs.Products.{product_empty}
 use Rattle.tpol_digest.proofs.Listings.{extended_more, branches_more, no_level, documents_entered, documents_passed}
 use Rattle.tpol_digest.proofs.listing.+listing.Goals as goal
-use Rattle.tpol_digest.proofs.listing.+listing.Goals.{add_documents-then-accepts+in_ok-start+in_ok-inner+in_ok-add_approved, add_documents-else-accepts}
+use Rattle.tpol_digest.proofs.listing.+listing.Goals.{add_documents-in-Some+in_ok-start-in-Some+in_ok-inner-in-Some+in_ok-add_approved-in-Some, add_documents-in-None}
 
 pub extend_by_elements-returns-in-End : goal.extend_by_elements-returns-in-End
 extend_by_elements-returns-in-End t c = rw c.in-End.is (sym (product_empty c.args.prefixes))
@@ -66,7 +66,7 @@ add_documents-extend_by_elements-requires t c =
 
 pub add_documents-loop-document-preserved : goal.add_documents-loop-document-preserved
 add_documents-loop-document-preserved t c =
-    elim c.if-accepts.branch [
-      | add_documents-then-accepts+in_ok-start+in_ok-inner+in_ok-add_approved w ↦ w.found-is ∙ documents_entered c.args.approvals.now c.args.levels c.args.element.now c.args.found.now c.loop-document.document-index c.document-item.result c.loop-document.found w.add_approved.new.found w.in_ok-start.start w.in_ok-inner.inner w.zero.result c.if-levels-eq0.false c.loop-document-test.true c.document-item.is c.loop-document.invariant w.in_ok-start.ensures w.zero.ensures w.in_ok-inner.ensures w.in_ok-add_approved.ensures
-      | add_documents-else-accepts w ↦ w.found-is ∙ documents_passed c.args.approvals.now c.args.levels c.args.element.now c.args.found.now c.loop-document.document-index c.document-item.result c.loop-document.found c.loop-document-test.true c.document-item.is c.loop-document.invariant (sym c.accepts.ensures ∙ w.if-accepts.false)
+    elim c.match-branch-2.branch [
+      | add_documents-in-Some+in_ok-start-in-Some+in_ok-inner-in-Some+in_ok-add_approved-in-Some w ↦ w.found-is ∙ documents_entered c.args.approvals.now c.args.levels c.args.element.now c.args.found.now c.loop-document.document-index c.document-item.result w.in-Some.act c.loop-document.found w.add_approved.new.found w.in_ok-start-in-Some.start w.in_ok-inner-in-Some.inner w.zero.result c.if-levels-eq0.false c.loop-document-test.true c.document-item.is c.loop-document.invariant (sym c.in_ok-approval.ensures ∙ w.in-Some.is) w.in_ok-start-in-Some.ensures w.zero.ensures w.in_ok-inner-in-Some.ensures w.in_ok-add_approved-in-Some.ensures
+      | add_documents-in-None w ↦ w.found-is ∙ documents_passed c.args.approvals.now c.args.levels c.args.element.now c.args.found.now c.loop-document.document-index c.document-item.result c.loop-document.found c.loop-document-test.true c.document-item.is c.loop-document.invariant (sym c.in_ok-approval.ensures ∙ w.in-None.is)
     ]
