@@ -16,6 +16,14 @@ use tpol_tree::{
     ApprovedDoc, ClosedBranches, ClosedElement, ClosedElements, Move, PathStep, Paths,
 };
 
+// What the lists of all parts are made from: the approved documents, which may be entered `levels` deep.
+#[derive(Clone, Copy)]
+struct Walk<'a> {
+    alloc: Global,
+    approvals: &'a [ApprovedDoc],
+    levels: u8,
+}
+
 // The paths of a policy's elements, where documents may be entered `levels` deep.
 pub fn paths_of_policy(
     alloc: Global,
@@ -29,30 +37,33 @@ pub fn paths_of_policy(
         ≡ spec.paths_at (spec.document_paths approvals.now levels) approvals.now elements.now zero_digest) }
 {
     let start = one_empty_path(alloc)?;
-    extend_by_elements(alloc, start, approvals, levels, elements, zero())
+    let walk = Walk {
+        alloc,
+        approvals,
+        levels,
+    };
+    extend_by_elements(&walk, start, elements, zero())
 }
 
 // Each of the prefixes followed by each path of the elements, where `before` is the digest before these.
 #[cycle(listing)]
 fn extend_by_elements(
-    alloc: Global,
+    walk: &Walk<'_>,
     prefixes: Paths,
-    approvals: &[ApprovedDoc],
-    levels: u8,
     elements: &ClosedElements,
     before: Digest32,
 ) -> Result<Paths, NoMemory>
     requires counts { HasBranchCounts elements.now }
-    requires approved { All (λ document. HasBranchCounts document.closed.elements) approvals.now }
+    requires approved { All (λ document. HasBranchCounts document.closed.elements) walk.now.approvals.now }
     ensures { IfOk result (λ paths. paths ≡ spec.product prefixes
-        (spec.paths_at (spec.document_paths approvals.now levels) approvals.now elements.now before)) }
+        (spec.paths_at (spec.document_paths walk.now.approvals.now walk.now.levels) walk.now.approvals.now elements.now before)) }
 {
     match elements {
         ClosedElements::End => Ok(prefixes),
         ClosedElements::More(element, rest) => {
-            let longer = extend_by_element(alloc, prefixes, approvals, levels, element, before)?;
+            let longer = extend_by_element(walk, prefixes, element, before)?;
             let after = digest_after_element(element, before);
-            extend_by_elements(alloc, longer, approvals, levels, rest, after)
+            extend_by_elements(walk, longer, rest, after)
         }
     }
 }
@@ -60,34 +71,30 @@ fn extend_by_elements(
 // The same of one element.
 #[cycle(listing)]
 fn extend_by_element(
-    alloc: Global,
+    walk: &Walk<'_>,
     prefixes: Paths,
-    approvals: &[ApprovedDoc],
-    levels: u8,
     element: &ClosedElement,
     before: Digest32,
 ) -> Result<Paths, NoMemory>
     requires counts { ElementHasBranchCounts element.now }
-    requires approved { All (λ document. HasBranchCounts document.closed.elements) approvals.now }
+    requires approved { All (λ document. HasBranchCounts document.closed.elements) walk.now.approvals.now }
     ensures { IfOk result (λ paths. paths ≡ spec.product prefixes
-        (spec.paths_at_element (spec.document_paths approvals.now levels) approvals.now element.now before)) }
+        (spec.paths_at_element (spec.document_paths walk.now.approvals.now walk.now.levels) walk.now.approvals.now element.now before)) }
 {
     match element {
-        ClosedElement::Assert(assertion) => all_before_assertion(alloc, prefixes, assertion),
+        ClosedElement::Assert(assertion) => all_before_assertion(walk.alloc, prefixes, assertion),
         ClosedElement::Or(branches) => {
-            let mut digests = Digests::new(alloc);
+            let mut digests = Digests::new(walk.alloc);
             push_branch_digests(&mut digests, branches, before)?;
-            let mut found = Paths::new(alloc);
-            add_branches(
-                alloc, &mut found, approvals, levels, branches, 1, &digests, before,
-            )?;
-            product(alloc, &prefixes, &found)
+            let mut found = Paths::new(walk.alloc);
+            add_branches(walk, &mut found, branches, 1, &digests, before)?;
+            product(walk.alloc, &prefixes, &found)
         }
         ClosedElement::Authorize { .. } | ClosedElement::AuthorizeNv { .. } => {
-            let mut found = Paths::new(alloc);
-            add_documents(alloc, &mut found, approvals, levels, element)?;
-            push_outside(alloc, &mut found, element)?;
-            product(alloc, &prefixes, &found)
+            let mut found = Paths::new(walk.alloc);
+            add_documents(walk, &mut found, element)?;
+            push_outside(walk.alloc, &mut found, element)?;
+            product(walk.alloc, &prefixes, &found)
         }
     }
 }
@@ -95,38 +102,27 @@ fn extend_by_element(
 // Adds the paths of the branches from a position on, each before the OR with these digests.
 #[cycle(listing)]
 fn add_branches(
-    alloc: Global,
+    walk: &Walk<'_>,
     found: &mut Paths,
-    approvals: &[ApprovedDoc],
-    levels: u8,
     branches: &ClosedBranches,
     position: u32,
     digests: &Digests,
     before: Digest32,
 ) -> Result<(), NoMemory>
     requires counts { BranchesHaveBranchCounts branches.now }
-    requires approved { All (λ document. HasBranchCounts document.closed.elements) approvals.now }
+    requires approved { All (λ document. HasBranchCounts document.closed.elements) walk.now.approvals.now }
     requires positions { position + branch_count branches.now < 2 ^ 32 }
     ensures { OnOk result (found.new ≡ found.old ++ spec.paths_at_branches
-        (spec.document_paths approvals.now levels) approvals.now branches.now position (Move.Or digests.now) before) }
+        (spec.document_paths walk.now.approvals.now walk.now.levels) walk.now.approvals.now branches.now position (Move.Or digests.now) before) }
 {
     match branches {
         ClosedBranches::End => Ok(()),
         ClosedBranches::More(branch, rest) => {
-            let start = one_empty_path(alloc)?;
+            let start = one_empty_path(walk.alloc)?;
             let elements = &branch.policy.elements;
-            let inner = extend_by_elements(alloc, start, approvals, levels, elements, before)?;
-            add_branch(alloc, found, position, &branch.name, digests, inner)?;
-            add_branches(
-                alloc,
-                found,
-                approvals,
-                levels,
-                rest,
-                position + 1,
-                digests,
-                before,
-            )
+            let inner = extend_by_elements(walk, start, elements, before)?;
+            add_branch(walk.alloc, found, position, &branch.name, digests, inner)?;
+            add_branches(walk, found, rest, position + 1, digests, before)
         }
     }
 }
@@ -134,34 +130,29 @@ fn add_branches(
 // Adds the paths of the documents that the element's approver approved, each before its approval's move.
 #[cycle(listing)]
 fn add_documents(
-    alloc: Global,
+    walk: &Walk<'_>,
     found: &mut Paths,
-    approvals: &[ApprovedDoc],
-    levels: u8,
     element: &ClosedElement,
 ) -> Result<(), NoMemory>
-    requires approved { All (λ document. HasBranchCounts document.closed.elements) approvals.now }
+    requires approved { All (λ document. HasBranchCounts document.closed.elements) walk.now.approvals.now }
     ensures { OnOk result (found.new ≡ found.old ++ spec.approved_paths
-        (spec.document_paths approvals.now levels) approvals.now element.now) }
+        (spec.document_paths walk.now.approvals.now walk.now.levels) walk.now.approvals.now element.now) }
 {
-    if levels == 0 {
+    if walk.levels == 0 {
         return Ok(());
     }
-    for document in approvals {
-        match approval(alloc, element, document)? {
+    let below = Walk {
+        levels: walk.levels - 1,
+        ..*walk
+    };
+    for document in walk.approvals {
+        match approval(walk.alloc, element, document)? {
             None => {}
             Some(act) => {
-                let start = one_empty_path(alloc)?;
+                let start = one_empty_path(walk.alloc)?;
                 let elements = &document.closed.elements;
-                let inner = extend_by_elements(
-                    alloc,
-                    start,
-                    approvals,
-                    levels - 1,
-                    elements,
-                    zero(),
-                )?;
-                add_approved(alloc, found, document, act, inner)?;
+                let inner = extend_by_elements(&below, start, elements, zero())?;
+                add_approved(walk.alloc, found, document, act, inner)?;
             }
         }
     }
