@@ -10,7 +10,7 @@ use crate::counting::extent_of_elements;
 use crate::extent::{MAX_MOVES, MAX_PATHS};
 use crate::listing::paths_of_policy;
 use std::alloc::Global;
-use tpol_tree::{Approvals, ApprovedDoc, Closed};
+use tpol_tree::{Approvals, Closed};
 
 // How many approvals may lie inside one another.
 const MAX_LEVELS: u8 = 4;
@@ -45,30 +45,7 @@ pub fn paths(
     ensures outside_first { IsWellFormed policy.now approvals.now
         → IfOk result (All (λ path. IsTrue path.outside → BeginsWithZeroApproval path.moves)) }
 {
-    checked_paths(alloc, policy, approvals.as_slice())
-}
-
-/// The number of ways through a policy, as `paths` lists them, or 4,097 where there are more than 4,096.
-/// It takes no memory.
-pub fn count_paths(policy: &Closed, approvals: &Approvals) -> u64
-    requires branches { HaveBranchCounts policy.now approvals.now }
-    ensures { result ≡ min (length (paths_of policy.now approvals.now)) 4097 }
-{
-    count_in(policy, approvals.as_slice())
-}
-
-fn checked_paths(
-    alloc: Global,
-    policy: &Closed,
-    documents: &[ApprovedDoc],
-) -> Result<tpol_tree::Paths, TreeFault>
-    requires branches { HaveBranchCounts policy.now documents.now }
-    ensures list { IfOk result (λ all. all ≡ paths_of policy.now documents.now) }
-    ensures too_many { IsErrOf result TreeFault.TooManyPaths ↔ (4096 < length (paths_of policy.now documents.now)) }
-    ensures too_long { IsErrOf result TreeFault.TooLong
-        ↔ ((length (paths_of policy.now documents.now) ≤ 4096)
-        × Any (λ path. 512 < length path.moves) (paths_of policy.now documents.now)) }
-{
+    let documents = approvals.as_slice();
     let extent = extent_of_elements(documents, MAX_LEVELS, &policy.elements);
     if extent.paths > MAX_PATHS {
         return Err(TreeFault::TooManyPaths);
@@ -80,9 +57,11 @@ fn checked_paths(
     Ok(all)
 }
 
-fn count_in(policy: &Closed, documents: &[ApprovedDoc]) -> u64
-    requires branches { HaveBranchCounts policy.now documents.now }
-    ensures { result ≡ min (length (paths_of policy.now documents.now)) 4097 }
+/// The number of ways through a policy, as `paths` lists them, or 4,097 where there are more than 4,096.
+/// It takes no memory.
+pub fn count_paths(policy: &Closed, approvals: &Approvals) -> u64
+    requires branches { HaveBranchCounts policy.now approvals.now }
+    ensures { result ≡ min (length (paths_of policy.now approvals.now)) 4097 }
 {
-    extent_of_elements(documents, MAX_LEVELS, &policy.elements).paths
+    extent_of_elements(approvals.as_slice(), MAX_LEVELS, &policy.elements).paths
 }

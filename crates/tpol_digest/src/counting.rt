@@ -8,7 +8,7 @@ use crate::approval::accepts;
 use crate::extent::{Extent, MAX_PATHS};
 use tpol_tree::{ApprovedDoc, ClosedBranches, ClosedElement, ClosedElements};
 
-// Of elements, where documents may be entered `levels` deep.
+// The extent of the paths of elements, where documents may be entered `levels` deep.
 #[cycle(counting)]
 pub fn extent_of_elements(
     approvals: &[ApprovedDoc],
@@ -29,7 +29,7 @@ pub fn extent_of_elements(
     }
 }
 
-// Of one element.
+// The extent of the paths of one element.
 #[cycle(counting)]
 fn extent_of_element(approvals: &[ApprovedDoc], levels: u8, element: &ClosedElement) -> Extent
     requires counts { ElementHasBranchCounts element.now }
@@ -45,7 +45,7 @@ fn extent_of_element(approvals: &[ApprovedDoc], levels: u8, element: &ClosedElem
     }
 }
 
-// Of branches.
+// The extent of the paths of branches.
 #[cycle(counting)]
 fn extent_of_branches(approvals: &[ApprovedDoc], levels: u8, branches: &ClosedBranches) -> Extent
     requires counts { BranchesHaveBranchCounts branches.now }
@@ -62,7 +62,8 @@ fn extent_of_branches(approvals: &[ApprovedDoc], levels: u8, branches: &ClosedBr
     }
 }
 
-// Of the documents that the element's approver approved. It stops where the limit is passed.
+// The extent of the paths of the documents that the element's approver approved, each with the approval's
+// move. It stops where the limit is passed.
 #[cycle(counting)]
 fn extent_of_documents(approvals: &[ApprovedDoc], levels: u8, element: &ClosedElement) -> Extent
     requires approved { All (λ document. HasBranchCounts document.closed.elements) approvals.now }

@@ -15,7 +15,7 @@ pub const MAX_PATHS: u64 = 4096;
 pub const MAX_MOVES: u64 = 512;
 
 impl Extent {
-    // No path.
+    // The extent of no path.
     pub fn no_path() -> Extent
         ensures paths { result.paths ≡ 0 }
         ensures moves { result.moves ≡ 0 }
@@ -23,7 +23,7 @@ impl Extent {
         Extent { paths: 0, moves: 0 }
     }
 
-    // One path of so many moves.
+    // The extent of one path of so many moves.
     pub fn one_path(moves: u64) -> Extent
         ensures paths { result.paths ≡ 1 }
         ensures moves { result.moves ≡ moves }
@@ -31,7 +31,7 @@ impl Extent {
         Extent { paths: 1, moves }
     }
 
-    // Of the paths of two parts one after the other.
+    // The extent of the paths of two parts one after the other.
     pub fn then(self, rest: Extent) -> Extent
         ensures paths { result.paths ≡ min (self.paths * rest.paths) 4097 }
         ensures moves { result.moves ≡ min (self.moves + rest.moves) 513 }
@@ -42,7 +42,7 @@ impl Extent {
         }
     }
 
-    // Of the paths of either part.
+    // The extent of the paths of either part.
     pub fn or(self, other: Extent) -> Extent
         ensures paths { result.paths ≡ min (self.paths + other.paths) 4097 }
         ensures moves { result.moves ≡ max self.moves other.moves }
@@ -53,7 +53,7 @@ impl Extent {
         }
     }
 
-    // Of the same paths with one more move each.
+    // The extent of the same paths with one more move each.
     pub fn with_move(self) -> Extent
         ensures paths { result.paths ≡ self.paths }
         ensures moves { result.moves ≡ min (self.moves + 1) 513 }

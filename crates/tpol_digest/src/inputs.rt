@@ -37,7 +37,8 @@ pub fn inputs_of(alloc: Global, policy: &Closed, approvals: &Approvals) -> Resul
     Ok(inputs)
 }
 
-/// The same of the moves of facts. A fact has no values of PCRs, so there is no string of them.
+/// Every string that is hashed for the digest of the moves of facts, inner ones included, in order of
+/// making. A fact has no values of PCRs, so there is no string of them.
 pub fn inputs_of_facts(alloc: Global, facts: &Facts) -> Result<Inputs, NoMemory>
     ensures { IfOk result (λ inputs. inputs ≡ spec.inputs_of_facts facts.now) }
 {

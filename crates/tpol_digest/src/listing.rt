@@ -68,7 +68,7 @@ fn extend_by_elements(
     }
 }
 
-// The same of one element.
+// Each of the prefixes followed by each path of the element, where `before` is the digest before it.
 #[cycle(listing)]
 fn extend_by_element(
     walk: &Walk<'_>,

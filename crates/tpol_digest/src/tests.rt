@@ -20,7 +20,7 @@ const OWNER: Name = Name::Handle(0x4000_0001);
 
 const ENDORSEMENT: Name = Name::Handle(0x4000_000b);
 
-// The digests of the Names of an index and of a key.
+// The digests of policies that a TPM 2.0 gave, named after their assertions.
 const AUTH_VALUE: &[u8; 32] = b"\x8f\xcd\x21\x69\xab\x92\x69\x4e\x0c\x63\x3f\x1a\xb7\x72\x84\x2b\
               \x82\x41\xbb\xc2\x02\x88\x98\x1f\xc7\xac\x1e\xdd\xc1\xfd\xdb\x0e";
 
@@ -80,6 +80,34 @@ const AUTHORIZE: &[u8; 32] = b"\x34\x05\x2b\xda\xc7\x36\x4d\xd4\xed\xdf\xc2\x83\
 const TWO_STAGES: &[u8; 32] = b"\x99\xc5\x4c\xba\xa2\xe2\x6a\x73\x3c\x27\x93\x05\x58\x87\xea\xb0\
               \xeb\xb5\x75\xf9\x84\xab\x79\x7a\x94\xc4\x3e\x10\x38\xb1\xfc\x78";
 
+// Digests that were computed with another SHA-256, from what TPM 2.0 Part 3 says that each command hashes.
+const SIGNED: &[u8; 32] = b"\x59\xb1\x0d\xa7\x40\x9c\x82\xf5\x96\xda\x99\x02\x33\x92\x51\x32\
+              \xa4\xb3\x78\xac\x21\xa2\xa1\x75\x46\x88\xd8\xa5\xfe\x4b\x50\x46";
+
+const NAME_HASH: &[u8; 32] = b"\xfa\xf9\x00\x25\xf8\x5f\xf3\xda\x6a\xd2\x69\xad\xb2\x6b\x4e\xa2\
+              \x3f\x87\x4f\x27\xed\x87\x85\xa5\x0c\x50\xa5\x27\x6b\xa9\x8c\x00";
+
+const DUPLICATION_OF_OBJECT: &[u8; 32] =
+    b"\xc1\x12\xfd\x98\x8c\xa1\xf5\xfb\x36\xc7\x38\x9b\xc7\x54\xc6\x28\
+              \xc9\x8b\x6b\xe9\x6f\xd4\xd5\xe9\x43\x75\x38\x92\x3b\x6e\x61\x04";
+
+const DUPLICATION_TO_PARENT: &[u8; 32] =
+    b"\xc8\x8b\x65\x09\x61\x6e\x64\xe7\x2c\x9a\xe3\x83\x87\xad\xb8\xeb\
+              \x2c\xd1\x23\x07\xcb\xde\x0f\x8b\xe3\x94\x6d\x19\x8e\x72\xd3\x15";
+
+const NV_NOT_WRITTEN: &[u8; 32] =
+    b"\x3c\x32\x63\x23\x67\x0e\x28\xad\x37\xbd\x57\xf6\x3b\x4c\xc3\x4d\
+              \x26\xab\x20\x5e\xf2\x2f\x27\x5c\x58\xd4\x7f\xab\x24\x85\x46\x6e";
+
+// The digests of the first string of a PolicySecret of the owner, and of the second one with POLICY_REF.
+const OWNER_FIRST: &[u8; 32] = b"\x47\x8c\xf7\x94\xda\x0e\x05\x31\xf4\x11\x73\x44\x27\x7d\x77\xd0\
+              \x86\x25\x90\x43\xf0\x37\xb6\xd6\x7f\x63\xb1\x32\xa0\x8b\xfc\x27";
+
+const OWNER_THEN_REF: &[u8; 32] =
+    b"\xe9\x71\x5d\xae\xf5\xc1\x0e\xd8\x0d\x4c\x43\xc7\x39\x1e\xd2\x94\
+              \x12\x35\xdb\xf1\xb4\x9a\x4d\xfe\x00\x06\xe2\x39\x5d\xa6\x1c\xc6";
+
+// The digests of the Names of an index and of a key.
 const INDEX: &[u8; 32] = b"\x0c\x9d\x71\x7e\x9c\x3f\xe6\x9f\xda\x41\x76\x94\x50\xbb\x14\x59\
               \x57\xf8\xb3\x61\x0e\x08\x4d\xbf\x65\x59\x1a\x5d\x11\xec\xd8\x3f";
 
@@ -128,7 +156,13 @@ fn assertions_of_plain_values(rt: HostRuntime) -> Result<(), Fail> {
         Assertion::CpHash(Digest32 { bytes: [0xab; 32] }),
         CP_HASH,
     );
+    gives(
+        &rt,
+        Assertion::NameHash(Digest32 { bytes: [0xcd; 32] }),
+        NAME_HASH,
+    );
     gives(&rt, Assertion::NvWritten(true), NV_WRITTEN);
+    gives(&rt, Assertion::NvWritten(false), NV_NOT_WRITTEN);
     Ok(())
 }
 
@@ -154,6 +188,28 @@ fn assertions_of_machine_values(rt: HostRuntime) -> Result<(), Fail> {
         operation: Compare::BitSet,
     };
     gives(&rt, nv, NV);
+    Ok(())
+}
+
+fn duplication(include: bool) -> Assertion {
+    Assertion::Duplication {
+        object: Name::Hash(Digest32 { bytes: *INDEX }),
+        parent: Name::Hash(Digest32 { bytes: *KEY }),
+        include,
+    }
+}
+
+#[test]
+fn assertions_of_keys(rt: HostRuntime) -> Result<(), Fail> {
+    let signed = Assertion::Signed {
+        key: Name::Hash(Digest32 { bytes: *KEY }),
+        policy_ref: Blob::from_slice(rt.alloc(), &POLICY_REF)?,
+        cp_hash: None,
+        expiration: 0,
+    };
+    gives(&rt, signed, SIGNED);
+    gives(&rt, duplication(true), DUPLICATION_OF_OBJECT);
+    gives(&rt, duplication(false), DUPLICATION_TO_PARENT);
     Ok(())
 }
 
@@ -345,20 +401,45 @@ fn inputs_of_two_stages(rt: HostRuntime) -> Result<(), Fail> {
     Ok(())
 }
 
+fn fact(act: Move) -> Fact {
+    Fact {
+        event: 1,
+        act,
+        cp_hash: None,
+        deadline: None,
+    }
+}
+
+// What a PolicyOR with these digests hashes.
+fn or_string(alloc: Global, first: &[u8; 32], second: &[u8; 32]) -> Result<Blob, NoMemory> {
+    let mut string = Blob::from_slice(alloc, &[0; 32])?;
+    string.extend_from_slice(&[0x00, 0x00, 0x01, 0x71])?;
+    string.extend_from_slice(first)?;
+    string.extend_from_slice(second)?;
+    Ok(string)
+}
+
+// A PolicySecret and then a PolicyOR hash three strings.
 #[test]
 fn inputs_of_a_session(rt: HostRuntime) -> Result<(), Fail> {
     let alloc = rt.alloc();
+    let mut digests = Digests::new(alloc);
+    digests.push(Digest32 {
+        bytes: *OWNER_THEN_REF,
+    })?;
+    digests.push(Digest32 { bytes: *AUTH_VALUE })?;
     let mut facts = Facts::new(alloc)?;
-    facts.push(Fact {
-        event: 1,
-        act: Move::Assert(secret(alloc, OWNER, &POLICY_REF)?),
-        cp_hash: None,
-        deadline: None,
-    });
+    facts.push(fact(Move::Assert(secret(alloc, OWNER, &POLICY_REF)?)));
+    facts.push(fact(Move::Or(digests)));
+    let mut second = Blob::from_slice(alloc, OWNER_FIRST)?;
+    second.extend_from_slice(&POLICY_REF)?;
+    let third = or_string(alloc, OWNER_THEN_REF, AUTH_VALUE)?;
     let inputs = inputs_of_facts(alloc, &facts)?;
-    assert_eq!(rt; inputs.len(), 2);
+    assert_eq!(rt; inputs.len(), 3);
     assert_eq!(rt; inputs.as_slice()[0].as_slice(), first_stage().as_slice());
-    assert!(rt; run_facts(&facts) == hash(inputs.as_slice()[1].as_slice()));
+    assert_eq!(rt; inputs.as_slice()[1].as_slice(), second.as_slice());
+    assert_eq!(rt; inputs.as_slice()[2].as_slice(), third.as_slice());
+    assert_eq!(rt; &run_facts(&facts).bytes, TWO_STAGES);
     facts.clear();
     assert!(rt; run_facts(&facts) == Digest32::ZERO);
     Ok(())
