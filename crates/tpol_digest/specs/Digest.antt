@@ -1,8 +1,9 @@
 -- Digests of moves and of policies.
-use Rattle.std.specs.Prelude.{ℕ, Bool, true, false, List, [], ◌∷◌, ◌++◌, replicate, fold, Option, Some, None, refl}
+use Rattle.std.specs.Prelude.{ℕ, Bool, true, false, List, [], ◌∷◌, ◌++◌, fold, Option, Some, None}
 use Rattle.std.specs.Int.{to_be_bytes, w32}
 use Rattle.tpol_base.specs.declared.digest.Digest32.{Digest32}
 use Rattle.tpol_base.specs.declared.name.Name.{Name}
+pub use Rattle.tpol_base.specs.Digest.{zero_digest}
 use Rattle.tpol_hash.specs.Sha256.{sha256_digest}
 use Rattle.tpol_tree.specs.declared.closed.Assertion.{Assertion}
 use Rattle.tpol_tree.specs.declared.closed.Closed.{Closed}
@@ -14,10 +15,6 @@ use Rattle.tpol_tree.specs.declared.closed.ClosedBranches.{ClosedBranches}
 use Rattle.tpol_tree.specs.declared.closed.ClosedBranches.TheVariants.{More' as MoreBranches', End as EndBranches}
 use Rattle.tpol_tree.specs.declared.path.Move.{Move}
 use Rattle.tpol_digest.specs.Stage.{Stage, stage_of, stage_of_assertion, stage_of_or, stage_of_approve, stage_of_approve_nv}
-
--- 32 zero bytes, from which a policy and a session start
-abbrev pub zero_digest : Digest32
-zero_digest = record { bytes = replicate 32 0; whole = refl }
 
 -- the digest that a stage starts from, where d is the digest before
 abbrev pub start_of : Bool → Digest32 → Digest32

@@ -5,7 +5,7 @@ ghost use Rattle.tpol_digest.specs.Term.{Term, bytes_of_term, term_after_asserti
 ghost use Rattle.tpol_digest.specs.Stage.{hash_of_inner, one_hash, comparison, duplication, pcr_selection};
 
 use crate::command_code::{self, code_of_assertion};
-use crate::update::{comparison_digest, hash_once, hash_twice, put_name, selection_bytes, start};
+use crate::update::{comparison_digest, hash_once, hash_twice, selection_bytes, start};
 use tpol_base::{Blob, Compare, Digest32, Name};
 use tpol_tree::Assertion;
 
@@ -90,7 +90,7 @@ fn after_nv(
 {
     let mut hasher = start(old, command_code::POLICY_NV);
     hasher.put(&comparison_digest(operand, offset, operation).bytes);
-    put_name(&mut hasher, index);
+    hasher.put_name(index);
     hasher.done()
 }
 
@@ -100,9 +100,9 @@ fn after_duplication(old: &Digest32, object: &Name, parent: &Name, include: bool
 {
     let mut hasher = start(old, command_code::POLICY_DUPLICATION_SELECT);
     if include {
-        put_name(&mut hasher, object);
+        hasher.put_name(object);
     }
-    put_name(&mut hasher, parent);
+    hasher.put_name(parent);
     hasher.put(&[u8::from(include)]);
     hasher.done()
 }

@@ -6,7 +6,7 @@ ghost use Rattle.tpol_digest.specs.Term.{bytes_of_term, term_of_approve, term_of
 
 use crate::assertion::extend;
 use crate::command_code;
-use crate::update::{hash_twice, put_name, start};
+use crate::update::{hash_twice, start};
 use tpol_base::{Blob, Digest32, Digests, Name, NoMemory};
 use tpol_hash::Hasher;
 use tpol_tree::{Closed, ClosedBranches, ClosedElement, ClosedElements};
@@ -42,7 +42,7 @@ pub fn approve_nv_digest(index: &Name) -> Digest32
     ensures term { result ≡ bytes_of_term (term_of_approve_nv index.now) }
 {
     let mut hasher = start(&Digest32::ZERO, command_code::POLICY_AUTHORIZE_NV);
-    put_name(&mut hasher, index);
+    hasher.put_name(index);
     hasher.done()
 }
 

@@ -22,21 +22,6 @@ pub struct StageBytes {
     pub policy_ref: Option<Blob>,
 }
 
-// The bytes of a Name.
-fn blob_of_name(alloc: Global, name: &Name) -> Result<Blob, NoMemory>
-    ensures { IfOk result (λ bytes. bytes ≡ name_bytes name.now) }
-{
-    match name {
-        Name::Empty => Ok(Blob::new(alloc)),
-        Name::Handle(handle) => Blob::from_slice(alloc, &handle.to_be_bytes()),
-        Name::Hash(digest) => {
-            let mut bytes = Blob::from_slice(alloc, &[0x00, 0x0b])?;
-            bytes.extend_from_slice(&digest.bytes)?;
-            Ok(bytes)
-        }
-    }
-}
-
 // A command that hashes these bytes behind its code.
 fn one_hash(code: u32, rest: Blob) -> StageBytes
     ensures { stage_value result ≡ spec.one_hash code rest }
@@ -60,7 +45,7 @@ fn two_hashes(
     ensures { IfOk result (λ stage. stage_value stage
         ≡ spec.two_hashes code (name_bytes name.now) policy_ref.now) }
 {
-    let rest = blob_of_name(alloc, name)?;
+    let rest = name.to_bytes(alloc)?;
     let second = Blob::from_slice(alloc, policy_ref.as_slice())?;
     Ok(StageBytes {
         fresh: false,
@@ -112,9 +97,9 @@ fn duplication(
     ensures { IfOk result (λ stage. stage_value stage
         ≡ spec.one_hash 0x188 (spec.duplication include (name_bytes object.now) (name_bytes parent.now))) }
 {
-    let second = blob_of_name(alloc, parent)?;
+    let second = parent.to_bytes(alloc)?;
     let mut rest = if include {
-        blob_of_name(alloc, object)?
+        object.to_bytes(alloc)?
     } else {
         Blob::new(alloc)
     };
@@ -140,7 +125,7 @@ pub fn stage_of_assertion(alloc: Global, assertion: &Assertion) -> Result<StageB
             offset,
             operation,
         } => {
-            let rest = blob_of_name(alloc, index)?;
+            let rest = index.to_bytes(alloc)?;
             comparison(alloc, code, operand, *offset, *operation, rest)
         }
         Assertion::Secret {
@@ -215,7 +200,7 @@ pub fn stage_of_approve(
 pub fn stage_of_approve_nv(alloc: Global, index: &Name) -> Result<StageBytes, NoMemory>
     ensures { IfOk result (λ stage. stage_value stage ≡ spec.stage_of_approve_nv index.now) }
 {
-    let rest = blob_of_name(alloc, index)?;
+    let rest = index.to_bytes(alloc)?;
     let mut stage = one_hash(command_code::POLICY_AUTHORIZE_NV, rest);
     stage.fresh = true;
     Ok(stage)

@@ -1,7 +1,7 @@
 // The update of a policy digest, of which each policy command has its own (TPM 2.0 Part 3): the hash of
 // the digest before, the command's code and its arguments, and in some commands a second hash.
 
-ghost use Rattle.std.specs.Prelude.{◌≡◌, ◌++◌, ℕ, List};
+ghost use Rattle.std.specs.Prelude.{◌≡◌, ◌++◌};
 ghost use Rattle.std.specs.Int.{to_be_bytes, w16, w32};
 ghost use Rattle.tpol_base.specs.Compare.{number_of_compare};
 ghost use Rattle.tpol_base.specs.Name.{name_bytes};
@@ -23,20 +23,6 @@ pub fn start(old: &Digest32, code: u32) -> Hasher
     hasher
 }
 
-// Puts the bytes of a Name.
-pub fn put_name(hasher: &mut Hasher, name: &Name)
-    ensures { (m : List ℕ) → Holds hasher.old m → Holds hasher.new (m ++ name_bytes name.now) }
-{
-    match name {
-        Name::Empty => {}
-        Name::Handle(handle) => hasher.put(&handle.to_be_bytes()),
-        Name::Hash(digest) => {
-            hasher.put(&[0x00, 0x0b]);
-            hasher.put(&digest.bytes);
-        }
-    }
-}
-
 // The digest after a command that hashes these bytes behind its code.
 pub fn hash_once(old: &Digest32, code: u32, rest: &[u8]) -> Digest32
     ensures { result ≡ after_stage (one_hash code rest.now) old.now }
@@ -51,7 +37,7 @@ pub fn hash_twice(old: &Digest32, code: u32, name: &Name, policy_ref: &Blob) -> 
     ensures { result ≡ after_stage (two_hashes code (name_bytes name.now) policy_ref.now) old.now }
 {
     let mut hasher = start(old, code);
-    put_name(&mut hasher, name);
+    hasher.put_name(name);
     let first = hasher.done();
     let mut second = Hasher::new();
     second.put(&first.bytes);
