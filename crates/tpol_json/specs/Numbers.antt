@@ -27,7 +27,7 @@ number_of_digits digits =
 abbrev pub number_of_text : List ℕ → Option ℤ
 number_of_text text = option_and_then number_of_digits (after_0x text)
 
--- the whole number that a value writes: a JSON whole number of 64 bits, or a text as above
+-- the whole number that a value writes: a JSON whole number of 64 bits with a sign, or a text as above
 abbrev pub whole_number : Data → Option ℤ
 whole_number null = None
 whole_number (boolean b) = None

@@ -53,8 +53,8 @@ fn within(
     }
 }
 
-/// The whole number of 64 bits that a JSON number writes, or a text of `0x` and 1 to 15 hexadecimal
-/// digits; `None` for any other value.
+/// The whole number of 64 bits with a sign that a JSON number writes, or a text of `0x` and 1 to 15
+/// hexadecimal digits; `None` for any other value, 2^63 and greater numbers among them.
 pub fn whole_number(value: &Value) -> Option<i64>
     ensures { result ≡ whole_number (view value.now) }
 {

@@ -30,6 +30,7 @@ pub type PlaceSteps = Sequence<PlaceStep>;
 /// Where in a document something stands. Without a step it is the document itself.
 #[derive(Drop)]
 pub struct Place {
+    /// The steps that lead there.
     pub steps: PlaceSteps,
 }
 

@@ -59,9 +59,9 @@ fn is_plain(name: &str) -> bool
 }
 
 /// A text as a JSON text, with its quotation marks.
-pub fn quoted(alloc: Global, name: &str) -> Result<Text, NoMemory>
-    ensures { IfOk result (λ text. text ≡ quoted name.now) }
+pub fn quoted(alloc: Global, text: &str) -> Result<Text, NoMemory>
+    ensures { IfOk result (λ made. made ≡ quoted text.now) }
 {
-    let name = Value::String(String::from_str(alloc, name)?);
-    Ok(Text::from_string(name.to_string(alloc)?))
+    let value = Value::String(String::from_str(alloc, text)?);
+    Ok(Text::from_string(value.to_string(alloc)?))
 }
