@@ -1,5 +1,5 @@
 -- Whole numbers, and words that stand for numbers.
-use Rattle.std.specs.Prelude.{ℕ, suc, ◌^◌, ◌-◌, ◌==◌, ◌||◌, bit_or, ℤ, pos, negsuc, unsigned_abs, List, [], ◌∷◌, codes, slice_index_or, Option, Some, None, Ok, Err, Bool, if◌then◌else◌}
+use Rattle.std.specs.Prelude.{ℕ, suc, ◌^◌, ◌-◌, ◌==◌, ◌||◌, bit_or, ℤ, pos, negsuc, unsigned_abs, List, [], ◌∷◌, codes, slice_index_or, Option, Some, None, Ok, Err, Bool, if◌then◌else◌, ⊤}
 use Rattle.serde_json.specs.Data.{Data, Items, no_items, item}
 use Rattle.serde_json.specs.Find.{as_array}
 use Rattle.tpol_base.specs.declared.compare.Compare.{Compare}
@@ -63,14 +63,18 @@ operation_in d place = found_or (word_in (codes "TPM2_EO_") operations d) (opera
 abbrev pub code_in : Data → Place → Found ℕ
 code_in d place = found_or (word_in (codes "TPM2_CC_") command_codes d) (u32_in d place)
 
--- SHA-256, by its name or its number
-abbrev pub hash_in : Data → Place → Found ℕ
-hash_in d place =
-    instead OtherHash (found_or (word_in (codes "TPM2_ALG_") ((codes "SHA256", 11) ∷ []) d) (unsigned_in 11 11 d place))
+-- the number of SHA-256
+abbrev pub hash_number_in : Data → Place → Found ⊤
+hash_number_in d place = unsigned_in 11 11 d place >>= λ n. Ok tt
 
-abbrev pub keyed_hash : ℕ → Place → Found ℕ
+-- SHA-256, by its name or its number
+abbrev pub hash_in : Data → Place → Found ⊤
+hash_in d place =
+    instead OtherHash (found_or (word_in (codes "TPM2_ALG_") ((codes "SHA256", tt) ∷ []) d) (hash_number_in d place))
+
+abbrev pub keyed_hash : ℕ → Place → Found ⊤
 keyed_hash n place =
-    if n == 8 then Ok n else (if n == 1 || n == 35 then bad AsymmetricKey place else bad UnknownType place)
+    if n == 8 then Ok tt else (if n == 1 || n == 35 then bad AsymmetricKey place else bad UnknownType place)
 
 -- the type of an object, by its name or its number
 abbrev pub key_algorithm_in : Data → Place → Found ℕ
@@ -78,7 +82,7 @@ key_algorithm_in d place =
     instead UnknownType (found_or (word_in (codes "TPM2_ALG_") key_types d) (unsigned_in 0 65535 d place))
 
 -- a keyed hash; an asymmetric key is told apart from all else
-abbrev pub key_type_in : Data → Place → Found ℕ
+abbrev pub key_type_in : Data → Place → Found ⊤
 key_type_in d place = key_algorithm_in d place >>= λ n. keyed_hash n place
 
 -- whether the scheme is HMAC

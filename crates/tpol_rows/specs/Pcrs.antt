@@ -1,5 +1,5 @@
 -- The PCRs of a POLICYPCR.
-use Rattle.std.specs.Prelude.{ℕ, suc, ◌^◌, ◌==◌, nat_lt, bit_or, List, [], ◌∷◌, codes, length, position, unwrap_or, insert, Option, Some, None, Ok, Bool, if◌then◌else◌}
+use Rattle.std.specs.Prelude.{ℕ, suc, ◌^◌, ◌==◌, nat_lt, bit_or, List, [], ◌∷◌, codes, length, position, unwrap_or, insert, Option, Some, None, Ok, Bool, if◌then◌else◌, ⊤}
 use Rattle.std.specs.List.{list_any}
 use Rattle.serde_json.specs.Data.{Data, Items, no_items, item}
 use Rattle.serde_json.specs.Find.{as_array}
@@ -35,7 +35,7 @@ new_pcr_in values d place =
 unfoldable pub pcr_member : PcrList → Data → Place → Found ℕ
 pcr_member values = needed (new_pcr_in values) (codes "pcr")
 
-unfoldable pub bank_member : List ℕ → Data → Place → Found ℕ
+unfoldable pub bank_member : List ℕ → Data → Place → Found ⊤
 bank_member name = needed hash_in name
 
 unfoldable pub value_member : Data → Place → Found Digest32

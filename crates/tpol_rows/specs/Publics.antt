@@ -1,5 +1,5 @@
 -- Public areas of keys and of indices.
-use Rattle.std.specs.Prelude.{ℕ, List, [], ◌∷◌, codes, Bool, Ok}
+use Rattle.std.specs.Prelude.{ℕ, List, [], ◌∷◌, codes, Bool, Ok, ⊤}
 use Rattle.std.specs.Ordering.{nat_cmp, match_ordering}
 use Rattle.std.specs.Cmp.Lexicographic.{slice_cmp}
 use Rattle.serde_json.specs.Data.{Data, null, boolean, number, string, array, object, Members, no_members, member}
@@ -35,10 +35,10 @@ unfoldable mutual
       match_ordering (slice_cmp nat_cmp name other) (through_member name read whole ms place walk)
       (then_noted name whole place (through name read d (at_member place name) walk)) (through_member name read whole ms place walk)
 
-unfoldable pub key_type_member : Data → Place → Found ℕ
+unfoldable pub key_type_member : Data → Place → Found ⊤
 key_type_member = needed key_type_in (codes "type")
 
-unfoldable pub name_hash_member : Data → Place → Found ℕ
+unfoldable pub name_hash_member : Data → Place → Found ⊤
 name_hash_member = needed hash_in (codes "nameAlg")
 
 unfoldable pub attributes_member : List ℕ → Data → Place → Found ℕ

@@ -10,14 +10,14 @@ use std::alloc::Global;
 use tpol_base::{Blob, Digest32, Name, Text};
 use tpol_json::{Place, bytes_of, text_of};
 
-/// A text.
+/// A text; a value of another kind is `WrongKind`.
 pub fn text(alloc: Global, value: &Value, place: &Place) -> Result<Text, PolicyFault>
     ensures { Gives result (text_in (view value.now) place.now) }
 {
     Ok(text_of(alloc, value, place)?)
 }
 
-/// At most `limit` bytes; more are `BadHex`.
+/// At most `limit` bytes; more are `BadHex`. `WrongKind`, `BadHex` or `BadNumber` as `bytes_of`.
 pub fn bytes_up_to(
     alloc: Global,
     value: &Value,
@@ -34,7 +34,7 @@ pub fn bytes_up_to(
     }
 }
 
-/// No byte, or 32; others are `BadHex`.
+/// No byte, or 32; others are `BadHex`. `WrongKind`, `BadHex` or `BadNumber` as `bytes_of`.
 pub fn empty_or_32(alloc: Global, value: &Value, place: &Place) -> Result<Blob, PolicyFault>
     ensures { Gives result (empty_or_32 (view value.now) place.now) }
 {
@@ -46,7 +46,7 @@ pub fn empty_or_32(alloc: Global, value: &Value, place: &Place) -> Result<Blob, 
     }
 }
 
-/// 32 bytes; others are `BadHex`.
+/// 32 bytes; others are `BadHex`. `WrongKind`, `BadHex` or `BadNumber` as `bytes_of`.
 pub fn digest(alloc: Global, value: &Value, place: &Place) -> Result<Digest32, PolicyFault>
     ensures { Gives result (digest_in (view value.now) place.now) }
 {
@@ -58,7 +58,7 @@ pub fn digest(alloc: Global, value: &Value, place: &Place) -> Result<Digest32, P
     }
 }
 
-/// The bytes of a Name; others are `BadHex`.
+/// The bytes of a Name; others are `BadHex`. `WrongKind`, `BadHex` or `BadNumber` as `bytes_of`.
 pub fn name(alloc: Global, value: &Value, place: &Place) -> Result<Name, PolicyFault>
     ensures { Gives result (name_in (view value.now) place.now) }
 {
@@ -69,7 +69,8 @@ pub fn name(alloc: Global, value: &Value, place: &Place) -> Result<Name, PolicyF
     }
 }
 
-/// The bytes of a Name that is not empty; others are `BadHex`.
+/// The bytes of a Name that is not empty; others are `BadHex`. `WrongKind`, `BadHex` or `BadNumber` as
+/// `bytes_of`.
 pub fn full_name(alloc: Global, value: &Value, place: &Place) -> Result<Name, PolicyFault>
     ensures { Gives result (full_name_in (view value.now) place.now) }
 {

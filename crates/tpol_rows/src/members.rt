@@ -12,7 +12,7 @@ use std::alloc::Global;
 use tpol_base::NoMemory;
 use tpol_json::{Place, member};
 
-/// An object is wanted here.
+/// An object is wanted here; another value is `WrongKind`.
 pub fn check_object(alloc: Global, value: &Value, place: &Place) -> Result<(), PolicyFault>
     ensures { Gives result (object_in (view value.now) place.now) }
 {
@@ -22,7 +22,7 @@ pub fn check_object(alloc: Global, value: &Value, place: &Place) -> Result<(), P
     }
 }
 
-/// None of these members may stand in the object.
+/// None of these members may stand in the object: the first of them that does is `Twice`, at its own place.
 pub fn without(
     alloc: Global,
     value: &Value,
@@ -39,7 +39,8 @@ pub fn without(
     Ok(())
 }
 
-/// What was read, unless one of these later members stands beside it.
+/// What was read, or its fault. Where something was read, the first of these later members that stands
+/// beside it is `Twice`, at its own place.
 pub fn alone<T: Drop>(
     alloc: Global,
     found: Result<T, PolicyFault>,

@@ -1,7 +1,7 @@
 ghost use Rattle.std.specs.Prelude.{◌≡◌, ◌≤◌, codes, IfOk};
 ghost use Rattle.serde_json.specs.View.{view, items_view};
 ghost use Rattle.tpol_rows.specs.Faults.{Gives};
-ghost use Rattle.tpol_rows.specs.Numbers.{unsigned_in, signed_in, truth_in, operation_in, operation_number_in, code_in, hash_in, instead, key_type_in, key_algorithm_in, scheme_in, locality_word_in, locality_list, locality_in};
+ghost use Rattle.tpol_rows.specs.Numbers.{unsigned_in, signed_in, truth_in, operation_in, operation_number_in, code_in, hash_in, hash_number_in, instead, key_type_in, key_algorithm_in, scheme_in, locality_word_in, locality_list, locality_in};
 ghost use Rattle.tpol_rows.specs.Words.{word_in, operations, command_codes};
 
 use crate::fault::refuse;
@@ -13,7 +13,7 @@ use std::alloc::Global;
 use tpol_base::Compare;
 use tpol_json::{Place, number_of, truth_of};
 
-/// A whole number from `least` to `greatest`.
+/// A whole number from `least` to `greatest`. `WrongKind` or `BadNumber` as `number_of`.
 pub fn unsigned(
     alloc: Global,
     value: &Value,
@@ -28,7 +28,7 @@ pub fn unsigned(
     Ok(number as u32)
 }
 
-/// A whole number of 32 bits with a sign.
+/// A whole number of 32 bits with a sign. `WrongKind` or `BadNumber` as `number_of`.
 pub fn signed(alloc: Global, value: &Value, place: &Place) -> Result<i32, PolicyFault>
     ensures { Gives result (signed_in (view value.now) place.now) }
 {
@@ -42,14 +42,15 @@ pub fn signed(alloc: Global, value: &Value, place: &Place) -> Result<i32, Policy
     Ok(number as i32)
 }
 
-/// A truth value.
+/// A truth value. `WrongKind` or `BadNumber` as `truth_of`.
 pub fn truth(alloc: Global, value: &Value, place: &Place) -> Result<bool, PolicyFault>
     ensures { Gives result (truth_in (view value.now) place.now) }
 {
     Ok(truth_of(alloc, value, place)?)
 }
 
-/// A comparison, by its name or its number.
+/// A comparison, by its name or its number. `WrongKind` for a value that is neither text nor number,
+/// `BadNumber` for another text or number.
 pub fn operation(alloc: Global, value: &Value, place: &Place) -> Result<Compare, PolicyFault>
     ensures { Gives result (operation_in (view value.now) place.now) }
 {
@@ -103,7 +104,8 @@ fn operation_number(alloc: Global, value: &Value, place: &Place) -> Result<Compa
     Ok(comparisons[number as usize])
 }
 
-/// A command, by its name or its code.
+/// A command, by its name or its code. `WrongKind` for a value that is neither text nor number,
+/// `BadNumber` for a name that is not known and for a number of more than 32 bits.
 pub fn code(alloc: Global, value: &Value, place: &Place) -> Result<u32, PolicyFault>
     ensures { Gives result (code_in (view value.now) place.now) }
 {
@@ -119,14 +121,26 @@ fn code_word(value: &Value) -> Option<u32>
     word_in(value, "TPM2_CC_", command_codes())
 }
 
-/// SHA-256, by its name or its number; another algorithm is `OtherHash`.
-pub fn check_hash(alloc: Global, value: &Value, place: &Place) -> Result<u32, PolicyFault>
+/// SHA-256, by its name or its number; another text or number is `OtherHash`, a value of another kind
+/// `WrongKind`.
+pub fn check_hash(alloc: Global, value: &Value, place: &Place) -> Result<(), PolicyFault>
     ensures { Gives result (hash_in (view value.now) place.now) }
 {
-    match word_in(value, "TPM2_ALG_", &[("SHA256", 11)]) {
-        Some(algorithm) => Ok(algorithm),
-        None => instead(unsigned(alloc, value, 11, 11, place), PolicyKind::OtherHash),
+    match word_in(value, "TPM2_ALG_", &[("SHA256", ())]) {
+        Some(()) => Ok(()),
+        None => instead(
+            check_hash_number(alloc, value, place),
+            PolicyKind::OtherHash,
+        ),
     }
+}
+
+// The number of SHA-256 (TPM 2.0 Part 2, TPM_ALG_ID).
+fn check_hash_number(alloc: Global, value: &Value, place: &Place) -> Result<(), PolicyFault>
+    ensures { Gives result (hash_number_in (view value.now) place.now) }
+{
+    unsigned(alloc, value, 11, 11, place)?;
+    Ok(())
 }
 
 // What was read, with this kind in the place of `BadNumber`.
@@ -145,14 +159,13 @@ fn instead<T>(found: Result<T, PolicyFault>, kind: PolicyKind) -> Result<T, Poli
     }
 }
 
-/// The type of a keyed-hash object, by its name or its number. RSA and ECC are `AsymmetricKey`, others
-/// `UnknownType`.
-pub fn check_key_type(alloc: Global, value: &Value, place: &Place) -> Result<u32, PolicyFault>
+/// The type of a keyed-hash object, by its name or its number. RSA and ECC are `AsymmetricKey`, other texts
+/// and numbers `UnknownType`, and a value of another kind is `WrongKind`.
+pub fn check_key_type(alloc: Global, value: &Value, place: &Place) -> Result<(), PolicyFault>
     ensures { Gives result (key_type_in (view value.now) place.now) }
 {
-    let algorithm = key_algorithm(alloc, value, place)?;
-    match algorithm {
-        8 => Ok(algorithm),
+    match key_algorithm(alloc, value, place)? {
+        8 => Ok(()),
         1 | 35 => refuse(alloc, PolicyKind::AsymmetricKey, place),
         _ => refuse(alloc, PolicyKind::UnknownType, place),
     }
@@ -174,7 +187,8 @@ fn key_algorithm(alloc: Global, value: &Value, place: &Place) -> Result<u32, Pol
     }
 }
 
-/// Whether the scheme of a keyed hash is HMAC; else it is NULL.
+/// Whether the scheme of a keyed hash is HMAC; else it is NULL. `BadNumber` for another text, `WrongKind`
+/// for a value of another kind.
 pub fn scheme(alloc: Global, value: &Value, place: &Place) -> Result<bool, PolicyFault>
     ensures { Gives result (scheme_in (view value.now) place.now) }
 {
@@ -189,6 +203,8 @@ pub fn scheme(alloc: Global, value: &Value, place: &Place) -> Result<bool, Polic
 }
 
 /// A set of localities, bit n for locality n: a number from 1 to 31, or a list of at least one name.
+/// `WrongKind` for a value that is neither list, text nor number, and for an item that is no text;
+/// `BadNumber` for an empty list, at a name that is not known, and for another number or text.
 pub fn localities(alloc: Global, value: &Value, place: &Place) -> Result<u8, PolicyFault>
     ensures { Gives result (locality_in (view value.now) place.now) }
 {

@@ -74,7 +74,7 @@ fn pcr_member(
 
 // SHA-256 under this name.
 #[tactic(auto, unfolding(crate::specs::Pcrs::bank_member))]
-fn bank_member(alloc: Global, value: &Value, name: &str, place: &Place) -> Result<u32, PolicyFault>
+fn bank_member(alloc: Global, value: &Value, name: &str, place: &Place) -> Result<(), PolicyFault>
     ensures { Gives result (bank_member name.now (view value.now) place.now) }
 {
     match member(value, name) {
@@ -93,7 +93,7 @@ fn value_member(alloc: Global, value: &Value, place: &Place) -> Result<Digest32,
     }
 }
 
-// An item of `pcrs`: the PCR and its value are put among those before it.
+// An item of `pcrs`: a PCR that is none of those before it, with its value.
 #[tactic(auto, unfolding(crate::specs::Pcrs::pcr_value_in))]
 fn pcr_value(
     alloc: Global,
@@ -146,11 +146,11 @@ fn wish_of_values(
     }
 }
 
-fn bit(pcr: u8) -> u32
+fn bit(pcr: u32) -> u32
     requires { pcr ≤ 31 }
     ensures { result ≡ 2 ^ pcr }
 {
-    1 << u32::from(pcr)
+    1 << pcr
 }
 
 fn mask_of(alloc: Global, items: &[Value], place: &Place) -> Result<u32, PolicyFault>
@@ -167,7 +167,7 @@ fn pcr_bit(alloc: Global, value: &Value, place: &Place) -> Result<u32, PolicyFau
     ensures { Gives result (pcr_bit (view value.now) place.now) }
 {
     let pcr = unsigned(alloc, value, 0, 31, place)?;
-    Ok(bit(pcr as u8))
+    Ok(bit(pcr))
 }
 
 // A list of PCRs as a mask.
@@ -242,7 +242,9 @@ fn banks(
     }
 }
 
-/// One of `pcrs`, `currentPCRs` and `currentPCRandBanks`.
+/// One of `pcrs`, `currentPCRs` and `currentPCRandBanks`. `Missing` without one, `Twice` at a further one
+/// and at a PCR that has a value already; `WrongKind`, `BadNumber`, `BadHex`, `OtherHash` or `Missing` as
+/// the lists' items have it, and `BadNumber` for a list of banks that is not of one.
 pub fn pcr_wish(
     alloc: Global,
     value: &Value,
@@ -262,6 +264,7 @@ pub fn pcr_wish(
     )
 }
 
+// The names are parameters and no literals, since the proof is of any names and does not spell them out.
 #[tactic(auto, unfolding(crate::specs::Pcrs::pcrs_among))]
 fn pcrs_among(
     alloc: Global,

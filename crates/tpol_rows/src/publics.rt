@@ -17,7 +17,7 @@ use tpol_json::{Place, member};
 use tpol_tree::{NvPublicText, ObjectPublicText};
 
 #[tactic(auto, unfolding(crate::specs::Publics::key_type_member))]
-fn key_type(alloc: Global, value: &Value, place: &Place) -> Result<u32, PolicyFault>
+fn key_type(alloc: Global, value: &Value, place: &Place) -> Result<(), PolicyFault>
     ensures { Gives result (key_type_member (view value.now) place.now) }
 {
     match member(value, "type") {
@@ -27,7 +27,7 @@ fn key_type(alloc: Global, value: &Value, place: &Place) -> Result<u32, PolicyFa
 }
 
 #[tactic(auto, unfolding(crate::specs::Publics::name_hash_member))]
-fn name_hash(alloc: Global, value: &Value, place: &Place) -> Result<u32, PolicyFault>
+fn name_hash(alloc: Global, value: &Value, place: &Place) -> Result<(), PolicyFault>
     ensures { Gives result (name_hash_member (view value.now) place.now) }
 {
     match member(value, "nameAlg") {

@@ -17,7 +17,7 @@ use tpol_base::Name;
 use tpol_json::{Place, member};
 use tpol_tree::Element;
 
-/// No `keyPEM` may stand here: it holds an asymmetric key.
+/// No `keyPEM` may stand here: it holds an asymmetric key, and is `AsymmetricKey` at its own place.
 #[tactic(auto, unfolding(crate::specs::Rows::without_pem))]
 pub fn without_pem(alloc: Global, value: &Value, place: &Place) -> Result<(), PolicyFault>
     ensures { Gives result (without_pem (view value.now) place.now) }
@@ -260,7 +260,8 @@ fn nv_written_row(alloc: Global, value: &Value, place: &Place) -> Result<Element
     Ok(Element::NvWritten(written_member(alloc, value, place)?))
 }
 
-/// The element of this type, by its own members.
+/// The element of this type, by its own members; else the first fault in them, in the order in which its
+/// row reads them.
 pub fn leaf_row(
     alloc: Global,
     leaf: LeafType,

@@ -26,26 +26,42 @@ pub enum ElementType {
 /// The elements that hold no other elements.
 #[derive(Clone, Copy, Debug, PartialEq, Eq)]
 pub enum LeafType {
+    /// POLICYPCR.
     Pcr,
+    /// POLICYNV.
     Nv,
+    /// POLICYSECRET.
     Secret,
+    /// POLICYSIGNED.
     Signed,
+    /// POLICYAUTHORIZE.
     Authorize,
+    /// POLICYAUTHORIZENV.
     AuthorizeNv,
+    /// POLICYLOCALITY.
     Locality,
+    /// POLICYCOMMANDCODE.
     CommandCode,
+    /// POLICYCPHASH.
     CpHash,
+    /// POLICYNAMEHASH.
     NameHash,
+    /// POLICYCOUNTERTIMER.
     CounterTimer,
+    /// POLICYDUPLICATIONSELECT.
     DuplicationSelect,
+    /// POLICYNVWRITTEN.
     NvWritten,
+    /// POLICYAUTHVALUE.
     AuthValue,
+    /// POLICYPASSWORD.
     Password,
+    /// POLICYPHYSICALPRESENCE.
     PhysicalPresence,
 }
 
 /// The type that a text names, in any case, with or without `POLICY` in front; other texts are
-/// `UnknownType`.
+/// `UnknownType`, and a value of another kind is `WrongKind`.
 #[tactic(auto, unfolding(crate::specs::Types::type_in))]
 pub fn element_type(alloc: Global, value: &Value, place: &Place) -> Result<ElementType, PolicyFault>
     ensures { Gives result (type_in (view value.now) place.now) }

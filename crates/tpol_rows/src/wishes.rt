@@ -34,7 +34,8 @@ fn key_by_public(
     Ok(KeyWish::Public(object_public_area(alloc, value, place, walk)?))
 }
 
-/// One of `keyPath`, `keyPublic` and a third name for the public area.
+/// One of `keyPath`, `keyPublic` and a third name for the public area. `Missing` without one, `Twice` at a
+/// further one, `WrongKind` for a path that is no text, and else the first fault in the public area.
 pub fn key_wish(
     alloc: Global,
     value: &Value,
@@ -47,6 +48,7 @@ pub fn key_wish(
     key_among(alloc, value, "keyPath", "keyPublic", third, place, walk)
 }
 
+// The names are parameters and no literals, since the proof is of any names and does not spell them out.
 #[tactic(auto, unfolding(crate::specs::Wishes::key_among))]
 fn key_among(
     alloc: Global,
@@ -94,7 +96,8 @@ fn index_by_public(
     Ok(IndexWish::Public(index_public_area(alloc, value, place, walk)?))
 }
 
-/// One of `nvPath` and `nvPublic`.
+/// One of `nvPath` and `nvPublic`. `Missing` without one, `Twice` at a further one, `WrongKind` for a path
+/// that is no text, and else the first fault in the public area.
 pub fn index_wish(
     alloc: Global,
     value: &Value,
@@ -106,6 +109,7 @@ pub fn index_wish(
     index_among(alloc, value, "nvPath", "nvPublic", place, walk)
 }
 
+// The names are parameters and no literals, since the proof is of any names and does not spell them out.
 #[tactic(auto, unfolding(crate::specs::Wishes::index_among))]
 fn index_among(
     alloc: Global,
@@ -141,13 +145,16 @@ fn entity_by_name(alloc: Global, value: &Value, place: &Place) -> Result<EntityW
     Ok(EntityWish::Named(full_name(alloc, value, place)?))
 }
 
-/// One of `objectPath` and `objectName`.
+/// One of `objectPath` and `objectName`. `Missing` without one, `Twice` at a further one, `WrongKind` for a
+/// path that is no text; of a Name `WrongKind`, `BadHex` or `BadNumber` as `bytes_of`, and `BadHex` for an
+/// empty one and for bytes that are none.
 pub fn entity_wish(alloc: Global, value: &Value, place: &Place) -> Result<EntityWish, PolicyFault>
     ensures { Gives result (entity_in (view value.now) place.now) }
 {
     entity_among(alloc, value, "objectPath", "objectName", place)
 }
 
+// The names are parameters and no literals, since the proof is of any names and does not spell them out.
 #[tactic(auto, unfolding(crate::specs::Wishes::entity_among))]
 fn entity_among(
     alloc: Global,
@@ -193,7 +200,9 @@ fn parent_by_name(alloc: Global, value: &Value, place: &Place) -> Result<ParentW
     Ok(ParentWish::Named(name(alloc, value, place)?))
 }
 
-/// One of `newParentPath`, `newParentPublic` and `newParentName`.
+/// One of `newParentPath`, `newParentPublic` and `newParentName`. `Missing` without one, `Twice` at a further
+/// one, `WrongKind` for a path that is no text; of a Name `WrongKind`, `BadHex` or `BadNumber` as `bytes_of`,
+/// and `BadHex` for bytes that are none; else the first fault in the public area.
 pub fn parent_wish(
     alloc: Global,
     value: &Value,
@@ -213,6 +222,7 @@ pub fn parent_wish(
     )
 }
 
+// The names are parameters and no literals, since the proof is of any names and does not spell them out.
 #[tactic(auto, unfolding(crate::specs::Wishes::parent_among))]
 fn parent_among(
     alloc: Global,
@@ -304,13 +314,16 @@ fn names_by_paths(alloc: Global, value: &Value, place: &Place) -> Result<NamesWi
     Ok(NamesWish::Paths(paths_of(alloc, items, place)?))
 }
 
-/// One of `nameHash`, `objectNames` and `namePaths`.
+/// One of `nameHash`, `objectNames` and `namePaths`. `Missing` without one, `Twice` at a further one; of a
+/// list `WrongKind`, and `BadNumber` where it has not 1 to 3 items; `WrongKind` at a path that is no text; of
+/// bytes `WrongKind`, `BadHex` or `BadNumber` as `bytes_of`, and `BadHex` where they are no digest or no Name.
 pub fn names_wish(alloc: Global, value: &Value, place: &Place) -> Result<NamesWish, PolicyFault>
     ensures { Gives result (names_in (view value.now) place.now) }
 {
     names_among(alloc, value, "nameHash", "objectNames", "namePaths", place)
 }
 
+// The names are parameters and no literals, since the proof is of any names and does not spell them out.
 #[tactic(auto, unfolding(crate::specs::Wishes::names_among))]
 fn names_among(
     alloc: Global,
