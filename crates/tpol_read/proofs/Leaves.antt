@@ -1,5 +1,5 @@
--- An element that holds no other elements has no box and no branches.
-use Rattle.std.proofs.Common.{◌≡◌, codes, Ok, Err, refl, subst}
+-- An element that holds no other elements has no box and no branches, and its PCR values are rising.
+use Rattle.std.proofs.Common.{◌≡◌, codes, Ok, refl, subst}
 use Rattle.serde_json.specs.Data.{Data}
 use Rattle.tpol_json.specs.declared.place.Place.{Place}
 use Rattle.tpol_rows.specs.declared.types.LeafType.{LeafType}
@@ -12,55 +12,52 @@ use Rattle.tpol_rows.specs.Members.{needed}
 use Rattle.tpol_rows.specs.Numbers.{code_in, locality_in}
 use Rattle.tpol_rows.specs.Pcrs.{pcrs_in}
 use Rattle.tpol_rows.specs.Rows.{leaf_row, pcr_row, nv_row, secret_row, signed_row, authorize_row, authorize_nv_row, locality_row, command_code_row, cp_hash_row, name_hash_row, counter_timer_row, duplication_row, nv_written_row, without_pem, include_member, included_object, written_member}
-use Rattle.tpol_rows.specs.Walks.{still}
 use Rattle.tpol_rows.specs.Wishes.{key_in, index_in, entity_in, parent_in, names_in}
-use Rattle.tpol_read.proofs.AllFound.{AllFound, all_after}
+use Rattle.tpol_read.proofs.AllFound.{AllFound, all_after, all_then, all_still}
+use Rattle.tpol_read.proofs.PcrOrder.{WishRises, pcrs-rise}
+use Rattle.tpol_read.specs.RisingPcrs.{ElementHasRisingPcrs}
 use Rattle.tpol_tree.specs.BranchCounts.{ElementHasBranches}
 use Rattle.tpol_tree.specs.Erased.{erased_element}
 use Rattle.tpol_tree.specs.declared.policy.Element.{Element}
 
 abbrev pub IsLeaf : Element → Type 0
-IsLeaf element = (erased_element element ≡ element) × ElementHasBranches element
+IsLeaf element = (erased_element element ≡ element) × ElementHasBranches element × ElementHasRisingPcrs element
 
 -- the same of an element with a walk
 abbrev pub LeavesLeaf : Element × Walk → Type 0
 LeavesLeaf found = IsLeaf found.0
 
-all_still : (found : Found Element) (walk : Walk) → AllFound IsLeaf found → AllFound LeavesLeaf (still found walk)
-all_still (Ok element) walk all = all
-all_still (Err fault) walk all = tt {0}
-
 pub leaf_row-leaf : (leaf : LeafType) (d : Data) (place : Place) (walk : Walk) → AllFound LeavesLeaf (leaf_row leaf d place walk)
 unfolding pcr_row nv_row secret_row signed_row authorize_row authorize_nv_row locality_row command_code_row cp_hash_row name_hash_row counter_timer_row duplication_row nv_written_row
 leaf_row-leaf types.Pcr d place walk =
-    all_after LeavesLeaf (pcrs_in d place walk) _ (λ _. (refl, tt {0}))
+    all_then WishRises LeavesLeaf (pcrs_in d place walk) _ (pcrs-rise d place walk) (λ found rises. (refl, tt {0}, rises))
 leaf_row-leaf types.Nv d place walk =
-    all_after LeavesLeaf (index_in d place walk) _ (λ _. all_after LeavesLeaf (operand_in d place) _ (λ _. all_after LeavesLeaf (offset_in d place) _ (λ _. all_after LeavesLeaf (operation_member_in d place) _ (λ _. (refl, tt {0})))))
+    all_after LeavesLeaf (index_in d place walk) _ (λ _. all_after LeavesLeaf (operand_in d place) _ (λ _. all_after LeavesLeaf (offset_in d place) _ (λ _. all_after LeavesLeaf (operation_member_in d place) _ (λ _. (refl, tt {0}, tt {0})))))
 leaf_row-leaf types.Secret d place walk =
-    all_still (secret_row d place) walk (all_after IsLeaf (entity_in d place) _ (λ _. all_after IsLeaf (policy_ref_in d place) _ (λ _. all_after IsLeaf (cp_hash_in d place) _ (λ _. all_after IsLeaf (expiration_in d place) _ (λ _. (refl, tt {0}))))))
+    all_still IsLeaf (secret_row d place) walk (all_after IsLeaf (entity_in d place) _ (λ _. all_after IsLeaf (policy_ref_in d place) _ (λ _. all_after IsLeaf (cp_hash_in d place) _ (λ _. all_after IsLeaf (expiration_in d place) _ (λ _. (refl, tt {0}, tt {0}))))))
 leaf_row-leaf types.Signed d place walk =
-    all_after LeavesLeaf (without_pem d place) _ (λ _. all_after LeavesLeaf (key_in (codes "publicKey") d place walk) _ (λ _. all_after LeavesLeaf (policy_ref_in d place) _ (λ _. all_after LeavesLeaf (cp_hash_in d place) _ (λ _. all_after LeavesLeaf (expiration_in d place) _ (λ _. (refl, tt {0}))))))
+    all_after LeavesLeaf (without_pem d place) _ (λ _. all_after LeavesLeaf (key_in (codes "publicKey") d place walk) _ (λ _. all_after LeavesLeaf (policy_ref_in d place) _ (λ _. all_after LeavesLeaf (cp_hash_in d place) _ (λ _. all_after LeavesLeaf (expiration_in d place) _ (λ _. (refl, tt {0}, tt {0}))))))
 leaf_row-leaf types.Authorize d place walk =
-    all_after LeavesLeaf (without_pem d place) _ (λ _. all_after LeavesLeaf (key_in (codes "publicKey") d place walk) _ (λ _. all_after LeavesLeaf (policy_ref_in d place) _ (λ _. (refl, tt {0}))))
+    all_after LeavesLeaf (without_pem d place) _ (λ _. all_after LeavesLeaf (key_in (codes "publicKey") d place walk) _ (λ _. all_after LeavesLeaf (policy_ref_in d place) _ (λ _. (refl, tt {0}, tt {0}))))
 leaf_row-leaf types.AuthorizeNv d place walk =
-    all_after LeavesLeaf (index_in d place walk) _ (λ _. (refl, tt {0}))
+    all_after LeavesLeaf (index_in d place walk) _ (λ _. (refl, tt {0}, tt {0}))
 leaf_row-leaf types.Locality d place walk =
-    all_still (locality_row d place) walk (all_after IsLeaf (needed locality_in (codes "locality") d place) _ (λ _. (refl, tt {0})))
+    all_still IsLeaf (locality_row d place) walk (all_after IsLeaf (needed locality_in (codes "locality") d place) _ (λ _. (refl, tt {0}, tt {0})))
 leaf_row-leaf types.CommandCode d place walk =
-    all_still (command_code_row d place) walk (all_after IsLeaf (needed code_in (codes "code") d place) _ (λ _. (refl, tt {0})))
+    all_still IsLeaf (command_code_row d place) walk (all_after IsLeaf (needed code_in (codes "code") d place) _ (λ _. (refl, tt {0}, tt {0})))
 leaf_row-leaf types.CpHash d place walk =
-    all_still (cp_hash_row d place) walk (all_after IsLeaf (needed digest_in (codes "cpHash") d place) _ (λ _. (refl, tt {0})))
+    all_still IsLeaf (cp_hash_row d place) walk (all_after IsLeaf (needed digest_in (codes "cpHash") d place) _ (λ _. (refl, tt {0}, tt {0})))
 leaf_row-leaf types.NameHash d place walk =
-    all_still (name_hash_row d place) walk (all_after IsLeaf (names_in d place) _ (λ _. (refl, tt {0})))
+    all_still IsLeaf (name_hash_row d place) walk (all_after IsLeaf (names_in d place) _ (λ _. (refl, tt {0}, tt {0})))
 leaf_row-leaf types.CounterTimer d place walk =
-    all_still (counter_timer_row d place) walk (all_after IsLeaf (operand_in d place) _ (λ _. all_after IsLeaf (offset_in d place) _ (λ _. all_after IsLeaf (operation_member_in d place) _ (λ _. (refl, tt {0})))))
+    all_still IsLeaf (counter_timer_row d place) walk (all_after IsLeaf (operand_in d place) _ (λ _. all_after IsLeaf (offset_in d place) _ (λ _. all_after IsLeaf (operation_member_in d place) _ (λ _. (refl, tt {0}, tt {0})))))
 leaf_row-leaf types.DuplicationSelect d place walk =
-    all_after LeavesLeaf (parent_in d place walk) _ (λ x0. all_after LeavesLeaf (include_member d place) _ (λ x1. all_after LeavesLeaf (included_object x1 d place) _ (λ _. (refl, tt {0}))))
+    all_after LeavesLeaf (parent_in d place walk) _ (λ x0. all_after LeavesLeaf (include_member d place) _ (λ x1. all_after LeavesLeaf (included_object x1 d place) _ (λ _. (refl, tt {0}, tt {0}))))
 leaf_row-leaf types.NvWritten d place walk =
-    all_still (nv_written_row d place) walk (all_after IsLeaf (written_member d place) _ (λ _. (refl, tt {0})))
-leaf_row-leaf types.AuthValue d place walk = (refl, tt {0})
-leaf_row-leaf types.Password d place walk = (refl, tt {0})
-leaf_row-leaf types.PhysicalPresence d place walk = (refl, tt {0})
+    all_still IsLeaf (nv_written_row d place) walk (all_after IsLeaf (written_member d place) _ (λ _. (refl, tt {0}, tt {0})))
+leaf_row-leaf types.AuthValue d place walk = (refl, tt {0}, tt {0})
+leaf_row-leaf types.Password d place walk = (refl, tt {0}, tt {0})
+leaf_row-leaf types.PhysicalPresence d place walk = (refl, tt {0}, tt {0})
 
 -- the element that a row gives is the same wherever it lies
 pub leaf_row-erased : (leaf : LeafType) (d : Data) (place : Place) (walk : Walk) (element : Element) (after : Walk) → leaf_row leaf d place walk ≡ Ok (element, after) → erased_element element ≡ element

@@ -1,4 +1,4 @@
 pub mod Elements
 pub mod Approvals
 pub mod Documents
-mod Worked
+pub mod RisingPcrs

@@ -30,7 +30,8 @@ pub enum ApprovalType {
     Pem,
 }
 
-/// `policyAuthorizations`, without it none.
+/// `policyAuthorizations`, without it none. `WrongKind` for what is no list, `TooMany` at the ninth item, and
+/// else the first fault of its items.
 #[tactic(auto, unfolding(crate::specs::Approvals::approvals_member))]
 pub fn approvals_of_document(
     alloc: Global,

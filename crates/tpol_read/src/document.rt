@@ -2,6 +2,7 @@ ghost use Rattle.std.specs.Prelude.{IfOk, IfErr};
 ghost use Rattle.serde_json.specs.View.{view};
 ghost use Rattle.tpol_read.specs.Documents.{ReadsAsPolicy, IsRefused, document_in};
 ghost use Rattle.tpol_read.specs.Elements.{LeavesAs};
+ghost use Rattle.tpol_read.specs.RisingPcrs.{HasRisingPcrs};
 ghost use Rattle.tpol_tree.specs.BranchCounts.{EachOrHasBranches};
 ghost use Rattle.tpol_tree.specs.Erased.{erased_policy};
 
@@ -25,9 +26,13 @@ pub const MAX_ELEMENTS: u32 = 1024;
 /// with its kind and place: `description`, `policy`, `policyAuthorizations`; in an element its `type`, and then
 /// the members of its row. An element past the 1,024th and an authorization past the eighth are `TooMany`, an
 /// OR inside sixteen others is `TooDeep`, each before anything of it but an OR's type is read.
+///
+/// Each OR of a policy that is read has 2 to 8 branches, and each list of PCR values stands in strictly rising
+/// order of the PCRs, whatever the order in which the document has them.
 pub fn read_policy(alloc: Global, bytes: &[u8]) -> Result<(Policy, Notes), PolicyFault>
     ensures stands { IfOk result (λ found. ReadsAsPolicy bytes.now (erased_policy found.0) found.1) }
     ensures branches { IfOk result (λ found. EachOrHasBranches found.0.elements) }
+    ensures rising { IfOk result (λ found. HasRisingPcrs found.0.elements) }
     ensures refused { IfErr result (IsRefused bytes.now) }
 {
     let value = match parse(alloc, bytes) {

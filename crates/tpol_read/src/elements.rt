@@ -20,7 +20,13 @@ use tpol_tree::{Branch, Branches, Element, Elements};
 /// How many ORs may stand inside one another.
 pub const MAX_LEVELS: u32 = 16;
 
-/// The member `policy` of a document or a branch.
+/// How few and how many branches an OR may have.
+const MIN_BRANCHES: usize = 2;
+
+const MAX_BRANCHES: usize = 8;
+
+/// The member `policy` of a document or a branch. `Missing` without it, `WrongKind` for what is no list,
+/// `EmptyPolicy` for an empty one, and else the first fault of its elements.
 #[cycle(reading)]
 #[tactic(auto, unfolding(crate::specs::Elements::policy_member))]
 pub fn policy(
@@ -201,7 +207,7 @@ fn branch_list(
 fn is_branch_count(items: &[Value]) -> bool
     ensures { result ≡ is_branch_count (items_count (items_view items.now)) }
 {
-    items.len() >= 2 && items.len() <= 8
+    items.len() >= MIN_BRANCHES && items.len() <= MAX_BRANCHES
 }
 
 // The branches of a list from the item of this index on.

@@ -11,7 +11,8 @@ use tpol_rows::{
     ElementType, PolicyFault, PolicyKind, check_object, element_type, refuse_member, text,
 };
 
-/// The type of an element, which is an object.
+/// The type of an element, which is an object. `WrongKind` for what is no object and for a `type` that is no
+/// text, `Missing` without one, `UnknownType` for a text that names no type.
 #[tactic(auto, unfolding(crate::specs::Elements::element_type_in))]
 pub fn type_of_element(
     alloc: Global,
@@ -27,7 +28,7 @@ pub fn type_of_element(
     }
 }
 
-/// `description`, without it empty.
+/// `description`, without it empty. `WrongKind` for what is no text.
 #[tactic(auto, unfolding(crate::specs::Elements::description_member))]
 pub fn description(alloc: Global, value: &Value, place: &Place) -> Result<Text, PolicyFault>
     ensures { Gives result (description_member (view value.now) place.now) }
@@ -38,7 +39,7 @@ pub fn description(alloc: Global, value: &Value, place: &Place) -> Result<Text, 
     }
 }
 
-/// `name`, without it empty.
+/// `name`, without it empty. `WrongKind` for what is no text.
 #[tactic(auto, unfolding(crate::specs::Elements::name_member))]
 pub fn name(alloc: Global, value: &Value, place: &Place) -> Result<Text, PolicyFault>
     ensures { Gives result (name_member (view value.now) place.now) }

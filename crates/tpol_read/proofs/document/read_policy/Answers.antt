@@ -14,4 +14,8 @@ returns-clause-refused c =
 
 pub returns-in-Ok-document-clause-branches : goal.returns-in-Ok-document-clause-branches
 returns-in-Ok-document-clause-branches c =
-    elements-so (view c.in-Ok.value) c.root.result _ c.document.new.walk c.in-Ok-document.policy.elements _ _ c.in-Ok-document.ensures
+    (elements-so (view c.in-Ok.value) c.root.result _ c.document.new.walk c.in-Ok-document.policy.elements _ _ c.in-Ok-document.ensures).0
+
+pub returns-in-Ok-document-clause-rising : goal.returns-in-Ok-document-clause-rising
+returns-in-Ok-document-clause-rising c =
+    (elements-so (view c.in-Ok.value) c.root.result _ c.document.new.walk c.in-Ok-document.policy.elements _ _ c.in-Ok-document.ensures).1
