@@ -12,11 +12,12 @@ use Rattle.serde_json.specs.View.{items_of}
 use Rattle.tpol_base.specs.declared.digest.Digest32.{Digest32}
 use Rattle.tpol_write.proofs.BytesBack.{bound, unsigned-fits, unsigned-back, FitsDigest, digest-fits, digest-back}
 use Rattle.tpol_write.proofs.FieldsBack.{needed-fits}
-use Rattle.tpol_write.proofs.WishesBack.{Leaving, all_still, all_ways}
+use Rattle.tpol_write.proofs.WishesBack.{Leaving, all_still}
 use Rattle.tpol_json.specs.Words.{same_word}
 use Rattle.tpol_json.specs.Places.{at_member, at_item}
 use Rattle.tpol_json.specs.declared.place.Place.{Place}
-use Rattle.tpol_read.proofs.AllFound.{AllFound, all_after, all_then, all_map}
+use Rattle.tpol_read.proofs.AllFound.{AllFound, all_after, all_then, all_map, all_ways}
+use Rattle.tpol_read.proofs.PcrOrder.{put_value, with_value-is, first_no, second_no}
 use Rattle.tpol_rows.specs.Bytes.{digest_in}
 use Rattle.tpol_rows.specs.Faults.{Found, bad}
 use Rattle.tpol_rows.specs.Members.{object_in, noted}
@@ -95,44 +96,6 @@ abbrev Rising : ℕ → PcrList → Type 0
 Rising low [] = Unit {0}
 Rising low (value ∷ values) = (low ≤ value.0) × (value.0 ≤ 31) × FitsDigest value.1 × Rising (suc value.0) values
 
--- the first of a greater PCR is there, or all values are before it
-placed : (values : PcrList) (test : (ℕ × Digest32) → Bool) → unwrap_or (position test values) (length values) ≡ position_or_len test values
-placed values test = either (nat_lt (position_or_len test values) (length values)) refl
-  where
-    either : (within : Bool) → nat_lt (position_or_len test values) (length values) ≡ within → unwrap_or (cond within (Some (position_or_len test values)) None) (length values) ≡ position_or_len test values
-    either true is = refl
-    either false is =
-        let low : length values ≤ position_or_len test values = ltb-false (position_or_len test values) (length values) is in
-        let high : position_or_len test values ≤ length values = prefix_len-le-length (λ x. not (test x)) values in
-        omega arith
-
--- one more value, put in step by step
-abbrev put_value : PcrList → ℕ → Digest32 → PcrList
-put_value [] pcr digest = (pcr, digest) ∷ []
-put_value (value ∷ values) pcr digest = cond (nat_lt pcr value.0) ((pcr, digest) ∷ value ∷ values) (value ∷ put_value values pcr digest)
-
-put_step : (test : Bool) (value : ℕ × Digest32) (values : PcrList) (index : ℕ) (new : ℕ × Digest32) (rest : PcrList) → insert values index new ≡ rest → insert (value ∷ values) (cond (not test) (1 + index) 0) new ≡ cond test (new ∷ value ∷ values) (value ∷ rest)
-put_step true value values index new rest e = refl
-put_step false value values index new rest e = ap (λ i. insert (value ∷ values) i new) (one-add index) ∙ ap (λ r. value ∷ r) e
-
-put_value-is : (values : PcrList) (pcr : ℕ) (digest : Digest32) → insert values (position_or_len (λ value. nat_lt pcr value.0) values) (pcr, digest) ≡ put_value values pcr digest
-put_value-is [] pcr digest = refl
-put_value-is (value ∷ values) pcr digest =
-    put_step (nat_lt pcr value.0) value values (position_or_len (λ v. nat_lt pcr v.0) values) (pcr, digest) (put_value values pcr digest) (put_value-is values pcr digest)
-
-with_value-is : (values : PcrList) (pcr : ℕ) (digest : Digest32) → with_value values pcr digest ≡ put_value values pcr digest
-unfolding with_value
-with_value-is values pcr digest =
-    ap (λ i. insert values i (pcr, digest)) (placed values (λ value. nat_lt pcr value.0)) ∙ put_value-is values pcr digest
-
-first_no : (x y : Bool) → (x || y) ≡ false → x ≡ false
-first_no true y neither = neither
-first_no false y neither = refl
-
-second_no : (x y : Bool) → (x || y) ≡ false → y ≡ false
-second_no true y neither = cc neither
-second_no false y neither = neither
-
 rising_step : (test : Bool) (low pcr : ℕ) (digest : Digest32) (value : ℕ × Digest32) (values rest : PcrList) → nat_lt pcr value.0 ≡ test → Rising low (value ∷ values) → low ≤ pcr → pcr ≤ 31 → FitsDigest digest → (value.0 == pcr) ≡ false → (suc value.0 ≤ pcr → Rising (suc value.0) rest) → Rising low (cond test ((pcr, digest) ∷ value ∷ values) (value ∷ rest))
 rising_step true low pcr digest value values rest is rising from most fits other later =
     (from, most, fits, (ltb-true pcr value.0 is, rising.1, rising.2, rising.3))
@@ -201,7 +164,7 @@ pcr_member-back values value place new =
     bound (unsigned_in 0 31 (natural value.0) at) value.0 (λ pcr. if has_value values pcr then bad Twice at else Ok pcr) (Ok value.0) (unsigned-back 0 31 value.0 at (omega arith) new.0 small)
     (ap (λ has. if has then bad Twice at else Ok value.0) new.1)
 
-bank_member-back : (value : ℕ × Digest32) (place : Place) → bank_member (codes "hashAlg") (pcr_value value) place ≡ Ok 11
+bank_member-back : (value : ℕ × Digest32) (place : Place) → bank_member (codes "hashAlg") (pcr_value value) place ≡ Ok tt
 unfolding bank_member find_word
 bank_member-back value place = refl
 

@@ -10,7 +10,7 @@ use Rattle.tpol_write.proofs.BytesBack.{bound, FitsDigest, digest-fits, digest-b
 use Rattle.tpol_write.proofs.PublicsBack.{name_back, object_public_back, index_public_back}
 use Rattle.tpol_json.specs.Places.{at_member, at_item}
 use Rattle.tpol_json.specs.declared.place.Place.{Place}
-use Rattle.tpol_read.proofs.AllFound.{AllFound, all_after, all_then, all_map, all_if}
+use Rattle.tpol_read.proofs.AllFound.{AllFound, all_after, all_then, all_map, all_if, all_ways}
 use Rattle.tpol_rows.specs.Bytes.{text_in, digest_in, name_in, full_name_in, is_empty_name}
 use Rattle.tpol_rows.specs.Faults.{Found, bad, ◌>>=◌}
 use Rattle.tpol_rows.specs.Members.{Way, names_of, read_way, first_way, alone, without}
@@ -47,25 +47,6 @@ all_still P (Err fault) walk all = tt {0}
 pub all_any : {A : Type 0} (P : A → Type 0) (found : Found A) → ((x : A) → P x) → AllFound P found
 all_any P (Ok x) all = all x
 all_any P (Err fault) all = tt {0}
-
--- each way to read a member finds only what is so
-abbrev pub AllWays : {A : Type 0} → (A → Type 0) → List (Way A) → Type 0
-AllWays P [] = Unit {0}
-AllWays P (way ∷ ways) = ((d : Data) (place : Place) → AllFound P (way.1 d place)) × AllWays P ways
-
-all_alone : {A : Type 0} (P : A → Type 0) (found : Found A) (others : Found ⊤) → AllFound P found → AllFound P (alone found others)
-all_alone P (Ok x) (Ok y) all = all
-all_alone P (Ok x) (Err fault) all = tt {0}
-all_alone P (Err fault) others all = tt {0}
-
-all_way : {A : Type 0} (P : A → Type 0) (member : Option Data) (place : Place) (read : Data → Place → Found A) (others : Found ⊤) (later : Found A) → ((d : Data) (at : Place) → AllFound P (read d at)) → AllFound P later → AllFound P (read_way member place read others later)
-all_way P None place read others later all rest = rest
-all_way P (Some d) place read others later all rest = all_alone P (read d place) others (all d place)
-
-pub all_ways : {A : Type 0} (P : A → Type 0) (ways : List (Way A)) (missing : Place) (d : Data) (place : Place) → AllWays P ways → AllFound P (first_way ways missing d place)
-all_ways P [] missing d place all = tt {0}
-all_ways P (way ∷ ways) missing d place all =
-    all_way P (get way.0 d) (at_member place way.0) way.1 (without (names_of ways) d place) (first_way ways missing d place) all.0 (all_ways P ways missing d place all.1)
 
 -- ---- public areas and Names
 

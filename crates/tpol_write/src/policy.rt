@@ -19,7 +19,8 @@ use tpol_tree::{ApprovalWish, IndexWish, KeyWish, Policy};
 
 /// The canonical text of a policy: the text without spaces of its JSON value, with members in ascending byte
 /// order of their names. Every member is written but an absent `cpHashA` and an empty list of authorizations;
-/// types are in upper case with `POLICY`, bytes are lower-case hexadecimal text, and PCRs stand in rising order.
+/// types are in upper case with `POLICY` and bytes are lower-case hexadecimal text. PCRs with values stand in the
+/// policy's own order, which rises in a policy that was read, and current PCRs in rising order.
 pub fn write_policy(alloc: Global, policy: &Policy) -> Result<Blob, NoMemory>
     ensures text { IfOk result (λ text. text ≡ canonical_text policy.now) }
     // With sixteen ORs inside one another at most it is a document of just that value.

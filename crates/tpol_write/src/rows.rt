@@ -33,6 +33,7 @@ pub fn bare(alloc: Global, name: &str) -> Result<Value, NoMemory>
     Ok(Value::Object(typed(alloc, name)?))
 }
 
+/// POLICYPCR, with the PCRs and their values or the current PCRs.
 pub fn pcr(alloc: Global, pcrs: &PcrWish) -> Result<Value, NoMemory>
     ensures { IfOk result (λ value. view value ≡ element_value (Pcr pcrs.now)) }
 {
@@ -41,6 +42,7 @@ pub fn pcr(alloc: Global, pcrs: &PcrWish) -> Result<Value, NoMemory>
     Ok(Value::Object(object))
 }
 
+/// POLICYNV, with the index and what its content is compared with.
 pub fn nv(
     alloc: Global,
     index: &IndexWish,
@@ -57,6 +59,7 @@ pub fn nv(
     Ok(Value::Object(object))
 }
 
+/// POLICYSECRET, with the entity and the authorization's members.
 pub fn secret(
     alloc: Global,
     entity: &EntityWish,
@@ -73,6 +76,7 @@ pub fn secret(
     Ok(Value::Object(object))
 }
 
+/// POLICYSIGNED, with the key and the authorization's members.
 pub fn signed(
     alloc: Global,
     key: &KeyWish,
@@ -89,6 +93,7 @@ pub fn signed(
     Ok(Value::Object(object))
 }
 
+/// POLICYAUTHORIZE, with the key and `policyRef`.
 pub fn authorize(alloc: Global, key: &KeyWish, policy_ref: &Blob) -> Result<Value, NoMemory>
     ensures { IfOk result (λ value. view value ≡ element_value (Authorize key.now policy_ref.now)) }
 {
@@ -98,6 +103,7 @@ pub fn authorize(alloc: Global, key: &KeyWish, policy_ref: &Blob) -> Result<Valu
     Ok(Value::Object(object))
 }
 
+/// POLICYAUTHORIZENV, with the index.
 pub fn authorize_nv(alloc: Global, index: &IndexWish) -> Result<Value, NoMemory>
     ensures { IfOk result (λ value. view value ≡ element_value (AuthorizeNv index.now)) }
 {
@@ -106,6 +112,7 @@ pub fn authorize_nv(alloc: Global, index: &IndexWish) -> Result<Value, NoMemory>
     Ok(Value::Object(object))
 }
 
+/// POLICYLOCALITY, with the localities as a number.
 pub fn locality(alloc: Global, localities: u8) -> Result<Value, NoMemory>
     ensures { IfOk result (λ value. view value ≡ element_value (Locality localities)) }
 {
@@ -114,6 +121,7 @@ pub fn locality(alloc: Global, localities: u8) -> Result<Value, NoMemory>
     Ok(Value::Object(object))
 }
 
+/// POLICYCOMMANDCODE, with the name of the command or its code.
 pub fn command_code(alloc: Global, code: u32) -> Result<Value, NoMemory>
     ensures { IfOk result (λ value. view value ≡ element_value (CommandCode code)) }
 {
@@ -123,6 +131,7 @@ pub fn command_code(alloc: Global, code: u32) -> Result<Value, NoMemory>
     Ok(Value::Object(object))
 }
 
+/// POLICYCPHASH, with the digest.
 pub fn cp_hash(alloc: Global, digest: &Digest32) -> Result<Value, NoMemory>
     ensures { IfOk result (λ value. view value ≡ element_value (CpHash digest.now)) }
 {
@@ -131,6 +140,7 @@ pub fn cp_hash(alloc: Global, digest: &Digest32) -> Result<Value, NoMemory>
     Ok(Value::Object(object))
 }
 
+/// POLICYNAMEHASH, with the digest, the Names or the paths.
 pub fn name_hash(alloc: Global, names: &NamesWish) -> Result<Value, NoMemory>
     ensures { IfOk result (λ value. view value ≡ element_value (NameHash names.now)) }
 {
@@ -139,6 +149,7 @@ pub fn name_hash(alloc: Global, names: &NamesWish) -> Result<Value, NoMemory>
     Ok(Value::Object(object))
 }
 
+/// POLICYCOUNTERTIMER, with what the time is compared with.
 pub fn counter_timer(
     alloc: Global,
     operand: &Blob,
@@ -153,6 +164,7 @@ pub fn counter_timer(
     Ok(Value::Object(object))
 }
 
+/// POLICYDUPLICATIONSELECT, with the new parent, `includeObject` and the object's Name.
 pub fn duplication(
     alloc: Global,
     name: &Name,
@@ -169,6 +181,7 @@ pub fn duplication(
     Ok(Value::Object(object))
 }
 
+/// POLICYNVWRITTEN, with `writtenSet`.
 pub fn nv_written(alloc: Global, written: bool) -> Result<Value, NoMemory>
     ensures { IfOk result (λ value. view value ≡ element_value (NvWritten written)) }
 {
