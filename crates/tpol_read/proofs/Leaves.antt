@@ -6,7 +6,6 @@ use Rattle.tpol_rows.specs.declared.types.LeafType.{LeafType}
 use Rattle.tpol_rows.specs.declared.types.LeafType.TheVariants as types
 use Rattle.tpol_rows.specs.declared.walk.Walk.{Walk}
 use Rattle.tpol_rows.specs.Bytes.{digest_in}
-use Rattle.tpol_rows.specs.Faults.{Found}
 use Rattle.tpol_rows.specs.Fields.{policy_ref_in, cp_hash_in, expiration_in, operand_in, offset_in, operation_member_in}
 use Rattle.tpol_rows.specs.Members.{needed}
 use Rattle.tpol_rows.specs.Numbers.{code_in, locality_in}
