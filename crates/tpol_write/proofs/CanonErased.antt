@@ -1,12 +1,12 @@
 -- Canonical values and levels do not depend on where a policy's boxes lie.
-use Rattle.std.proofs.Common.{◌≡◌, max, ◌+◌, List, [], ◌∷◌, codes, refl, ap, ap₂}
+use Rattle.std.proofs.Common.{◌≡◌, max, ◌+◌, [], ◌∷◌, codes, refl, ap, ap₂}
 use Rattle.serde_json.specs.Data.{string}
 use Rattle.serde_json.specs.Written.{compact_text}
 use Rattle.tpol_tree.specs.Erased.{erased_element, erased_elements, erased_branches, erased_policy}
 use Rattle.tpol_tree.specs.declared.policy.Branches.{Branches}
 use Rattle.tpol_tree.specs.declared.policy.Branches.TheVariants.{End as no_branches, More' as one_branch}
 use Rattle.tpol_tree.specs.declared.policy.Element.{Element}
-use Rattle.tpol_tree.specs.declared.policy.Element.TheVariants.{Or, Pcr, Nv, Secret, Signed, Authorize, AuthorizeNv, Locality, CommandCode, CpHash, NameHash, CounterTimer, Duplication, NvWritten, AuthValue, Password, PhysicalPresence}
+use Rattle.tpol_tree.specs.declared.policy.Element.TheVariants.{Or}
 use Rattle.tpol_tree.specs.declared.policy.Elements.{Elements}
 use Rattle.tpol_tree.specs.declared.policy.Elements.TheVariants.{End as no_elements, More' as one_element}
 use Rattle.tpol_tree.specs.declared.policy.Policy.{Policy}

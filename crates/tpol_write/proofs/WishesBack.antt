@@ -1,5 +1,4 @@
 -- Keys, indices, entities, parents and Names read back from the one member that canonical text writes of them.
-use Rattle.std.specs.Prelude.{⊤}
 use Rattle.std.proofs.Common.{◌≡◌, ℕ, suc, ◌+◌, ◌&&◌, nat_le, Bool, true, false, List, [], ◌∷◌, ◌++◌, length, map, codes, Option, Some, None, Ok, Err, refl, sym, ap, ◌∙◌, arith, length-append, append_assoc, append-nil, if◌then◌else◌}
 use Rattle.std.proofs.lemmas.Bool.{cond-true}
 use Rattle.serde_json.specs.Data.{Data, string, Items, no_items, item}
@@ -13,7 +12,6 @@ use Rattle.tpol_json.specs.declared.place.Place.{Place}
 use Rattle.tpol_read.proofs.AllFound.{AllFound, all_after, all_then, all_map, all_if, all_ways}
 use Rattle.tpol_rows.specs.Bytes.{text_in, digest_in, name_in, full_name_in, is_empty_name}
 use Rattle.tpol_rows.specs.Faults.{Found, bad, ◌>>=◌}
-use Rattle.tpol_rows.specs.Members.{Way, names_of, read_way, first_way, alone, without}
 use Rattle.tpol_rows.specs.Publics.{object_public_in, index_public_in}
 use Rattle.tpol_rows.specs.Walks.{still}
 use Rattle.tpol_rows.specs.Wishes.{key_by_path, key_by_public, key_among, key_in, index_by_path, index_by_public, index_among, index_in, entity_by_path, entity_by_name, entity_among, entity_in, parent_by_path, parent_by_public, parent_by_name, parent_among, parent_in, items_count, each_from, three_at_most, one_to_three, names_by_digest, names_by_names, names_by_paths, names_among, names_in}

@@ -5,7 +5,6 @@ ghost use Rattle.tpol_write.specs.Objects.{list_of, natural};
 ghost use Rattle.tpol_write.specs.Wishes.{name_value, names_member, pcr_value, pcrs_below, pcrs_member};
 
 use crate::object::{Object, put_hex, put_number, put_text};
-use crate::wishes::name_bytes;
 use serde_json::Value;
 use std::alloc::Global;
 use tpol_base::{Digest32, Name, NoMemory, Text};
@@ -51,7 +50,7 @@ fn name_list(alloc: Global, names: &[Name]) -> Result<Value, NoMemory>
 {
     let mut list = Vec::new(alloc);
     for name in names {
-        let text = hex::encode(alloc, name_bytes(alloc, name)?.as_slice())?;
+        let text = hex::encode(alloc, name.to_bytes(alloc)?.as_slice())?;
         list.push(Value::String(text))?;
     }
     Ok(Value::Array(list))

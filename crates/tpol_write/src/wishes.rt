@@ -1,14 +1,13 @@
-ghost use Rattle.std.specs.Prelude.{◌≡◌, IfOk, OnOk};
+ghost use Rattle.std.specs.Prelude.{◌≡◌, OnOk};
 ghost use Rattle.serde_json.specs.Data.{put as with_member};
 ghost use Rattle.serde_json.specs.View.{view, members_view};
-ghost use Rattle.tpol_base.specs.Name.{name_bytes};
 ghost use Rattle.tpol_write.specs.Objects.{with_members};
 ghost use Rattle.tpol_write.specs.Wishes.{key_member, index_member, entity_member, name_value, parent_member, cp_hash_members};
 
 use crate::object::{Object, put_hex, put_text};
 use crate::publics::{nv_public, object_public};
 use std::alloc::Global;
-use tpol_base::{Blob, Digest32, Name, NoMemory};
+use tpol_base::{Digest32, Name, NoMemory};
 use tpol_tree::{EntityWish, IndexWish, KeyWish, ParentWish};
 
 /// Sets the member of a key: its path, or its public area.
@@ -75,7 +74,7 @@ pub fn put_name(
     ensures { OnOk result (members_view object.new.entries
         ≡ with_member member.now (name_value name.now) (members_view object.old.entries)) }
 {
-    put_hex(object, alloc, member, name_bytes(alloc, name)?.as_slice())
+    put_hex(object, alloc, member, name.to_bytes(alloc)?.as_slice())
 }
 
 /// Sets `cpHashA`, where it is there.
@@ -90,20 +89,5 @@ pub fn put_cp_hash(
     match cp_hash {
         Some(digest) => put_hex(object, alloc, "cpHashA", digest.bytes.as_slice()),
         None => Ok(()),
-    }
-}
-
-/// The bytes of a Name.
-pub fn name_bytes(alloc: Global, name: &Name) -> Result<Blob, NoMemory>
-    ensures { IfOk result (λ bytes. bytes ≡ name_bytes name.now) }
-{
-    match name {
-        Name::Empty => Ok(Blob::new(alloc)),
-        Name::Handle(handle) => Blob::from_slice(alloc, handle.to_be_bytes().as_slice()),
-        Name::Hash(digest) => {
-            let mut bytes = Blob::from_slice(alloc, b"\x00\x0b")?;
-            bytes.extend_from_slice(digest.bytes.as_slice())?;
-            Ok(bytes)
-        }
     }
 }
