@@ -50,10 +50,8 @@ pub fn fill(alloc: Global, policy: &Policy, sight: Option<&Sight>) -> Result<Clo
         paths_of closed documents ≡ paths_of (filled policy.now (option_copied sight.entry)) documents) }
 {
     let list = Place::root(alloc).member(alloc, "policy")?;
-    match fill_elements(alloc, &policy.elements, sight, true, &list, 0) {
-        Ok(elements) => Ok(Closed { elements }),
-        Err(fault) => Err(fault),
-    }
+    let elements = fill_elements(alloc, &policy.elements, sight, true, &list, 0)?;
+    Ok(Closed { elements })
 }
 
 // The elements of a list that stands at `list`, from the item `index` on. `leads` says whether no element
@@ -76,13 +74,9 @@ fn fill_elements(
             let Some(next) = index.checked_add(1) else {
                 return Err(FillFault::NoMemory);
             };
-            match fill_element(alloc, element, sight, leads, &place) {
-                Ok(first) => match fill_elements(alloc, rest, sight, false, list, next) {
-                    Ok(others) => join_elements(alloc, first, others),
-                    Err(fault) => Err(fault),
-                },
-                Err(fault) => Err(fault),
-            }
+            let first = fill_element(alloc, element, sight, leads, &place)?;
+            let others = fill_elements(alloc, rest, sight, false, list, next)?;
+            join_elements(alloc, first, others)
         }
     }
 }
@@ -101,10 +95,8 @@ fn fill_element(
     match element {
         Element::Or(branches) => {
             let list = place.member(alloc, "branches")?;
-            match fill_branches(alloc, branches, sight, leads, &list, 0) {
-                Ok(closed) => Ok(ClosedElement::Or(closed)),
-                Err(fault) => Err(fault),
-            }
+            let closed = fill_branches(alloc, branches, sight, leads, &list, 0)?;
+            Ok(ClosedElement::Or(closed))
         }
         Element::Pcr(wish) => fill_pcr(alloc, wish, sight, place),
         Element::Nv {
@@ -181,14 +173,9 @@ fn fill_branches(
             let Some(next) = index.checked_add(1) else {
                 return Err(FillFault::NoMemory);
             };
-            let name = branch.name.try_clone(alloc)?;
-            match fill_elements(alloc, &branch.elements, sight, leads, &place, 0) {
-                Ok(elements) => match fill_branches(alloc, rest, sight, leads, list, next) {
-                    Ok(others) => join_branches(alloc, name, elements, others),
-                    Err(fault) => Err(fault),
-                },
-                Err(fault) => Err(fault),
-            }
+            let elements = fill_elements(alloc, &branch.elements, sight, leads, &place, 0)?;
+            let others = fill_branches(alloc, rest, sight, leads, list, next)?;
+            join_branches(alloc, &branch.name, elements, others)
         }
     }
 }
@@ -209,16 +196,16 @@ fn join_elements(
 
 fn join_branches(
     alloc: Global,
-    name: Text,
+    name: &Text,
     elements: ClosedElements,
     others: ClosedBranches,
 ) -> Result<ClosedBranches, FillFault>
     ensures value { IfOk result (λ closed. erased_branches closed
-        ≡ MoreBranches' nowhere name (erased_elements elements) nowhere (erased_branches others)) }
+        ≡ MoreBranches' nowhere name.now (erased_elements elements) nowhere (erased_branches others)) }
     ensures memory { IfErr result (λ fault. fault ≡ no_memory) }
 {
     let branch = ClosedBranch {
-        name,
+        name: name.try_clone(alloc)?,
         policy: Closed { elements },
     };
     let first = Box::new(alloc, branch)?;

@@ -28,10 +28,8 @@ pub fn fill_pcr(
 ) -> Result<ClosedElement, FillFault>
     ensures { FillsElement (option_copied sight.entry) true place.now (Pcr wish.now) result }
 {
-    match fill_pcrs(alloc, wish, sight, place) {
-        Ok(assertion) => Ok(ClosedElement::Assert(assertion)),
-        Err(fault) => Err(fault),
-    }
+    let assertion = fill_pcrs(alloc, wish, sight, place)?;
+    Ok(ClosedElement::Assert(assertion))
 }
 
 pub fn fill_name_hash(
@@ -42,10 +40,8 @@ pub fn fill_name_hash(
 ) -> Result<ClosedElement, FillFault>
     ensures { FillsElement (option_copied sight.entry) true place.now (NameHash wish.now) result }
 {
-    match fill_names(alloc, wish, sight, place) {
-        Ok(digest) => Ok(ClosedElement::Assert(Assertion::NameHash(digest))),
-        Err(fault) => Err(fault),
-    }
+    let digest = fill_names(alloc, wish, sight, place)?;
+    Ok(ClosedElement::Assert(Assertion::NameHash(digest)))
 }
 
 pub fn fill_nv(

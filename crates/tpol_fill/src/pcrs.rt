@@ -54,10 +54,8 @@ fn current_pcrs(
         (λ assertion. assertion ≡ filled_pcrs (Current mask) (option_copied sight.entry)) result }
 {
     let pcrs = pcrs_of_mask(alloc, mask)?;
-    match current_values(alloc, pcrs.as_slice(), sight, list) {
-        Ok(values) => Ok(pcr_assertion(mask, values)),
-        Err(fault) => Err(fault),
-    }
+    let values = current_values(alloc, pcrs.as_slice(), sight, list)?;
+    Ok(pcr_assertion(mask, values))
 }
 
 // The assertion of PCRs with their values as written.
