@@ -1,5 +1,5 @@
 -- What a policy is with every wish given, and each place that has no value.
-use Rattle.std.specs.Prelude.{◌≡◌, ℕ, ◌+◌, ◌%◌, ◌/◌, ◌^◌, ◌==◌, Bool, true, false, List, [], ◌∷◌, ◌++◌, Option, Some, None, Result, Ok, Err, codes, map, filter, nat_lt, slice_get, fold, bit_or, if◌then◌else◌}
+use Rattle.std.specs.Prelude.{◌≡◌, ⊤, ℕ, ◌+◌, ◌%◌, ◌/◌, ◌^◌, ◌==◌, Bool, true, false, List, [], ◌∷◌, ◌++◌, Option, Some, None, Result, Ok, Err, codes, map, filter, nat_lt, slice_get, fold, bit_or, if◌then◌else◌}
 use Rattle.std.specs.List.{flat_map, range_with_len}
 use Rattle.std.specs.Result.{result_unwrap_or}
 use Rattle.tpol_base.specs.declared.digest.Digest32.{Digest32}
@@ -210,6 +210,25 @@ abbrev mutual
   branches_faults sight leads list n (MoreBranches' p name description elements q rest) =
       elements_faults sight leads (at_member (at_item list n) (codes "policy")) 0 elements
       ++ branches_faults sight leads list (n + 1) rest
+
+-- an element that has no wish
+abbrev pub IsWritten : Element → Type 0
+IsWritten (Locality locality) = ⊤
+IsWritten (CommandCode code) = ⊤
+IsWritten (CpHash digest) = ⊤
+IsWritten (CounterTimer operand offset operation) = ⊤
+IsWritten (NvWritten written) = ⊤
+IsWritten AuthValue = ⊤
+IsWritten Password = ⊤
+IsWritten PhysicalPresence = ⊤
+IsWritten _ = ⊥
+
+-- an element whose wish is the entity that it is about
+abbrev pub NamesEntity : Element → Type 0
+NamesEntity (Nv index operand offset operation) = ⊤
+NamesEntity (Secret entity policy_ref cp_hash expiration) = ⊤
+NamesEntity (Signed key policy_ref cp_hash expiration) = ⊤
+NamesEntity _ = ⊥
 
 -- the faults of a policy
 abbrev pub fill_faults : Policy → Option Sight → List FillFault

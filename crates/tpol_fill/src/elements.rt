@@ -17,16 +17,16 @@ ghost use Rattle.tpol_tree.specs.declared.closed.ClosedElements.TheVariants.{Mor
 use crate::FillFault;
 use crate::fault::place_of_item;
 use crate::leaves::{
-    fill_authorize, fill_authorize_nv, fill_duplication, fill_name_hash, fill_nv, fill_pcr,
-    fill_secret, fill_signed,
+    fill_authorize, fill_authorize_nv, fill_duplication, fill_entity, fill_name_hash, fill_pcr,
+    fill_written,
 };
 use std::alloc::Global;
-use tpol_base::{Blob, Text};
+use tpol_base::Text;
 use tpol_json::Place;
 use tpol_name::Sight;
 use tpol_tree::{
-    Assertion, Branches, Closed, ClosedBranch, ClosedBranches, ClosedElement, ClosedElements,
-    Element, Elements, Policy,
+    Branches, Closed, ClosedBranch, ClosedBranches, ClosedElement, ClosedElements, Element,
+    Elements, Policy,
 };
 
 /// The policy with every wish given (see `filled`), or the first place that has no value: places are those
@@ -98,59 +98,28 @@ fn fill_element(
             let closed = fill_branches(alloc, branches, sight, leads, &list, 0)?;
             Ok(ClosedElement::Or(closed))
         }
-        Element::Pcr(wish) => fill_pcr(alloc, wish, sight, place),
-        Element::Nv {
-            index,
-            operand,
-            offset,
-            operation,
-        } => fill_nv(alloc, index, operand, *offset, *operation, sight, place),
-        Element::Secret {
-            entity,
-            policy_ref,
-            cp_hash,
-            expiration,
-        } => fill_secret(
-            alloc,
-            entity,
-            policy_ref,
-            *cp_hash,
-            *expiration,
-            sight,
-            place,
-        ),
-        Element::Signed {
-            key,
-            policy_ref,
-            cp_hash,
-            expiration,
-        } => fill_signed(alloc, key, policy_ref, *cp_hash, *expiration, sight, place),
         Element::Authorize { key, policy_ref } => {
             fill_authorize(alloc, key, policy_ref, sight, leads, place)
         }
         Element::AuthorizeNv { index } => fill_authorize_nv(alloc, index, sight, leads, place),
-        Element::Locality(locality) => Ok(ClosedElement::Assert(Assertion::Locality(*locality))),
-        Element::CommandCode(code) => Ok(ClosedElement::Assert(Assertion::CommandCode(*code))),
-        Element::CpHash(digest) => Ok(ClosedElement::Assert(Assertion::CpHash(*digest))),
+        Element::Pcr(wish) => fill_pcr(alloc, wish, sight, place),
         Element::NameHash(wish) => fill_name_hash(alloc, wish, sight, place),
-        Element::CounterTimer {
-            operand,
-            offset,
-            operation,
-        } => Ok(ClosedElement::Assert(Assertion::CounterTimer {
-            operand: Blob::from_slice(alloc, operand.as_slice())?,
-            offset: *offset,
-            operation: *operation,
-        })),
         Element::Duplication {
             object,
             parent,
             include,
         } => fill_duplication(alloc, *object, parent, *include, sight, place),
-        Element::NvWritten(written) => Ok(ClosedElement::Assert(Assertion::NvWritten(*written))),
-        Element::AuthValue => Ok(ClosedElement::Assert(Assertion::AuthValue)),
-        Element::Password => Ok(ClosedElement::Assert(Assertion::Password)),
-        Element::PhysicalPresence => Ok(ClosedElement::Assert(Assertion::PhysicalPresence)),
+        Element::Nv { .. } | Element::Secret { .. } | Element::Signed { .. } => {
+            fill_entity(alloc, element, sight, place)
+        }
+        Element::Locality(_)
+        | Element::CommandCode(_)
+        | Element::CpHash(_)
+        | Element::CounterTimer { .. }
+        | Element::NvWritten(_)
+        | Element::AuthValue
+        | Element::Password
+        | Element::PhysicalPresence => fill_written(alloc, element),
     }
 }
 

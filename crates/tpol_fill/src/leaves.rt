@@ -1,8 +1,9 @@
-//! The elements that name an entity: each with the Name in place of the wish.
+//! The elements that hold no list of elements: each with a value in place of its wish.
 
-ghost use Rattle.std.specs.Prelude.{◌≡◌, true};
+ghost use Rattle.std.specs.Prelude.{◌≡◌, true, IfErr, IfOk, None};
 ghost use Rattle.std.specs.Option.{option_copied};
-ghost use Rattle.tpol_fill.specs.Filling.{FillsElement, index_member, key_member};
+ghost use Rattle.tpol_fill.specs.Filling.{FillsElement, IsWritten, NamesEntity, filled_element, index_member, key_member};
+ghost use Rattle.tpol_fill.specs.declared.fault.FillFault.TheVariants.{NoMemory as no_memory};
 ghost use Rattle.tpol_tree.specs.declared.policy.Element.TheVariants.{Authorize, AuthorizeNv, Duplication, NameHash, Nv, Pcr, Secret, Signed};
 
 use crate::entities::{
@@ -17,9 +18,11 @@ use tpol_base::{Blob, Compare, Digest32, Name};
 use tpol_json::Place;
 use tpol_name::Sight;
 use tpol_tree::{
-    Assertion, ClosedElement, EntityWish, IndexWish, KeyWish, NamesWish, ParentWish, PcrWish,
+    Assertion, ClosedElement, Element, EntityWish, IndexWish, KeyWish, NamesWish, ParentWish,
+    PcrWish,
 };
 
+/// A POLICYPCR that stands at `place`, with the values of its PCRs and their digest.
 pub fn fill_pcr(
     alloc: Global,
     wish: &PcrWish,
@@ -32,6 +35,7 @@ pub fn fill_pcr(
     Ok(ClosedElement::Assert(assertion))
 }
 
+/// A POLICYNAMEHASH that stands at `place`, with the digest of its Names.
 pub fn fill_name_hash(
     alloc: Global,
     wish: &NamesWish,
@@ -44,7 +48,77 @@ pub fn fill_name_hash(
     Ok(ClosedElement::Assert(Assertion::NameHash(digest)))
 }
 
-pub fn fill_nv(
+/// A POLICYNV, POLICYSECRET or POLICYSIGNED that stands at `place`, with the Name of its entity.
+pub fn fill_entity(
+    alloc: Global,
+    element: &Element,
+    sight: Option<&Sight>,
+    place: &Place,
+) -> Result<ClosedElement, FillFault>
+    requires { NamesEntity element.now }
+    ensures { FillsElement (option_copied sight.entry) true place.now element.now result }
+{
+    match element {
+        Element::Nv {
+            index,
+            operand,
+            offset,
+            operation,
+        } => fill_nv(alloc, index, operand, *offset, *operation, sight, place),
+        Element::Secret {
+            entity,
+            policy_ref,
+            cp_hash,
+            expiration,
+        } => fill_secret(
+            alloc,
+            entity,
+            policy_ref,
+            *cp_hash,
+            *expiration,
+            sight,
+            place,
+        ),
+        Element::Signed {
+            key,
+            policy_ref,
+            cp_hash,
+            expiration,
+        } => fill_signed(alloc, key, policy_ref, *cp_hash, *expiration, sight, place),
+        _ => unreachable!(),
+    }
+}
+
+/// An element that has no wish.
+pub fn fill_written(alloc: Global, element: &Element) -> Result<ClosedElement, FillFault>
+    requires { IsWritten element.now }
+    ensures element { IfOk result (λ closed. closed ≡ filled_element None element.now) }
+    ensures memory { IfErr result (λ fault. fault ≡ no_memory) }
+{
+    let assertion = match element {
+        Element::Locality(locality) => Assertion::Locality(*locality),
+        Element::CommandCode(code) => Assertion::CommandCode(*code),
+        Element::CpHash(digest) => Assertion::CpHash(*digest),
+        Element::CounterTimer {
+            operand,
+            offset,
+            operation,
+        } => Assertion::CounterTimer {
+            operand: Blob::from_slice(alloc, operand.as_slice())?,
+            offset: *offset,
+            operation: *operation,
+        },
+        Element::NvWritten(written) => Assertion::NvWritten(*written),
+        Element::AuthValue => Assertion::AuthValue,
+        Element::Password => Assertion::Password,
+        Element::PhysicalPresence => Assertion::PhysicalPresence,
+        _ => unreachable!(),
+    };
+    Ok(ClosedElement::Assert(assertion))
+}
+
+// A POLICYNV.
+fn fill_nv(
     alloc: Global,
     index: &IndexWish,
     operand: &Blob,
@@ -67,7 +141,8 @@ pub fn fill_nv(
     }
 }
 
-pub fn fill_secret(
+// A POLICYSECRET.
+fn fill_secret(
     alloc: Global,
     entity: &EntityWish,
     policy_ref: &Blob,
@@ -90,7 +165,8 @@ pub fn fill_secret(
     }
 }
 
-pub fn fill_signed(
+// A POLICYSIGNED.
+fn fill_signed(
     alloc: Global,
     key: &KeyWish,
     policy_ref: &Blob,
@@ -113,6 +189,7 @@ pub fn fill_signed(
     }
 }
 
+/// A POLICYDUPLICATIONSELECT that stands at `place`, with the Name of the new parent.
 pub fn fill_duplication(
     alloc: Global,
     object: Name,
@@ -134,6 +211,8 @@ pub fn fill_duplication(
     }
 }
 
+/// A POLICYAUTHORIZE that stands at `place`, with the Name of its key. `leads` says whether no element stands
+/// before it.
 pub fn fill_authorize(
     alloc: Global,
     key: &KeyWish,
@@ -157,6 +236,8 @@ pub fn fill_authorize(
     }
 }
 
+/// A POLICYAUTHORIZENV that stands at `place`, with the Name of its index. `leads` says whether no element
+/// stands before it.
 pub fn fill_authorize_nv(
     alloc: Global,
     index: &IndexWish,
