@@ -1,7 +1,4 @@
 -- A closed policy whichever memory it lies in: the same with null in place of each box's pointer.
-use Rattle.std.specs.Prelude.{Box}
-use Rattle.std.specs.Ptr.{null_ptr}
-use Rattle.std.specs.declared.alloc.Global.{Global}
 use Rattle.tpol_tree.specs.declared.closed.Closed.{Closed}
 use Rattle.tpol_tree.specs.declared.closed.ClosedBranches.{ClosedBranches}
 use Rattle.tpol_tree.specs.declared.closed.ClosedBranches.TheVariants.{More' as MoreBranches', End as EndBranches}
@@ -9,10 +6,7 @@ use Rattle.tpol_tree.specs.declared.closed.ClosedElement.{ClosedElement}
 use Rattle.tpol_tree.specs.declared.closed.ClosedElement.TheVariants.{Assert, Or, Authorize, AuthorizeNv}
 use Rattle.tpol_tree.specs.declared.closed.ClosedElements.{ClosedElements}
 use Rattle.tpol_tree.specs.declared.closed.ClosedElements.TheVariants.{More', End}
-
--- a box that lies nowhere
-abbrev pub nowhere : Box (Unit {0}) Global
-nowhere = record { ptr = null_ptr; alloc = record { memory = record { seal = tt } }; value = tt }
+pub use Rattle.tpol_tree.specs.Erased.{nowhere}
 
 abbrev mutual
   pub erased_elements : ClosedElements → ClosedElements

@@ -40,7 +40,8 @@ use Rattle.tpol_tree.specs.declared.wishes.NamesWish.TheVariants.{Digest, Names,
 use Rattle.tpol_tree.specs.declared.wishes.PcrWish.{PcrWish}
 use Rattle.tpol_tree.specs.declared.wishes.PcrWish.TheVariants.{Values, Current}
 use Rattle.tpol_fill.specs.Entities.{entity_name, key_name, name_of_index_wish, or_empty, parent_name, path_name}
-use Rattle.tpol_fill.specs.Erased.{erased, erased_branches, erased_element, erased_elements, nowhere}
+use Rattle.tpol_fill.specs.Erased.{erased, erased_branches, erased_element, erased_elements}
+use Rattle.tpol_tree.specs.Erased.{nowhere}
 use Rattle.tpol_fill.specs.Outcome.{Fills, each_fault, faults_of}
 
 -- ---- PCRs

@@ -8,7 +8,8 @@ ghost use Rattle.tpol_digest.specs.WellFormed.{HasPcrDigest, IsWellFormedPolicy}
 ghost use Rattle.tpol_tree.specs.BranchCounts.{EachOrHasBranches};
 ghost use Rattle.tpol_tree.specs.Closed.{ApprovalsLead, EachAssertion};
 ghost use Rattle.tpol_fill.specs.declared.fault.FillFault.TheVariants.{NoMemory as no_memory};
-ghost use Rattle.tpol_fill.specs.Erased.{erased_branches, erased_element, erased_elements, nowhere};
+ghost use Rattle.tpol_fill.specs.Erased.{erased_branches, erased_element, erased_elements};
+ghost use Rattle.tpol_tree.specs.Erased.{nowhere};
 ghost use Rattle.tpol_fill.specs.Filling.{FillsBranches, FillsElement, FillsElements, FillsPolicy, filled};
 ghost use Rattle.tpol_tree.specs.declared.closed.ClosedBranches.TheVariants.{More' as MoreBranches'};
 ghost use Rattle.tpol_tree.specs.declared.path.ApprovedDoc.{ApprovedDoc as ApprovedDocument};

@@ -4,14 +4,14 @@ ghost use Rattle.std.specs.Prelude.{◌≡◌, find};
 ghost use Rattle.std.specs.Option.{option_copied};
 ghost use Rattle.std.specs.Result.{result_ok};
 ghost use Rattle.tpol_fill.specs.Entities.{entity_name, hierarchy_at, index_area_of, index_at, key_name, name_of_index_wish, object_area_of, object_at, parent_name, path_name, scheme_of, signing_key_name};
-ghost use Rattle.tpol_name.specs.Areas.{index_name, object_name, with_written};
+ghost use Rattle.tpol_name.specs.Areas.{index_name, object_name};
 ghost use Rattle.tpol_name.specs.Paths.{is_same_path};
 
 use crate::FillKind;
 use tpol_base::Name;
 use tpol_name::{
-    IndexEntry, ObjectEntry, ObjectPublic, Scheme, Sight, WRITTEN, index_name_of_parts,
-    object_name, object_name_of_parts, same_path,
+    IndexEntry, ObjectEntry, ObjectPublic, Scheme, Sight, index_name_of_parts,
+    nv_name_once_written, object_name, object_name_of_parts, same_path,
 };
 use tpol_tree::{EntityWish, IndexWish, KeyWish, NvPublicText, ObjectPublicText, ParentWish};
 
@@ -63,7 +63,7 @@ pub fn name_of_index_wish(wish: &IndexWish, sight: Option<&Sight>) -> Result<Nam
 {
     match wish {
         IndexWish::Path(path) => match index_at(sight, path.as_str()) {
-            Some(index) => Ok(name_once_written(index)),
+            Some(index) => Ok(nv_name_once_written(&index.public)),
             None => Err(FillKind::NoSuchPath),
         },
         IndexWish::Public(text) => Ok(name_of_index_text(text)),
@@ -105,7 +105,7 @@ pub fn name_at(path: &str, sight: Option<&Sight>) -> Result<Name, FillKind>
         return Ok(object_name(&object.public));
     }
     match index_at(sight, path) {
-        Some(index) => Ok(name_once_written(index)),
+        Some(index) => Ok(nv_name_once_written(&index.public)),
         None => Err(FillKind::NoSuchPath),
     }
 }
@@ -207,18 +207,5 @@ fn name_of_index_text(text: &NvPublicText) -> Name
         text.attributes,
         text.auth_policy.as_slice(),
         text.size,
-    )
-}
-
-// The Name that an index has once it is written.
-fn name_once_written(index: &IndexEntry) -> Name
-    ensures { result ≡ index_name (with_written index.now.public) }
-{
-    let public = &index.public;
-    index_name_of_parts(
-        public.index,
-        public.attributes | WRITTEN,
-        public.auth_policy.as_slice(),
-        public.size,
     )
 }

@@ -2,7 +2,7 @@
 
 ghost use Rattle.std.specs.Prelude.{◌≡◌, ℕ, List, ◌++◌, IfOk};
 ghost use Rattle.tpol_hash.specs.Messages.{Holds};
-ghost use Rattle.tpol_name.specs.Areas.{index_name, is_written, object_name, sized};
+ghost use Rattle.tpol_name.specs.Areas.{index_name, is_written, object_name, sized, with_written};
 
 use std::alloc::Global;
 use tpol_base::{Blob, Name, NoMemory};
@@ -17,10 +17,12 @@ const KEYED_HASH_AREA: [u8; 4] = [0x00, 0x08, 0x00, 0x0b];
 /// The name algorithm SHA-256.
 const SHA256: [u8; 2] = [0x00, 0x0b];
 
-/// What a keyed-hash object is for: a sealed secret (scheme NULL), or a key for HMAC over SHA-256.
+/// What a keyed-hash object is for (TPM 2.0 Part 2, TPMT_KEYEDHASH_SCHEME).
 #[derive(Clone, Copy, Debug, PartialEq, Eq)]
 pub enum Scheme {
+    /// A sealed secret: the scheme NULL.
     Sealed,
+    /// A key for HMAC over SHA-256.
     HmacKey,
 }
 
@@ -117,6 +119,18 @@ pub fn nv_name(public: &NvPublic) -> Name
     index_name_of_parts(
         public.index,
         public.attributes,
+        public.auth_policy.as_slice(),
+        public.size,
+    )
+}
+
+/// The Name that an NV index has once it is written.
+pub fn nv_name_once_written(public: &NvPublic) -> Name
+    ensures name { result ≡ index_name (with_written public.now) }
+{
+    index_name_of_parts(
+        public.index,
+        public.attributes | WRITTEN,
         public.auth_policy.as_slice(),
         public.size,
     )

@@ -15,8 +15,8 @@ mod sight;
 mod tests;
 
 pub use areas::{
-    NvPublic, ObjectPublic, Scheme, WRITTEN, index_name_of_parts, nv_name, object_name,
-    object_name_of_parts, written,
+    NvPublic, ObjectPublic, Scheme, WRITTEN, index_name_of_parts, nv_name, nv_name_once_written,
+    object_name, object_name_of_parts, written,
 };
 pub use entries::{DirEntry, Directory, IndexEntry, Indices, ObjectEntry, Objects};
 pub use listing::directory;

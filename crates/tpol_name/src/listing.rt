@@ -2,7 +2,7 @@ ghost use Rattle.std.specs.Prelude.{◌≡◌, ◌++◌, IfOk, OnOk, map};
 ghost use Rattle.tpol_name.specs.Directories.{directory_of, line_of_index, line_of_object};
 
 use crate::{
-    DirEntry, Directory, IndexEntry, ObjectEntry, Setup, WRITTEN, index_name_of_parts, object_name,
+    DirEntry, Directory, IndexEntry, ObjectEntry, Setup, nv_name_once_written, object_name,
 };
 use std::alloc::Global;
 use tpol_base::{NoMemory, Sequence};
@@ -64,12 +64,7 @@ fn index_line(alloc: Global, index: &IndexEntry) -> Result<DirEntry, NoMemory>
     Ok(DirEntry {
         path: index.path.try_clone(alloc)?,
         handle: public.index,
-        name: index_name_of_parts(
-            public.index,
-            public.attributes | WRITTEN,
-            public.auth_policy.as_slice(),
-            public.size,
-        ),
+        name: nv_name_once_written(public),
         attributes: public.attributes,
     })
 }
