@@ -3,11 +3,12 @@
 use crate::{FillFault, FillKind, fill};
 use std::alloc::Global;
 use std::test::Fail;
-use tpol_base::{Blob, Compare, Digest32, NoMemory, Sequence, Text};
+use tpol_base::{Blob, Compare, Digest32, Digests, NoMemory, Sequence, Text};
 use tpol_digest::digest_of;
 use tpol_json::place_text;
 use tpol_name::{
-    IndexEntry, NvPublic, ObjectEntry, ObjectPublic, Scheme, Setup, Sight, opening_sight,
+    IndexEntry, Indices, NvPublic, ObjectEntry, ObjectPublic, Objects, Scheme, Setup, Sight,
+    opening_sight,
 };
 use tpol_tree::{
     Element, Elements, EntityWish, IndexWish, KeyWish, NvPublicText, ObjectPublicText, PcrWish,
@@ -130,50 +131,66 @@ fn outcome_of(alloc: Global, parts: &[Part], sight: Option<&Sight>) -> Result<An
     }
 }
 
-fn started(alloc: Global) -> Result<Sight, NoMemory> {
-    let mut objects = Sequence::new(alloc);
-    objects.push(ObjectEntry {
-        path: Text::from_str(alloc, "/HS/SRK/approver")?,
+fn approver(alloc: Global) -> Result<ObjectEntry, NoMemory> {
+    let path = Text::from_str(alloc, "/HS/SRK/approver")?;
+    let unique = Blob::from_slice(alloc, &[0x11; 32])?;
+    let secret = Blob::from_slice(alloc, b"key")?;
+    Ok(ObjectEntry {
+        path,
         handle: 0x8000_0001,
         public: ObjectPublic {
             attributes: 0x0004_0040,
             auth_policy: Blob::new(alloc),
             scheme: Scheme::HmacKey,
-            unique: Blob::from_slice(alloc, &[0x11; 32])?,
+            unique,
         },
         auth: Blob::new(alloc),
-        secret: Blob::from_slice(alloc, b"key")?,
-    })?;
-    let mut indices = Sequence::new(alloc);
-    indices.push(IndexEntry {
-        path: Text::from_str(alloc, "/nv/Owner/policy")?,
+        secret,
+    })
+}
+
+fn owner_index(alloc: Global) -> Result<IndexEntry, NoMemory> {
+    let path = Text::from_str(alloc, "/nv/Owner/policy")?;
+    let auth_policy = Blob::from_slice(alloc, ENDORSEMENT_POLICY)?;
+    let content = Blob::from_slice(alloc, &[0; 34])?;
+    Ok(IndexEntry {
+        path,
         public: NvPublic {
             index: 0x01c0_7f01,
             attributes: 0x020f_1008,
-            auth_policy: Blob::from_slice(alloc, ENDORSEMENT_POLICY)?,
+            auth_policy,
             size: 34,
         },
         auth: Blob::new(alloc),
-        content: Blob::from_slice(alloc, &[0; 34])?,
-    })?;
-    opening_sight(
-        alloc,
-        &Setup {
-            seed: Digest32::ZERO,
-            owner: Blob::new(alloc),
-            endorsement: Blob::new(alloc),
-            lockout: Blob::new(alloc),
-            pcrs: Sequence::from_slice(alloc, &[Digest32::ZERO; 24])?,
-            pcr_counter: 0,
-            objects,
-            indices,
-            time: 0,
-            reset_count: 0,
-            restart_count: 0,
-            safe: true,
-            presence: false,
-        },
-    )
+        content,
+    })
+}
+
+fn setup(alloc: Global, objects: Objects, indices: Indices, pcrs: Digests) -> Setup {
+    Setup {
+        seed: Digest32::ZERO,
+        owner: Blob::new(alloc),
+        endorsement: Blob::new(alloc),
+        lockout: Blob::new(alloc),
+        pcrs,
+        pcr_counter: 0,
+        objects,
+        indices,
+        time: 0,
+        reset_count: 0,
+        restart_count: 0,
+        safe: true,
+        presence: false,
+    }
+}
+
+fn started(alloc: Global) -> Result<Sight, NoMemory> {
+    let pcrs = Sequence::from_slice(alloc, &[Digest32::ZERO; 24])?;
+    let mut objects = Sequence::new(alloc);
+    objects.push(approver(alloc)?)?;
+    let mut indices = Sequence::new(alloc);
+    indices.push(owner_index(alloc)?)?;
+    opening_sight(alloc, &setup(alloc, objects, indices, pcrs))
 }
 
 // Policies, each with the digest that a TPM gives it.
