@@ -1,5 +1,5 @@
 -- What stands behind the first element that passes, by the position that `position` gives.
-use Rattle.std.proofs.Common.{◌≡◌, ℕ, ◌+◌, ◌≤◌, Bool, true, false, cond, List, [], length, drop, refl, sym, ap, ◌∙◌, arith}
+use Rattle.std.proofs.Common.{◌≡◌, ℕ, ◌+◌, ◌≤◌, Bool, true, false, cond, List, [], length, drop, refl, sym, ap, arith}
 use Rattle.std.specs.Prelude.{Option, Some, None, position}
 use Rattle.std.specs.List.{position_or_len, after_first}
 use Rattle.std.proofs.lemmas.Bool.{ltb-false}

@@ -1,7 +1,6 @@
 -- The conditions on what a machine starts from and on what it shows.
 use Rattle.std.specs.Prelude.{◌≡◌, ℕ, ◌^◌, ◌/◌, ◌%◌, ◌≤◌, ◌⊎◌, false, nat_eq, List, [], ◌∷◌, ◌++◌, length, map, replicate, codes, All}
 use Rattle.std.specs.List.{IsDistinct, suffix_len}
-use Rattle.tpol_base.specs.declared.digest.Digest32.{Digest32}
 use Rattle.tpol_name.specs.declared.entries.IndexEntry.{IndexEntry}
 use Rattle.tpol_name.specs.declared.entries.ObjectEntry.{ObjectEntry}
 use Rattle.tpol_name.specs.declared.setup.Setup.{Setup}
