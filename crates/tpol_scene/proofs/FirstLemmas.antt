@@ -67,9 +67,3 @@ leads-there read start (Some d) place = leads-list read start d place
 pub leads-optional : {A : Type 0} (read : ItemReading A) (start : A) (name : List ℕ) (d : Data) (place : Place)
     → Leads (optional_faults (list_faults read start) name d place) (optional (list_in read start) start name d place)
 leads-optional read start name d place = leads-there read start (get name d) (at_member place name)
-
--- faults that stand only behind a reading
-pub leads-last : {A B : Type 0} (faults : List SceneFault) (last : Found A → List SceneFault) (reading : Found A) (next : A → Found B)
-    → Leads faults reading → ((fault : SceneFault) → last (Err fault) ≡ []) → ((x : A) → Leads (last (Ok x)) (next x)) → Leads (faults ++ last reading) (reading >>= next)
-leads-last faults last (Ok x) next leads none behind = record { first = no_first faults (last (Ok x)) leads.first ∙ (behind x).first }
-leads-last faults last (Err fault) next leads none behind = record { first = some_first faults (last (Err fault)) fault leads.first }

@@ -1,23 +1,19 @@
 -- The first of all faults of a scene is the one that its reading meets.
-use Rattle.std.proofs.Common.{◌≡◌, Bool, true, false, List, [], ◌∷◌, ◌++◌, refl, ap, ◌∙◌, cond}
+use Rattle.std.proofs.Common.{◌≡◌, true, false, List, [], ◌∷◌, ◌++◌, refl, ap, ◌∙◌}
 use Rattle.std.specs.Prelude.{Some, None, Ok, Err, slice_get, codes}
 use Rattle.serde_json.specs.Data.{Data}
-use Rattle.tpol_base.specs.PolicyName.{is_policy_name}
 use Rattle.tpol_json.specs.Places.{root}
 use Rattle.tpol_json.specs.declared.place.Place.{Place}
 use Rattle.tpol_scene.specs.Entities.{entity_in, entities_in, no_entities}
-use Rattle.tpol_scene.specs.Faults.{Found, bad, ◌>>=◌}
+use Rattle.tpol_scene.specs.Faults.{Found, ◌>>=◌}
 use Rattle.tpol_scene.specs.Lists.{faults_of, list_faults, optional_faults}
 use Rattle.tpol_scene.specs.Members.{optional}
 use Rattle.tpol_scene.specs.Pcrs.{pcr_item, pcrs_in, zero_bank}
-use Rattle.tpol_scene.specs.Scenes.{authorities_in, authorities_faults, time_in, clock_in, clock_faults, grammar_in, grammar_faults, names_in, name_faults, name_faults_of, scene_in, scene_faults}
+use Rattle.tpol_scene.specs.Scenes.{authorities_in, authorities_faults, time_in, clock_in, clock_faults, scene_in, scene_faults}
 use Rattle.tpol_scene.specs.Values.{object_in, u32_in, truth_in, digest_in, auth_in, zero_digest}
-use Rattle.tpol_scene.specs.declared.entities.EntityPolicy.{EntityPolicy}
 use Rattle.tpol_scene.specs.declared.fault.SceneFault.{SceneFault}
-use Rattle.tpol_scene.specs.declared.fault.SceneFault.TheVariants.{Bad}
-use Rattle.tpol_scene.specs.declared.fault.SceneKind.TheVariants.{NoSuchPolicy}
 use Rattle.tpol_scene.specs.declared.scene.Scene.{Scene}
-use Rattle.tpol_scene.proofs.FirstLemmas.{Leads, fault_in, leads-one, leads-then, leads-last, leads-optional}
+use Rattle.tpol_scene.proofs.FirstLemmas.{Leads, fault_in, leads-one, leads-then, leads-optional}
 
 -- a reading and nothing behind it
 leads-end : {A B : Type 0} (faults : List SceneFault) (reading : Found A) (next : A → B) → Leads faults reading → Leads faults (reading >>= λ x. Ok (next x))
@@ -46,31 +42,17 @@ leads-clock d place =
     leads-member (optional truth_in true (codes "safe") d place) _ _ (λ safe.
     leads-end _ (optional truth_in false (codes "presence") d place) _ (leads-one (optional truth_in false (codes "presence") d place))))))
 
-leads-grammar : (d : Data) (place : Place) → Leads (grammar_faults d place) (grammar_in d place)
-unfolding grammar_in
-leads-grammar d place =
-    leads-member (object_in d place) _ _ (λ is_object.
-    leads-then (authorities_faults d place) _ (authorities_in d place) _ (leads-authorities d place) (λ authorities.
-    leads-then (optional_faults (list_faults pcr_item zero_bank) (codes "pcrs") d place) _ (optional pcrs_in zero_bank (codes "pcrs") d place) _
-    (leads-optional pcr_item zero_bank (codes "pcrs") d place) (λ bank.
-    leads-member (optional u32_in 0 (codes "pcrCounter") d place) _ _ (λ pcr_counter.
-    leads-then (clock_faults d place) _ (clock_in d place) _ (leads-clock d place) (λ clock.
-    leads-end _ (optional entities_in no_entities (codes "entities") d place) _ (leads-optional entity_in no_entities (codes "entities") d place))))))
-
-leads-names : {B : Type 0} (policies : List EntityPolicy) (x : B) → Leads (name_faults policies) (names_in policies >>= λ _. Ok x)
-leads-names [] x = record { first = refl }
-leads-names (policy ∷ policies) x = by_name (is_policy_name policy.name) (leads-names policies x)
-  where
-    by_name : (good : Bool) → Leads (name_faults policies) (names_in policies >>= λ _. Ok x)
-        → Leads (cond good (name_faults policies) (Bad NoSuchPolicy policy.place ∷ name_faults policies)) (cond good (names_in policies) (bad NoSuchPolicy policy.place) >>= λ _. Ok x)
-    by_name true behind = behind
-    by_name false behind = record { first = refl }
-
 -- of all faults of a scene the first is the one that its reading meets
 pub leads-scene : (d : Data) → Leads (scene_faults d) (scene_in d root)
 unfolding scene_in scene_faults
 leads-scene d =
-    leads-last (grammar_faults d root) name_faults_of (grammar_in d root) _ (leads-grammar d root) (λ fault. refl) (λ scene. leads-names scene.policies scene)
+    leads-member (object_in d root) _ _ (λ is_object.
+    leads-then (authorities_faults d root) _ (authorities_in d root) _ (leads-authorities d root) (λ authorities.
+    leads-then (optional_faults (list_faults pcr_item zero_bank) (codes "pcrs") d root) _ (optional pcrs_in zero_bank (codes "pcrs") d root) _
+    (leads-optional pcr_item zero_bank (codes "pcrs") d root) (λ bank.
+    leads-member (optional u32_in 0 (codes "pcrCounter") d root) _ _ (λ pcr_counter.
+    leads-then (clock_faults d root) _ (clock_in d root) _ (leads-clock d root) (λ clock.
+    leads-end _ (optional entities_in no_entities (codes "entities") d root) _ (leads-optional entity_in no_entities (codes "entities") d root))))))
 
 no_fault_if_empty : (faults : List SceneFault) → slice_get faults 0 ≡ None → faults ≡ []
 no_fault_if_empty [] e = refl

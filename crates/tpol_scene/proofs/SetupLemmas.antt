@@ -22,7 +22,7 @@ use Rattle.tpol_scene.specs.Faults.{Found, bad, read_as, ◌>>=◌}
 use Rattle.tpol_scene.specs.Kinds.{kind_in, least_handle, greatest_handle}
 use Rattle.tpol_scene.specs.Members.{needed, optional}
 use Rattle.tpol_scene.specs.Pcrs.{new_pcr_in, pcr_in, pcr_item, pcrs_in, zero_bank}
-use Rattle.tpol_scene.specs.Scenes.{authorities_in, clock_in, time_in, grammar_in, names_in, scene_in}
+use Rattle.tpol_scene.specs.Scenes.{authorities_in, clock_in, time_in, scene_in}
 use Rattle.tpol_scene.specs.Values.{object_in, text_in, unsigned_in, u32_in, truth_in, digest_in, bytes_up_to, empty_or_32, auth_in, zero_digest}
 use Rattle.tpol_scene.specs.declared.entities.Entities.{Entities}
 use Rattle.tpol_scene.specs.declared.fault.SceneKind.{SceneKind}
@@ -306,9 +306,10 @@ clock_ok d place =
 abbrev HasSetup : Scene → Type 0
 HasSetup scene = IsSetup scene.setup
 
-grammar_ok : (d : Data) (place : Place) → IfOk (grammar_in d place) HasSetup
-unfolding grammar_in
-grammar_ok d place =
+-- the setup of a scene meets what the machine asks
+pub scene_ok : (d : Data) (place : Place) → IfOk (scene_in d place) HasSetup
+unfolding scene_in
+scene_ok d place =
     then_ok (λ _. ⊤) HasSetup (object_in d place) _ (any_ok _) (λ is_object _.
     then_ok AuthoritiesFit HasSetup (authorities_in d place) _ (authorities_ok d place) (λ authorities fit.
     then_ok IsWhole HasSetup (optional pcrs_in zero_bank (codes "pcrs") d place) _ (pcrs_ok d place) (λ bank whole.
@@ -316,10 +317,3 @@ grammar_ok d place =
     then_ok IsEarly HasSetup (clock_in d place) _ (clock_ok d place) (λ clock early.
     then_ok Entered HasSetup (optional entities_in no_entities (codes "entities") d place) _ (entities_ok d place) (λ entities entered.
     record { owner = fit.owner; endorsement = fit.endorsement; lockout = fit.lockout; pcrs = whole; time = early; entities = entered }))))))
-
--- the setup of a scene meets what the machine asks
-pub scene_ok : (d : Data) (place : Place) → IfOk (scene_in d place) HasSetup
-unfolding scene_in
-scene_ok d place =
-    then_ok HasSetup HasSetup (grammar_in d place) _ (grammar_ok d place)
-    (λ scene is. then_ok (λ _. ⊤) HasSetup (names_in scene.policies) _ (any_ok _) (λ are_names _. is))

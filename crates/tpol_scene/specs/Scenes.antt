@@ -1,21 +1,18 @@
 -- Scenes.
-use Rattle.std.specs.Prelude.{◌≡◌, ℕ, ◌^◌, List, [], ◌∷◌, ◌++◌, codes, true, false, Some, None, Ok, Err, slice_get, if◌then◌else◌, ⊤}
+use Rattle.std.specs.Prelude.{◌≡◌, ℕ, ◌^◌, List, [], ◌∷◌, ◌++◌, codes, true, false, Some, None, Ok, Err, slice_get, ⊤}
 use Rattle.serde_json.specs.Data.{Data}
-use Rattle.tpol_base.specs.PolicyName.{is_policy_name}
 use Rattle.tpol_base.specs.declared.digest.Digest32.{Digest32}
 use Rattle.tpol_json.specs.Document.{document_of}
 use Rattle.tpol_json.specs.Places.{root}
 use Rattle.tpol_json.specs.declared.place.Place.{Place}
 use Rattle.tpol_scene.specs.declared.entities.Entities.{Entities}
-use Rattle.tpol_scene.specs.declared.entities.EntityPolicy.{EntityPolicy}
 use Rattle.tpol_scene.specs.declared.fault.SceneFault.{SceneFault}
 use Rattle.tpol_scene.specs.declared.fault.SceneFault.TheVariants.{NotJson, Bad, NoMemory}
-use Rattle.tpol_scene.specs.declared.fault.SceneKind.TheVariants.{NoSuchPolicy}
 use Rattle.tpol_scene.specs.declared.scene.Authorities.{Authorities}
 use Rattle.tpol_scene.specs.declared.scene.Clock.{Clock}
 use Rattle.tpol_scene.specs.declared.scene.Scene.{Scene}
 use Rattle.tpol_scene.specs.Entities.{entity_in, entities_in, no_entities}
-use Rattle.tpol_scene.specs.Faults.{Found, bad, ◌>>=◌}
+use Rattle.tpol_scene.specs.Faults.{Found, ◌>>=◌}
 use Rattle.tpol_scene.specs.Lists.{faults_of, list_faults, optional_faults}
 use Rattle.tpol_scene.specs.Members.{optional}
 use Rattle.tpol_scene.specs.Pcrs.{pcr_item, pcrs_in, zero_bank}
@@ -65,9 +62,9 @@ scene_with authorities pcrs pcr_counter clock entities = record {
   policies = entities.policies;
 }
 
--- a scene by its grammar, whatever its policies are called
-unfoldable pub grammar_in : Data → Place → Found Scene
-grammar_in d place = do
+-- the scene that a value stands for, or its first fault; what the policies of entities are called does not matter here
+unfoldable pub scene_in : Data → Place → Found Scene
+scene_in d place = do
   is_object ← object_in d place
   authorities ← authorities_in d place
   bank ← optional pcrs_in zero_bank (codes "pcrs") d place
@@ -75,18 +72,6 @@ grammar_in d place = do
   clock ← clock_in d place
   entities ← optional entities_in no_entities (codes "entities") d place
   Ok (scene_with authorities bank.values pcr_counter clock entities)
-
--- each policy has a name that policies can have
-abbrev pub names_in : List EntityPolicy → Found ⊤
-names_in [] = Ok tt
-names_in (policy ∷ policies) = if is_policy_name policy.name then names_in policies else bad NoSuchPolicy policy.place
-
--- the scene that a value stands for, or its first fault
-unfoldable pub scene_in : Data → Place → Found Scene
-scene_in d place = do
-  scene ← grammar_in d place
-  are_names ← names_in scene.policies
-  Ok scene
 
 -- the faults of the members, in reading order
 abbrev pub authorities_faults : Data → Place → List SceneFault
@@ -104,28 +89,15 @@ clock_faults d place =
     ++ (faults_of (optional truth_in true (codes "safe") d place)
     ++ faults_of (optional truth_in false (codes "presence") d place))))
 
-abbrev pub grammar_faults : Data → Place → List SceneFault
-grammar_faults d place =
-    faults_of (object_in d place)
-    ++ (authorities_faults d place
-    ++ (optional_faults (list_faults pcr_item zero_bank) (codes "pcrs") d place
-    ++ (faults_of (optional u32_in 0 (codes "pcrCounter") d place)
-    ++ (clock_faults d place
-    ++ optional_faults (list_faults entity_in no_entities) (codes "entities") d place))))
-
--- each policy whose name no policy can have
-abbrev pub name_faults : List EntityPolicy → List SceneFault
-name_faults [] = []
-name_faults (policy ∷ policies) =
-    if is_policy_name policy.name then name_faults policies else Bad NoSuchPolicy policy.place ∷ name_faults policies
-
-abbrev pub name_faults_of : Found Scene → List SceneFault
-name_faults_of (Ok scene) = name_faults scene.policies
-name_faults_of (Err fault) = []
-
--- all faults of a scene: those against its grammar in reading order, and only then the names of policies
+-- all faults of a scene, in reading order
 unfoldable pub scene_faults : Data → List SceneFault
-scene_faults d = grammar_faults d root ++ name_faults_of (grammar_in d root)
+scene_faults d =
+    faults_of (object_in d root)
+    ++ (authorities_faults d root
+    ++ (optional_faults (list_faults pcr_item zero_bank) (codes "pcrs") d root
+    ++ (faults_of (optional u32_in 0 (codes "pcrCounter") d root)
+    ++ (clock_faults d root
+    ++ optional_faults (list_faults entity_in no_entities) (codes "entities") d root))))
 
 -- the value has no fault and is read as this scene
 pub record StandsForScene (d : Data) (scene : Scene) : Type 0 where

@@ -26,7 +26,8 @@ pub enum SceneKind {
     TooMany,
     /// Attributes, a size or a content that no index has.
     BadState,
-    /// A policy's name that no policy can have.
+    /// An entity names a policy that is not there. No reading gives this kind: it is for the layer that looks
+    /// up the policies that entities name, behind all faults of the reading.
     NoSuchPolicy,
 }
 

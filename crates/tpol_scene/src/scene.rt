@@ -3,17 +3,16 @@ ghost use Rattle.serde_json.specs.View.{view};
 ghost use Rattle.tpol_name.specs.Setups.{IsSetup};
 ghost use Rattle.tpol_scene.specs.Faults.{Gives};
 ghost use Rattle.tpol_scene.specs.Members.{optional};
-ghost use Rattle.tpol_scene.specs.Scenes.{IsDocumentOf, IsFaultOf, authorities_in, clock_in, grammar_in, names_in, scene_in, scene_with, time_in};
+ghost use Rattle.tpol_scene.specs.Scenes.{IsDocumentOf, IsFaultOf, authorities_in, clock_in, scene_in, scene_with, time_in};
 
+use crate::SceneFault;
 use crate::entities::{Entities, EntityPolicies, optional_entities};
-use crate::fault::refused;
 use crate::members::{optional_auth, optional_digest, optional_truth, optional_u32};
 use crate::pcrs::optional_pcrs;
 use crate::values::{check_object, unsigned_of};
-use crate::{EntityPolicy, SceneFault, SceneKind};
 use serde_json::Value;
 use std::alloc::Global;
-use tpol_base::{Blob, Digest32, Digests, is_policy_name};
+use tpol_base::{Blob, Digest32, Digests};
 use tpol_json::{ParseFault, Place, member, parse};
 use tpol_name::Setup;
 
@@ -47,8 +46,8 @@ pub struct Clock {
 /// Reads a scene: a JSON object with the members `seed`, `owner`, `endorsement`, `lockout`, `pcrs`,
 /// `pcrCounter`, `time`, `resetCount`, `restartCount`, `safe`, `presence` and `entities`, in this order, each
 /// of which may be left out. Other members are passed over. `NotJson` comes where the bytes are no JSON text,
-/// and `Bad` with the first fault in reading order; a policy's name that no policy can have comes after all
-/// others.
+/// and `Bad` with the first fault in reading order. The policies that entities name are given as they are
+/// written, whatever they are called: whether there are such policies is for the caller to find out.
 pub fn read_scene(alloc: Global, bytes: &[u8]) -> Result<Scene, SceneFault>
     ensures scene { IfOk result (IsDocumentOf bytes.now) }
     ensures setup { IfOk result (λ scene. IsSetup scene.setup) }
@@ -64,15 +63,6 @@ pub fn read_scene(alloc: Global, bytes: &[u8]) -> Result<Scene, SceneFault>
 #[tactic(auto, unfolding(crate::specs::Scenes::scene_in))]
 fn scene_of(alloc: Global, value: &Value, place: &Place) -> Result<Scene, SceneFault>
     ensures { Gives result (scene_in (view value.now) place.now) }
-{
-    let scene = grammar_of(alloc, value, place)?;
-    check_names(alloc, scene.policies.as_slice())?;
-    Ok(scene)
-}
-
-#[tactic(auto, unfolding(crate::specs::Scenes::grammar_in))]
-fn grammar_of(alloc: Global, value: &Value, place: &Place) -> Result<Scene, SceneFault>
-    ensures { Gives result (grammar_in (view value.now) place.now) }
 {
     check_object(alloc, value, place)?;
     let authorities = authorities_of(alloc, value, place)?;
@@ -164,16 +154,4 @@ fn optional_time(alloc: Global, value: &Value, place: &Place) -> Result<u64, Sce
         Some(time) => unsigned_of(alloc, time, 0, 1 << 62, &place.member(alloc, "time")?),
         None => Ok(0),
     }
-}
-
-// Each policy has a name that policies can have.
-fn check_names(alloc: Global, policies: &[EntityPolicy]) -> Result<(), SceneFault>
-    ensures { Gives result (names_in policies.now) }
-{
-    for policy in policies {
-        if !is_policy_name(policy.name.as_str()) {
-            return refused(alloc, SceneKind::NoSuchPolicy, &policy.place);
-        }
-    }
-    Ok(())
 }

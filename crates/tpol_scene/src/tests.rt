@@ -76,8 +76,42 @@ fn reads_what_is_left_out(rt: HostRuntime) -> Result<(), Fail> {
     Ok(())
 }
 
+// Scenes with an entity whose policy is named so: it is given as it is written, whatever it is called.
+const NAMES: [(&str, &str); 4] = [
+    (
+        r#"{"entities":[{"kind":"key","path":"k","handle":"0x80000000","policy":"a b","secret":""}]}"#,
+        "a b",
+    ),
+    (
+        r#"{"entities":[{"kind":"key","path":"k","handle":"0x80000000","policy":"","secret":""}]}"#,
+        "",
+    ),
+    (
+        r#"{"entities":[{"kind":"key","path":"k","handle":"0x80000000","policy":"/policy/.a","secret":""}]}"#,
+        ".a",
+    ),
+    (
+        r#"{"entities":[{"kind":"key","path":"k","handle":"0x80000000","policy":"policy/a","secret":""}]}"#,
+        "policy/a",
+    ),
+];
+
+#[test]
+fn policies_have_any_name(rt: HostRuntime) -> Result<(), Fail> {
+    for (text, name) in &NAMES {
+        let Ok(Scene { policies, .. }) = read_scene(rt.alloc(), text.as_bytes()) else {
+            return Err(Fail::new("a fault"));
+        };
+        assert_eq!(rt; policies.len(), 1, "{text}");
+        for policy in policies.as_slice() {
+            assert_eq!(rt; policy.name.as_str(), *name, "{text}");
+        }
+    }
+    Ok(())
+}
+
 // Scenes with a member that is missing or of another kind of JSON value.
-const MEMBERS: [(&str, SceneKind, &str); 7] = [
+const MEMBERS: [(&str, SceneKind, &str); 8] = [
     (r#"[]"#, SceneKind::WrongKind, "$"),
     (
         r#"{"entities":null,"pcrs":0}"#,
@@ -99,6 +133,11 @@ const MEMBERS: [(&str, SceneKind, &str); 7] = [
         r#"{"entities":[{"kind":"key","path":"k","handle":"0x80000000"}]}"#,
         SceneKind::Missing,
         "entities[0].secret",
+    ),
+    (
+        r#"{"entities":[{"kind":"key","path":"k","handle":"0x80000000","policy":["a"],"secret":""}]}"#,
+        SceneKind::WrongKind,
+        "entities[0].policy",
     ),
     (
         r#"{"entities":[{"kind":"key","path":"k","handle":"0x80000000","policy":"a b","secret":""},0]}"#,
@@ -172,8 +211,8 @@ const TWICE: [(&str, SceneKind, &str); 5] = [
     ),
 ];
 
-// Scenes with an index that cannot be, or with a policy that is not there.
-const STATES: [(&str, SceneKind, &str); 4] = [
+// Scenes with an index that cannot be.
+const STATES: [(&str, SceneKind, &str); 3] = [
     (
         r#"{"entities":[{"kind":"nv","path":"n","handle":"0x01000000","attributes":"0x20000000"}]}"#,
         SceneKind::BadState,
@@ -188,11 +227,6 @@ const STATES: [(&str, SceneKind, &str); 4] = [
         r#"{"entities":[{"kind":"nv","path":"n","handle":"0x01000000","attributes":0,"size":2,"content":"00"}]}"#,
         SceneKind::BadState,
         "entities[0].content",
-    ),
-    (
-        r#"{"entities":[{"kind":"key","path":"k","handle":"0x80000000","policy":"a b","secret":""}]}"#,
-        SceneKind::NoSuchPolicy,
-        "entities[0].policy",
     ),
 ];
 
