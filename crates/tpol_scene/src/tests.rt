@@ -1,7 +1,9 @@
-use crate::{Scene, SceneFault, SceneKind, read_scene};
+use crate::{EntityPolicy, Scene, SceneFault, SceneKind, read_scene};
+use std::alloc::Global;
 use std::process::Abort;
 use std::test::Fail;
 use tpol_json::place_text;
+use tpol_name::Setup;
 
 /// A scene with entities of each kind, and with numbers, truth values and bytes in several spellings.
 const SCENE: &str = r#"{
@@ -17,63 +19,108 @@ const SCENE: &str = r#"{
     "clients": 0, "other": 1
 }"#;
 
+fn scene_of(alloc: Global, text: &str) -> Result<Scene, Fail> {
+    match read_scene(alloc, text.as_bytes()) {
+        Ok(scene) => Ok(scene),
+        Err(_) => Err(Fail::new("a fault")),
+    }
+}
+
+fn has_authorities(setup: &Setup) -> bool {
+    setup.seed.bytes[31] == 255
+        && setup.owner.as_slice() == b"own".as_slice()
+        && setup.endorsement.is_empty()
+        && setup.lockout.as_slice() == [1].as_slice()
+}
+
+fn has_pcrs(setup: &Setup) -> bool {
+    let [pcrs @ .., last] = setup.pcrs.as_slice() else {
+        return false;
+    };
+    pcrs.len() == 23
+        && pcrs.iter().all(|pcr| pcr.bytes == [0; 32])
+        && last.bytes == [255; 32]
+        && setup.pcr_counter == 4294967295
+}
+
+fn has_clock(setup: &Setup) -> bool {
+    setup.time == 5
+        && setup.reset_count == 1
+        && setup.restart_count == 2
+        && !setup.safe
+        && setup.presence
+}
+
+fn has_objects(setup: &Setup) -> bool {
+    let [seal, key] = setup.objects.as_slice() else {
+        return false;
+    };
+    seal.handle == 0x8000_0000
+        && seal.public.attributes == 0x40
+        && seal.auth.len() == 3
+        && key.handle == 0x8000_0001
+        && key.public.attributes == 0x4_0040
+        && key.auth.is_empty()
+}
+
+fn has_index(setup: &Setup) -> bool {
+    let [index] = setup.indices.as_slice() else {
+        return false;
+    };
+    index.public.attributes == 0x2002_0012
+        && index.content.as_slice() == [0, 0, 0, 0, 0, 0, 0, 1].as_slice()
+}
+
+fn names_disk(alloc: Global, policies: &[EntityPolicy]) -> Result<bool, Fail> {
+    let [policy] = policies else {
+        return Ok(false);
+    };
+    let place = place_text(alloc, &policy.place)?;
+    Ok(
+        policy.handle == 0x8000_0000
+            && policy.name.as_str() == "disk"
+            && place.as_str() == "entities[0].policy",
+    )
+}
+
 #[test]
 fn reads_a_scene(rt: HostRuntime) -> Result<(), Fail> {
-    let Scene { setup, policies } = read_scene(rt.alloc(), SCENE.as_bytes())
-        .ok()
-        .ok_or("a scene")?;
-    let last_of_seed = setup.seed.bytes[31];
-    assert_eq!(rt; last_of_seed, 255);
-    assert_eq!(rt; setup.owner.as_slice(), b"own".as_slice());
-    assert_eq!(rt; setup.lockout.as_slice(), [1].as_slice());
-    assert_eq!(rt; setup.pcrs.len(), 24);
-    assert!(rt; setup.pcrs.get(22).is_some_and(|pcr| pcr.bytes == [0; 32]));
-    assert!(rt; setup.pcrs.get(23).is_some_and(|pcr| pcr.bytes == [255; 32]));
-    assert_eq!(rt; setup.pcr_counter, 4294967295);
-    assert_eq!(rt;
-        (setup.time, setup.reset_count, setup.restart_count),
-        (5, 1, 2)
-    );
-    assert_eq!(rt; (setup.safe, setup.presence), (false, true));
-    assert_eq!(rt; setup.objects.len(), 2);
-    for object in setup.objects.as_slice() {
-        let seal = object.handle == 0x8000_0000;
-        assert_eq!(rt;
-            object.public.attributes,
-            if seal { 0x40 } else { 0x4_0040 }
-        );
-        assert_eq!(rt; object.auth.len(), if seal { 3 } else { 0 });
-    }
-    for index in setup.indices.as_slice() {
-        assert_eq!(rt; index.public.attributes, 0x2002_0012);
-        assert_eq!(rt;
-            index.content.as_slice(),
-            [0, 0, 0, 0, 0, 0, 0, 1].as_slice()
-        );
-    }
-    assert_eq!(rt; policies.len(), 1);
-    for policy in policies.as_slice() {
-        assert_eq!(rt; policy.handle, 0x8000_0000);
-        assert_eq!(rt; policy.name.as_str(), "disk");
-        assert_eq!(rt;
-            place_text(rt.alloc(), &policy.place)?.as_str(),
-            "entities[0].policy"
-        );
-    }
+    let scene = scene_of(rt.alloc(), SCENE)?;
+    assert!(rt; has_authorities(&scene.setup));
+    assert!(rt; has_pcrs(&scene.setup));
+    assert!(rt; has_clock(&scene.setup));
+    assert!(rt; has_objects(&scene.setup));
+    assert!(rt; has_index(&scene.setup));
+    assert!(rt; names_disk(rt.alloc(), scene.policies.as_slice())?);
     Ok(())
+}
+
+// 24 zero PCRs, and no entity.
+fn is_plain(scene: &Scene) -> bool {
+    let setup = &scene.setup;
+    setup.pcrs.len() == 24
+        && setup.pcrs.as_slice().iter().all(|pcr| pcr.bytes == [0; 32])
+        && setup.safe
+        && !setup.presence
+        && setup.objects.is_empty()
+        && setup.indices.is_empty()
+        && scene.policies.is_empty()
 }
 
 #[test]
 fn reads_what_is_left_out(rt: HostRuntime) -> Result<(), Fail> {
-    let Scene { setup, policies } = read_scene(rt.alloc(), b"{}").ok().ok_or("a scene")?;
-    assert_eq!(rt; setup.pcrs.len(), 24);
-    for pcr in setup.pcrs.as_slice() {
-        assert_eq!(rt; pcr.bytes, [0; 32]);
-    }
-    assert!(rt; setup.safe && !setup.presence);
-    assert!(rt; setup.objects.is_empty() && setup.indices.is_empty() && policies.is_empty());
-    assert!(rt; matches!(read_scene(rt.alloc(), b"{"), Err(SceneFault::NotJson)));
+    let scene = scene_of(rt.alloc(), "{}")?;
+    assert!(rt; is_plain(&scene));
     Ok(())
+}
+
+fn is_not_json(alloc: Global, text: &str) -> bool {
+    matches!(read_scene(alloc, text.as_bytes()), Err(SceneFault::NotJson))
+}
+
+#[test]
+fn wants_json(rt: HostRuntime) {
+    assert!(rt; is_not_json(rt.alloc(), "{"));
 }
 
 // Scenes with an entity whose policy is named so: it is given as it is written, whatever it is called.
@@ -96,16 +143,23 @@ const NAMES: [(&str, &str); 4] = [
     ),
 ];
 
+// Whether the scene has one entity whose policy is named, and that is its name.
+fn names_policy(alloc: Global, text: &str, name: &str) -> Result<bool, Fail> {
+    let scene = scene_of(alloc, text)?;
+    Ok(is_named(scene.policies.as_slice(), name))
+}
+
+fn is_named(policies: &[EntityPolicy], name: &str) -> bool {
+    match policies {
+        [policy] => policy.name.as_str() == name,
+        _ => false,
+    }
+}
+
 #[test]
 fn policies_have_any_name(rt: HostRuntime) -> Result<(), Fail> {
     for (text, name) in &NAMES {
-        let Ok(Scene { policies, .. }) = read_scene(rt.alloc(), text.as_bytes()) else {
-            return Err(Fail::new("a fault"));
-        };
-        assert_eq!(rt; policies.len(), 1, "{text}");
-        for policy in policies.as_slice() {
-            assert_eq!(rt; policy.name.as_str(), *name, "{text}");
-        }
+        assert!(rt; names_policy(rt.alloc(), text, name)?, "{text}");
     }
     Ok(())
 }
@@ -230,20 +284,22 @@ const STATES: [(&str, SceneKind, &str); 3] = [
     ),
 ];
 
-// Each of these scenes is refused with this kind of fault at this place.
-fn refused(rt: &(impl Abort + AllocGlobal), cases: &[(&str, SceneKind, &str)]) -> Result<(), Fail> {
-    for (text, kind, place) in cases {
-        let Err(
+// Whether the scene is refused with this kind of fault at this place.
+fn is_refused(alloc: Global, text: &str, kind: SceneKind, place: &str) -> Result<bool, Fail> {
+    match read_scene(alloc, text.as_bytes()) {
+        Err(
             SceneFault::Bad {
                 kind: found,
                 place: at,
             },
-        ) = read_scene(rt.alloc(), text.as_bytes())
-        else {
-            return Err(Fail::new("no fault"));
-        };
-        assert_eq!(rt; found, *kind, "{text}");
-        assert_eq!(rt; place_text(rt.alloc(), &at)?.as_str(), *place, "{text}");
+        ) => Ok(found == kind && place_text(alloc, &at)?.as_str() == place),
+        _ => Ok(false),
+    }
+}
+
+fn refused(rt: &(impl Abort + AllocGlobal), cases: &[(&str, SceneKind, &str)]) -> Result<(), Fail> {
+    for (text, kind, place) in cases {
+        assert!(rt; is_refused(rt.alloc(), text, *kind, place)?, "{text}");
     }
     Ok(())
 }
@@ -268,9 +324,9 @@ fn states_are_possible(rt: HostRuntime) -> Result<(), Fail> {
     refused(&rt, &STATES)
 }
 
-#[test]
-fn counts_entities(rt: HostRuntime) -> Result<(), Fail> {
-    let mut text = String::from_str(rt.alloc(), r#"{"entities":["#)?;
+// A scene of 256 keys, and a number behind them.
+fn many_keys(alloc: Global) -> Result<String, Fail> {
+    let mut text = String::from_str(alloc, r#"{"entities":["#)?;
     for n in 0..256u32 {
         let handle = 0x8000_0000 + n;
         write!(
@@ -279,10 +335,18 @@ fn counts_entities(rt: HostRuntime) -> Result<(), Fail> {
         )?;
     }
     text.push_str("0]}")?;
-    let Err(SceneFault::Bad { kind, place }) = read_scene(rt.alloc(), text.as_bytes()) else {
-        return Err(Fail::new("no fault"));
-    };
-    assert_eq!(rt; kind, SceneKind::TooMany);
-    assert_eq!(rt; place_text(rt.alloc(), &place)?.as_str(), "entities[256]");
+    Ok(text)
+}
+
+#[test]
+fn counts_entities(rt: HostRuntime) -> Result<(), Fail> {
+    let text = many_keys(rt.alloc())?;
+    let too_many = is_refused(
+        rt.alloc(),
+        text.as_str(),
+        SceneKind::TooMany,
+        "entities[256]",
+    )?;
+    assert!(rt; too_many);
     Ok(())
 }
