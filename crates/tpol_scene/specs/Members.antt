@@ -15,6 +15,10 @@ read_needed read (Some d) place = read d place
 abbrev pub needed : {A : Type 0} → (Data → Place → Found A) → List ℕ → Data → Place → Found A
 needed read name d place = read_needed read (get name d) (at_member place name)
 
+-- whatever stands there
+abbrev pub any_in : Data → Place → Found Data
+any_in d place = Ok d
+
 abbrev pub read_optional : {A : Type 0} → (Data → Place → Found A) → A → Option Data → Place → Found A
 read_optional read default None place = Ok default
 read_optional read default (Some d) place = read d place

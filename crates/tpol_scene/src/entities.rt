@@ -40,7 +40,7 @@ pub struct Entities {
 }
 
 /// The member `entities`: a list of entities, without it none.
-pub fn optional_entities(
+pub(crate) fn optional_entities(
     alloc: Global,
     value: &Value,
     place: &Place,

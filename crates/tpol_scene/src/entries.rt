@@ -9,7 +9,7 @@ ghost use Rattle.tpol_scene.specs.Members.{needed, optional};
 
 use crate::fault::refused;
 use crate::heading::{Heading, NamedPolicy, PolicySource};
-use crate::members::{needed_secret, optional_32, optional_u32};
+use crate::members::{needed_member, needed_secret, optional_32, optional_u32};
 use crate::values::{u32_of, unsigned_of};
 use crate::{SceneFault, SceneKind};
 use serde_json::Value;
@@ -21,7 +21,7 @@ use tpol_name::{IndexEntry, NvPublic, ObjectEntry, ObjectPublic, Scheme, WRITTEN
 /// Reads what stands in an object behind its heading. `default` are the attributes of one that gives none.
 /// The policy that it names, if any, is handed back.
 #[tactic(auto, unfolding(crate::specs::Entities::object_entry_in))]
-pub fn read_object(
+pub(crate) fn read_object(
     alloc: Global,
     scheme: Scheme,
     default: u32,
@@ -59,7 +59,7 @@ pub fn read_object(
 
 /// Reads what stands in an index behind its heading. The policy that it names, if any, is handed back.
 #[tactic(auto, unfolding(crate::specs::Entities::index_entry_in))]
-pub fn read_index(
+pub(crate) fn read_index(
     alloc: Global,
     heading: Heading,
     item: &Value,
@@ -92,14 +92,12 @@ pub fn read_index(
     Ok((index, named))
 }
 
+#[tactic(auto, using(crate::proofs::BindLemmas::refused_needed))]
 fn needed_attributes(alloc: Global, item: &Value, place: &Place) -> Result<u32, SceneFault>
     ensures { Gives result (needed index_attributes_in (codes "attributes") (view item.now) place.now) }
 {
-    let place = place.member(alloc, "attributes")?;
-    match member(item, "attributes") {
-        Some(attributes) => index_attributes(alloc, attributes, &place),
-        None => refused(alloc, SceneKind::Missing, &place),
-    }
+    let (attributes, place) = needed_member(alloc, item, "attributes", place)?;
+    index_attributes(alloc, attributes, &place)
 }
 
 // The attributes of an index: without WRITTEN, and of a type that a scene can have.
@@ -129,6 +127,7 @@ fn is_index_type(kind: u32) -> bool
     kind == 0 || kind == 1 || kind == 2 || kind == 4
 }
 
+#[tactic(auto, using(crate::proofs::BindLemmas::refused_needed))]
 fn needed_size(
     alloc: Global,
     attributes: u32,
@@ -137,11 +136,8 @@ fn needed_size(
 ) -> Result<u16, SceneFault>
     ensures { Gives result (needed (index_size_in attributes) (codes "size") (view item.now) place.now) }
 {
-    let place = place.member(alloc, "size")?;
-    match member(item, "size") {
-        Some(size) => index_size(alloc, attributes, size, &place),
-        None => refused(alloc, SceneKind::Missing, &place),
-    }
+    let (size, place) = needed_member(alloc, item, "size", place)?;
+    index_size(alloc, attributes, size, &place)
 }
 
 // 1 to 2,048 bytes, as many as the type asks for.

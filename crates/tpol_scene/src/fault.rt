@@ -92,7 +92,7 @@ fn kind_of(kind: JsonKind) -> SceneKind
 }
 
 /// The answer that what stands at the place is at fault.
-pub fn refused<T>(alloc: Global, kind: SceneKind, place: &Place) -> Result<T, SceneFault>
+pub(crate) fn refused<T>(alloc: Global, kind: SceneKind, place: &Place) -> Result<T, SceneFault>
     ensures { Gives result (bad kind place.now) }
 {
     Err(SceneFault::Bad {
@@ -102,7 +102,7 @@ pub fn refused<T>(alloc: Global, kind: SceneKind, place: &Place) -> Result<T, Sc
 }
 
 /// The place of the item at this position of the list at the place.
-pub fn item_place(alloc: Global, place: &Place, index: usize) -> Result<Place, SceneFault>
+pub(crate) fn item_place(alloc: Global, place: &Place, index: usize) -> Result<Place, SceneFault>
     ensures ok { IfOk result (λ item. item ≡ at_item place.now index) }
     ensures err { IfErr result (λ fault. fault ≡ no_memory) }
 {

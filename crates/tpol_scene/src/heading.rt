@@ -12,7 +12,7 @@ ghost use Rattle.tpol_scene.specs.Members.{needed, optional};
 use crate::entities::Entities;
 use crate::fault::refused;
 use crate::kinds::{EntityKind, kind_of};
-use crate::members::optional_auth;
+use crate::members::{needed_member, optional_auth};
 use crate::values::{check_object, empty_or_32, text_of, unsigned_of};
 use crate::{SceneFault, SceneKind};
 use serde_json::Value;
@@ -47,7 +47,7 @@ pub struct Heading {
 
 /// Reads what entities of every kind have, beside the entities before.
 #[tactic(auto, unfolding(crate::specs::Entities::heading_in))]
-pub fn read_heading(
+pub(crate) fn read_heading(
     alloc: Global,
     entities: &Entities,
     item: &Value,
@@ -70,16 +70,15 @@ pub fn read_heading(
     })
 }
 
+#[tactic(auto, using(crate::proofs::BindLemmas::refused_needed))]
 fn needed_kind(alloc: Global, item: &Value, place: &Place) -> Result<EntityKind, SceneFault>
     ensures { Gives result (needed kind_in (codes "kind") (view item.now) place.now) }
 {
-    let place = place.member(alloc, "kind")?;
-    match member(item, "kind") {
-        Some(kind) => kind_of(alloc, kind, &place),
-        None => refused(alloc, SceneKind::Missing, &place),
-    }
+    let (kind, place) = needed_member(alloc, item, "kind", place)?;
+    kind_of(alloc, kind, &place)
 }
 
+#[tactic(auto, using(crate::proofs::BindLemmas::refused_needed))]
 fn needed_path(
     alloc: Global,
     entities: &Entities,
@@ -88,11 +87,8 @@ fn needed_path(
 ) -> Result<Text, SceneFault>
     ensures { Gives result (needed (new_path_in entities.now) (codes "path") (view item.now) place.now) }
 {
-    let place = place.member(alloc, "path")?;
-    match member(item, "path") {
-        Some(path) => new_path(alloc, entities, path, &place),
-        None => refused(alloc, SceneKind::Missing, &place),
-    }
+    let (path, place) = needed_member(alloc, item, "path", place)?;
+    new_path(alloc, entities, path, &place)
 }
 
 fn new_path(
@@ -139,6 +135,7 @@ fn has_index_path(indices: &[IndexEntry], path: &str) -> bool
         .any(|index| same_path(index.path.as_str(), path))
 }
 
+#[tactic(auto, using(crate::proofs::BindLemmas::refused_needed))]
 fn needed_handle(
     alloc: Global,
     entities: &Entities,
@@ -148,11 +145,8 @@ fn needed_handle(
 ) -> Result<u32, SceneFault>
     ensures { Gives result (needed (new_handle_in entities.now kind) (codes "handle") (view item.now) place.now) }
 {
-    let place = place.member(alloc, "handle")?;
-    match member(item, "handle") {
-        Some(handle) => new_handle(alloc, entities, kind, handle, &place),
-        None => refused(alloc, SceneKind::Missing, &place),
-    }
+    let (handle, place) = needed_member(alloc, item, "handle", place)?;
+    new_handle(alloc, entities, kind, handle, &place)
 }
 
 fn new_handle(

@@ -22,7 +22,7 @@ impl EntityKind {
     ghost use Rattle.tpol_scene.specs.Kinds.{greatest_handle, least_handle};
 
     /// The least handle of the kind.
-    pub fn least_handle(self) -> u64
+    pub(crate) fn least_handle(self) -> u64
         ensures value { result ≡ least_handle self }
         ensures limit { result < 2 ^ 32 }
     {
@@ -33,7 +33,7 @@ impl EntityKind {
     }
 
     /// The greatest handle of the kind.
-    pub fn greatest_handle(self) -> u64
+    pub(crate) fn greatest_handle(self) -> u64
         ensures value { result ≡ greatest_handle self }
         ensures limit { result < 2 ^ 32 }
     {
@@ -45,7 +45,7 @@ impl EntityKind {
 }
 
 /// The kind that a text names: `seal`, `key` or `nv`, exactly so.
-pub fn kind_of(alloc: Global, value: &Value, place: &Place) -> Result<EntityKind, SceneFault>
+pub(crate) fn kind_of(alloc: Global, value: &Value, place: &Place) -> Result<EntityKind, SceneFault>
     ensures { Gives result (kind_in (view value.now) place.now) }
 {
     match value {

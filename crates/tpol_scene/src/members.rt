@@ -1,7 +1,9 @@
-ghost use Rattle.std.specs.Prelude.{[]};
+ghost use Rattle.std.specs.Prelude.{◌≡◌, [], Some, IfOk, IfErr};
+ghost use Rattle.serde_json.specs.Find.{get};
 ghost use Rattle.serde_json.specs.View.{view};
-ghost use Rattle.tpol_scene.specs.Faults.{Gives};
-ghost use Rattle.tpol_scene.specs.Members.{needed, optional};
+ghost use Rattle.tpol_json.specs.Places.{at_member};
+ghost use Rattle.tpol_scene.specs.Faults.{Gives, Refuses};
+ghost use Rattle.tpol_scene.specs.Members.{any_in, needed, optional};
 ghost use Rattle.tpol_scene.specs.Values.{auth_in, bytes_up_to, digest_in, empty_or_32, truth_in, u32_in, zero_digest};
 
 use crate::fault::refused;
@@ -13,7 +15,7 @@ use tpol_base::{Blob, Digest32};
 use tpol_json::{Place, member};
 
 /// A digest, without it 32 zero bytes.
-pub fn optional_digest(
+pub(crate) fn optional_digest(
     alloc: Global,
     value: &Value,
     name: &str,
@@ -28,7 +30,7 @@ pub fn optional_digest(
 }
 
 /// An authorization value, without it the empty one.
-pub fn optional_auth(
+pub(crate) fn optional_auth(
     alloc: Global,
     value: &Value,
     name: &str,
@@ -43,7 +45,7 @@ pub fn optional_auth(
 }
 
 /// A number of 32 bits, or its default.
-pub fn optional_u32(
+pub(crate) fn optional_u32(
     alloc: Global,
     value: &Value,
     name: &str,
@@ -59,7 +61,7 @@ pub fn optional_u32(
 }
 
 /// A truth value, or its default.
-pub fn optional_truth(
+pub(crate) fn optional_truth(
     alloc: Global,
     value: &Value,
     name: &str,
@@ -74,8 +76,27 @@ pub fn optional_truth(
     }
 }
 
+/// A member that has to be there, and its place.
+pub(crate) fn needed_member<'a>(
+    alloc: Global,
+    value: &'a Value,
+    name: &str,
+    place: &Place,
+) -> Result<(&'a Value, Place), SceneFault>
+    ensures there { IfOk result (λ found. get name.now (view value.now) ≡ Some (view found.0.now)) }
+    ensures place { IfOk result (λ found. found.1 ≡ at_member place.now name.now) }
+    ensures refused { IfErr result (λ fault. Refuses fault (needed any_in name.now (view value.now) place.now)) }
+{
+    let place = place.member(alloc, name)?;
+    match member(value, name) {
+        Some(found) => Ok((found, place)),
+        None => refused(alloc, SceneKind::Missing, &place),
+    }
+}
+
 /// A digest that has to be there.
-pub fn needed_digest(
+#[tactic(auto, using(crate::proofs::BindLemmas::refused_needed))]
+pub(crate) fn needed_digest(
     alloc: Global,
     value: &Value,
     name: &str,
@@ -83,15 +104,13 @@ pub fn needed_digest(
 ) -> Result<Digest32, SceneFault>
     ensures { Gives result (needed digest_in name.now (view value.now) place.now) }
 {
-    let place = place.member(alloc, name)?;
-    match member(value, name) {
-        Some(digest) => digest_of(alloc, digest, &place),
-        None => refused(alloc, SceneKind::Missing, &place),
-    }
+    let (digest, place) = needed_member(alloc, value, name, place)?;
+    digest_of(alloc, digest, &place)
 }
 
 /// At most 128 bytes, which have to be there.
-pub fn needed_secret(
+#[tactic(auto, using(crate::proofs::BindLemmas::refused_needed))]
+pub(crate) fn needed_secret(
     alloc: Global,
     value: &Value,
     name: &str,
@@ -99,15 +118,12 @@ pub fn needed_secret(
 ) -> Result<Blob, SceneFault>
     ensures { Gives result (needed (bytes_up_to 128) name.now (view value.now) place.now) }
 {
-    let place = place.member(alloc, name)?;
-    match member(value, name) {
-        Some(secret) => bytes_up_to(alloc, secret, 128, &place),
-        None => refused(alloc, SceneKind::Missing, &place),
-    }
+    let (secret, place) = needed_member(alloc, value, name, place)?;
+    bytes_up_to(alloc, secret, 128, &place)
 }
 
 /// No byte or 32, without it none.
-pub fn optional_32(
+pub(crate) fn optional_32(
     alloc: Global,
     value: &Value,
     name: &str,

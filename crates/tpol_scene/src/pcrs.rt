@@ -8,7 +8,7 @@ ghost use Rattle.tpol_scene.specs.Members.{needed, optional};
 ghost use Rattle.tpol_scene.specs.Pcrs.{new_pcr_in, pcr_in, pcr_item, pcrs_in, zero_bank};
 
 use crate::fault::{item_place, refused};
-use crate::members::needed_digest;
+use crate::members::{needed_digest, needed_member};
 use crate::values::{check_object, unsigned_of, zero_digest};
 use crate::{SceneFault, SceneKind};
 use serde_json::Value;
@@ -28,7 +28,11 @@ pub struct PcrBank {
 
 /// The member `pcrs`: a list of PCRs with their values. Without it, and for the PCRs that it leaves out, the
 /// values are zero.
-pub fn optional_pcrs(alloc: Global, value: &Value, place: &Place) -> Result<PcrBank, SceneFault>
+pub(crate) fn optional_pcrs(
+    alloc: Global,
+    value: &Value,
+    place: &Place,
+) -> Result<PcrBank, SceneFault>
     ensures { Gives result (optional pcrs_in zero_bank (codes "pcrs") (view value.now) place.now) }
 {
     match member(value, "pcrs") {
@@ -83,15 +87,13 @@ fn read_pcr(
     Ok(())
 }
 
+#[tactic(auto, using(crate::proofs::BindLemmas::refused_needed))]
 fn needed_pcr(alloc: Global, bank: &PcrBank, item: &Value, place: &Place) -> Result<u8, SceneFault>
     ensures value { Gives result (needed (new_pcr_in bank.now) (codes "pcr") (view item.now) place.now) }
     ensures limit { IfOk result (λ pcr. pcr < 24) }
 {
-    let place = place.member(alloc, "pcr")?;
-    match member(item, "pcr") {
-        Some(pcr) => new_pcr(alloc, bank, pcr, &place),
-        None => refused(alloc, SceneKind::Missing, &place),
-    }
+    let (pcr, place) = needed_member(alloc, item, "pcr", place)?;
+    new_pcr(alloc, bank, pcr, &place)
 }
 
 // The number of a PCR that was not given a value before.

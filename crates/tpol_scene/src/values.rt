@@ -11,7 +11,7 @@ use tpol_base::{Blob, Digest32, Text};
 use tpol_json::{Place, bytes_of, number_of};
 
 /// An object is wanted here.
-pub fn check_object(alloc: Global, value: &Value, place: &Place) -> Result<(), SceneFault>
+pub(crate) fn check_object(alloc: Global, value: &Value, place: &Place) -> Result<(), SceneFault>
     ensures { Gives result (object_in (view value.now) place.now) }
 {
     match value {
@@ -21,21 +21,21 @@ pub fn check_object(alloc: Global, value: &Value, place: &Place) -> Result<(), S
 }
 
 /// A text.
-pub fn text_of(alloc: Global, value: &Value, place: &Place) -> Result<Text, SceneFault>
+pub(crate) fn text_of(alloc: Global, value: &Value, place: &Place) -> Result<Text, SceneFault>
     ensures { Gives result (text_in (view value.now) place.now) }
 {
     Ok(tpol_json::text_of(alloc, value, place)?)
 }
 
 /// A truth value.
-pub fn truth_of(alloc: Global, value: &Value, place: &Place) -> Result<bool, SceneFault>
+pub(crate) fn truth_of(alloc: Global, value: &Value, place: &Place) -> Result<bool, SceneFault>
     ensures { Gives result (truth_in (view value.now) place.now) }
 {
     Ok(tpol_json::truth_of(alloc, value, place)?)
 }
 
 /// A whole number from `least` to `greatest`.
-pub fn unsigned_of(
+pub(crate) fn unsigned_of(
     alloc: Global,
     value: &Value,
     least: u64,
@@ -51,14 +51,14 @@ pub fn unsigned_of(
 }
 
 /// A number of 32 bits.
-pub fn u32_of(alloc: Global, value: &Value, place: &Place) -> Result<u32, SceneFault>
+pub(crate) fn u32_of(alloc: Global, value: &Value, place: &Place) -> Result<u32, SceneFault>
     ensures { Gives result (u32_in (view value.now) place.now) }
 {
     Ok(unsigned_of(alloc, value, 0, u32::MAX as u64, place)? as u32)
 }
 
 /// At most `limit` bytes.
-pub fn bytes_up_to(
+pub(crate) fn bytes_up_to(
     alloc: Global,
     value: &Value,
     limit: usize,
@@ -75,7 +75,7 @@ pub fn bytes_up_to(
 }
 
 /// No byte, or 32.
-pub fn empty_or_32(alloc: Global, value: &Value, place: &Place) -> Result<Blob, SceneFault>
+pub(crate) fn empty_or_32(alloc: Global, value: &Value, place: &Place) -> Result<Blob, SceneFault>
     ensures { Gives result (empty_or_32 (view value.now) place.now) }
 {
     let bytes = bytes_of(alloc, value, place)?;
@@ -87,7 +87,7 @@ pub fn empty_or_32(alloc: Global, value: &Value, place: &Place) -> Result<Blob, 
 }
 
 /// 32 bytes.
-pub fn digest_of(alloc: Global, value: &Value, place: &Place) -> Result<Digest32, SceneFault>
+pub(crate) fn digest_of(alloc: Global, value: &Value, place: &Place) -> Result<Digest32, SceneFault>
     ensures { Gives result (digest_in (view value.now) place.now) }
 {
     let bytes = bytes_of(alloc, value, place)?;
@@ -99,7 +99,7 @@ pub fn digest_of(alloc: Global, value: &Value, place: &Place) -> Result<Digest32
 }
 
 /// An authorization value: at most 32 bytes, without the zero bytes at their end.
-pub fn auth_of(alloc: Global, value: &Value, place: &Place) -> Result<Blob, SceneFault>
+pub(crate) fn auth_of(alloc: Global, value: &Value, place: &Place) -> Result<Blob, SceneFault>
     ensures { Gives result (auth_in (view value.now) place.now) }
 {
     let bytes = bytes_up_to(alloc, value, 32, place)?;
@@ -118,7 +118,7 @@ fn without_zeros(bytes: &[u8]) -> &[u8]
 }
 
 /// 32 zero bytes.
-pub fn zero_digest() -> Digest32
+pub(crate) fn zero_digest() -> Digest32
     ensures { result ≡ zero_digest }
 {
     Digest32::ZERO
