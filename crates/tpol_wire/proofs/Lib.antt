@@ -1,6 +1,7 @@
 pub mod AreaLaws
 pub mod CommandLaws
 pub mod DigestLists
+pub mod Fronts
 pub mod Header
 pub mod KindLaws
 pub mod Lengths

@@ -1,5 +1,5 @@
 -- The fields of commands in their rows, and what bytes spell a command.
-use Rattle.std.specs.Prelude.{◌≡◌, ◌+◌, ℕ, Bool, true, false, List, [], ◌∷◌, ◌++◌, length}
+use Rattle.std.specs.Prelude.{◌≡◌, ◌+◌, ℕ, zero, suc, Bool, true, false, List, [], ◌∷◌, ◌++◌, length}
 use Rattle.std.specs.Int.{w16, w32, to_be_bytes}
 use Rattle.tpol_wire.specs.declared.command.Command.{Command}
 use Rattle.tpol_wire.specs.declared.command.Command.TheVariants as commands
@@ -24,6 +24,12 @@ pub record Fields (row : Row) : Type 0 where
 unfoldable pub spell_values : (kinds : List Kind) → Values kinds → List ℕ
 spell_values [] values = []
 spell_values (kind ∷ kinds) values = spell kind values.0 ++ spell_values kinds values.1
+
+-- the bytes of the value at a position alone
+unfoldable pub spell_value : ℕ → (kinds : List Kind) → Values kinds → List ℕ
+spell_value n [] values = []
+spell_value zero (kind ∷ kinds) values = spell kind values.0
+spell_value (suc n) (kind ∷ kinds) values = spell_value n kinds values.1
 
 unfoldable pub ValuesFit : (kinds : List Kind) → Values kinds → Type 0
 ValuesFit [] values = Unit {0}
@@ -160,6 +166,25 @@ spelling command = layout (code_of_command command) (fields_of command)
 -- the bytes of the parameters of a command
 abbrev pub spell_parameters : Command → List ℕ
 spell_parameters command = spell_values (row (code_of_command command)).parameters (fields_of command).parameters
+
+-- a policy command other than PolicySigned and PolicySecret
+abbrev pub is_other_policy : CommandCode → Bool
+is_other_policy codes.StartAuthSession = false
+is_other_policy codes.FlushContext = false
+is_other_policy codes.PolicyRestart = false
+is_other_policy codes.PolicyGetDigest = false
+is_other_policy codes.PcrExtend = false
+is_other_policy codes.PcrRead = false
+is_other_policy codes.VerifySignature = false
+is_other_policy codes.Unseal = false
+is_other_policy codes.Hmac = false
+is_other_policy codes.NvRead = false
+is_other_policy codes.NvWrite = false
+is_other_policy codes.NvIncrement = false
+is_other_policy codes.Duplicate = false
+is_other_policy codes.PolicySigned = false
+is_other_policy codes.PolicySecret = false
+is_other_policy code = true
 
 -- the bytes of its handles and its authorization
 abbrev pub spell_front : Command → List ℕ

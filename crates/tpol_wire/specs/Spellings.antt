@@ -1,5 +1,6 @@
 -- What a writer adds.
 use Rattle.std.specs.Prelude.{◌≡◌, ℕ, List, [], ◌++◌, true, Option, Some, None, Result, OnOk}
+use Rattle.std.specs.Int.{w32, to_be_bytes}
 use Rattle.tpol_wire.specs.declared.auth_area.AuthArea.{AuthArea}
 use Rattle.tpol_wire.specs.Areas.{authorization}
 use Rattle.tpol_base.specs.declared.no_memory.NoMemory.{NoMemory}
@@ -12,3 +13,8 @@ Appends result old new bytes = OnOk result (new ≡ old ++ bytes)
 abbrev pub spell_optional_area : Option AuthArea → List ℕ
 spell_optional_area None = []
 spell_optional_area (Some area) = authorization true area
+
+-- a handle, where there is one
+abbrev pub spell_handle : Option ℕ → List ℕ
+spell_handle None = []
+spell_handle (Some handle) = to_be_bytes w32 handle

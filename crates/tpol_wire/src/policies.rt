@@ -42,9 +42,9 @@ pub(crate) fn policy_nv(
     })
 }
 
-/// The parameters of TPM2_PolicyNV.
+/// The parameters of TPM2_PolicyNV and of TPM2_PolicyCounterTimer.
 #[tactic(auto, unfolding(crate::specs::Commands::spell_values, crate::specs::Kinds::spell))]
-pub(crate) fn write_policy_nv(
+pub(crate) fn write_comparison(
     out: &mut Blob,
     operand: &Blob,
     offset: u16,
@@ -67,9 +67,9 @@ pub(crate) fn policy_cp_hash(tagged: bool, cursor: &mut Cursor) -> Result<Comman
     Ok(Command::PolicyCpHash { session, digest })
 }
 
-/// The parameters of TPM2_PolicyCpHash.
+/// The parameters of TPM2_PolicyCpHash and of TPM2_PolicyNameHash.
 #[tactic(auto, unfolding(crate::specs::Commands::spell_values, crate::specs::Kinds::spell))]
-pub(crate) fn write_policy_cp_hash(out: &mut Blob, digest: &Digest32) -> Result<(), NoMemory>
+pub(crate) fn write_digest(out: &mut Blob, digest: &Digest32) -> Result<(), NoMemory>
     ensures { Appends result out.old out.new (spell_values (row CommandCode.PolicyCpHash).parameters (digest.now, tt)) }
 {
     spelling::sized_digest(out, digest)
@@ -83,14 +83,6 @@ pub(crate) fn policy_name_hash(tagged: bool, cursor: &mut Cursor) -> Result<Comm
     areas::no_area(tagged, cursor)?;
     let digest = fields::sized_digest(cursor, 1)?;
     Ok(Command::PolicyNameHash { session, digest })
-}
-
-/// The parameters of TPM2_PolicyNameHash.
-#[tactic(auto, unfolding(crate::specs::Commands::spell_values, crate::specs::Kinds::spell))]
-pub(crate) fn write_policy_name_hash(out: &mut Blob, digest: &Digest32) -> Result<(), NoMemory>
-    ensures { Appends result out.old out.new (spell_values (row CommandCode.PolicyNameHash).parameters (digest.now, tt)) }
-{
-    spelling::sized_digest(out, digest)
 }
 
 /// TPM2_PolicyAuthValue.
@@ -160,21 +152,6 @@ pub(crate) fn policy_counter_timer(
         offset,
         operation,
     })
-}
-
-/// The parameters of TPM2_PolicyCounterTimer.
-#[tactic(auto, unfolding(crate::specs::Commands::spell_values, crate::specs::Kinds::spell))]
-pub(crate) fn write_policy_counter_timer(
-    out: &mut Blob,
-    operand: &Blob,
-    offset: u16,
-    operation: Compare,
-) -> Result<(), NoMemory>
-    ensures { Appends result out.old out.new (spell_values (row CommandCode.PolicyCounterTimer).parameters (operand.now, (offset, (operation, tt)))) }
-{
-    spelling::sized(out, operand.as_slice())?;
-    spelling::number16(out, offset)?;
-    spelling::operation(out, operation)
 }
 
 /// TPM2_PolicyLocality.
@@ -270,7 +247,7 @@ pub(crate) fn policy_nv_written(tagged: bool, cursor: &mut Cursor) -> Result<Com
 
 /// The parameters of TPM2_PolicyNvWritten.
 #[tactic(auto, unfolding(crate::specs::Commands::spell_values, crate::specs::Kinds::spell))]
-pub(crate) fn write_policy_nv_written(out: &mut Blob, written: bool) -> Result<(), NoMemory>
+pub(crate) fn write_nv_written(out: &mut Blob, written: bool) -> Result<(), NoMemory>
     ensures { Appends result out.old out.new (spell_values (row CommandCode.PolicyNvWritten).parameters (written, tt)) }
 {
     spelling::truth(out, written)

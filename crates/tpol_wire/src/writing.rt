@@ -1,12 +1,11 @@
 //! Commands as bytes.
 
-ghost use Rattle.std.specs.Prelude.{◌≡◌, ◌++◌, IfOk, List, ℕ, MatchOption, [], option_copied};
-ghost use Rattle.std.specs.Int.{w32, to_be_bytes};
-ghost use Rattle.std.specs.List.{flat_map};
+ghost use Rattle.std.specs.Prelude.{◌≡◌, IfOk, List, ℕ, [], option_copied, true};
+ghost use Rattle.tpol_wire.specs.Areas.{authorization};
 ghost use Rattle.tpol_wire.specs.Codes.{number_of_code};
-ghost use Rattle.tpol_wire.specs.Commands.{code_of_command, FitsCommand, spelling as spelled, Spells, spell_front, spell_parameters, spell_values, tag};
+ghost use Rattle.tpol_wire.specs.Commands.{code_of_command, FitsCommand, fields_of, is_other_policy, spelling as spelled, Spells, spell_front, spell_parameters, spell_value, spell_values, tag};
 ghost use Rattle.tpol_wire.specs.Rows.{row};
-ghost use Rattle.tpol_wire.specs.Spellings.{Appends, spell_optional_area};
+ghost use Rattle.tpol_wire.specs.Spellings.{Appends, spell_handle, spell_optional_area};
 
 use crate::auth_area::AuthArea;
 use crate::command::Command;
@@ -60,99 +59,116 @@ pub fn code_of(command: &Command) -> u32
     command_code(command).number()
 }
 
-/// Handles, and the authorization where there is one.
-fn front_of(
-    alloc: Global,
-    out: &mut Blob,
-    handles: &[u32],
-    auth: Option<&AuthArea>,
-) -> Result<(), NoMemory>
-    ensures { Appends result out.old out.new (flat_map (to_be_bytes w32) handles.now ++ spell_optional_area (option_copied auth.entry)) }
+/// The first handle of a command.
+#[tactic(auto, unfolding(crate::specs::Commands::spell_value, crate::specs::Kinds::spell))]
+fn first_handle(command: &Command) -> Option<u32>
+    ensures { spell_handle result ≡ spell_value 0 (row (code_of_command command.now)).handles (fields_of command.now).handles }
 {
-    for handle in handles {
-        spelling::number32(out, *handle)?;
+    match command {
+        Command::FlushContext { .. } | Command::PcrRead { .. } => None,
+        Command::StartAuthSession { tpm_key, .. } => Some(*tpm_key),
+        Command::PcrExtend { pcr, .. } => Some(*pcr),
+        Command::PolicySecret { entity, .. } => Some(*entity),
+        Command::Unseal { object, .. } | Command::Duplicate { object, .. } => Some(*object),
+        Command::VerifySignature { key, .. }
+        | Command::Hmac { key, .. }
+        | Command::PolicySigned { key, .. } => Some(*key),
+        Command::NvRead { authority, .. }
+        | Command::NvWrite { authority, .. }
+        | Command::NvIncrement { authority, .. }
+        | Command::PolicyNv { authority, .. }
+        | Command::PolicyAuthorizeNv { authority, .. } => Some(*authority),
+        Command::PolicyRestart { session }
+        | Command::PolicyGetDigest { session }
+        | Command::PolicyCpHash { session, .. }
+        | Command::PolicyNameHash { session, .. }
+        | Command::PolicyAuthValue { session }
+        | Command::PolicyPassword { session }
+        | Command::PolicyPhysicalPresence { session }
+        | Command::PolicyCommandCode { session, .. }
+        | Command::PolicyCounterTimer { session, .. }
+        | Command::PolicyLocality { session, .. }
+        | Command::PolicyPcr { session, .. }
+        | Command::PolicyDuplicationSelect { session, .. }
+        | Command::PolicyNvWritten { session, .. }
+        | Command::PolicyAuthorize { session, .. }
+        | Command::PolicyOr { session, .. } => Some(*session),
     }
-    match auth {
-        Some(area) => spelling::area(alloc, out, area),
+}
+
+/// The second handle of a command that has one.
+#[tactic(auto, unfolding(crate::specs::Commands::spell_value, crate::specs::Kinds::spell))]
+fn second_handle(command: &Command) -> Option<u32>
+    ensures { spell_handle result ≡ spell_value 1 (row (code_of_command command.now)).handles (fields_of command.now).handles }
+{
+    match command {
+        Command::StartAuthSession { bind, .. } => Some(*bind),
+        Command::Duplicate { parent, .. } => Some(*parent),
+        Command::PolicySigned { session, .. } | Command::PolicySecret { session, .. } => {
+            Some(*session)
+        }
+        Command::NvRead { index, .. }
+        | Command::NvWrite { index, .. }
+        | Command::NvIncrement { index, .. }
+        | Command::PolicyNv { index, .. }
+        | Command::PolicyAuthorizeNv { index, .. } => Some(*index),
+        _ => None,
+    }
+}
+
+/// The third handle of a command that has one.
+#[tactic(auto, unfolding(crate::specs::Commands::spell_value, crate::specs::Kinds::spell))]
+fn third_handle(command: &Command) -> Option<u32>
+    ensures { spell_handle result ≡ spell_value 2 (row (code_of_command command.now)).handles (fields_of command.now).handles }
+{
+    match command {
+        Command::PolicyNv { session, .. } | Command::PolicyAuthorizeNv { session, .. } => {
+            Some(*session)
+        }
+        _ => None,
+    }
+}
+
+/// The authorization of a command that takes one.
+#[tactic(auto, unfolding(crate::specs::Commands::spell_values, crate::specs::Kinds::spell))]
+fn authorization(command: &Command) -> Option<&AuthArea>
+    ensures { spell_optional_area (option_copied result) ≡ authorization (row (code_of_command command.now)).is_authorized (fields_of command.now).area }
+{
+    match command {
+        Command::PcrExtend { auth, .. }
+        | Command::Unseal { auth, .. }
+        | Command::Hmac { auth, .. }
+        | Command::NvRead { auth, .. }
+        | Command::NvWrite { auth, .. }
+        | Command::NvIncrement { auth, .. }
+        | Command::Duplicate { auth, .. }
+        | Command::PolicyNv { auth, .. }
+        | Command::PolicySecret { auth, .. }
+        | Command::PolicyAuthorizeNv { auth, .. } => Some(auth),
+        _ => None,
+    }
+}
+
+/// A handle, where there is one.
+fn handle(out: &mut Blob, handle: Option<u32>) -> Result<(), NoMemory>
+    ensures { Appends result out.old out.new (spell_handle handle) }
+{
+    match handle {
+        Some(handle) => spelling::number32(out, handle),
         None => Ok(()),
     }
 }
 
 /// The handles of a command, and its authorization.
-#[tactic(auto, unfolding(crate::specs::Commands::spell_values, crate::specs::Kinds::spell))]
 fn front(alloc: Global, out: &mut Blob, command: &Command) -> Result<(), NoMemory>
     ensures { Appends result out.old out.new (spell_front command.now) }
 {
-    match command {
-        Command::StartAuthSession { tpm_key, bind, .. } => front_of(
-            alloc,
-            out,
-            &[*tpm_key, *bind],
-            None,
-        ),
-        Command::FlushContext { .. } => front_of(alloc, out, &[], None),
-        Command::PolicyRestart { session } => front_of(alloc, out, &[*session], None),
-        Command::PolicyGetDigest { session } => front_of(alloc, out, &[*session], None),
-        Command::PcrExtend { pcr, auth, .. } => front_of(alloc, out, &[*pcr], Some(auth)),
-        Command::PcrRead { .. } => front_of(alloc, out, &[], None),
-        Command::VerifySignature { key, .. } => front_of(alloc, out, &[*key], None),
-        Command::Unseal { object, auth } => front_of(alloc, out, &[*object], Some(auth)),
-        Command::Hmac { key, auth, .. } => front_of(alloc, out, &[*key], Some(auth)),
-        Command::NvRead {
-            authority,
-            index,
-            auth,
-            ..
-        } => front_of(alloc, out, &[*authority, *index], Some(auth)),
-        Command::NvWrite {
-            authority,
-            index,
-            auth,
-            ..
-        } => front_of(alloc, out, &[*authority, *index], Some(auth)),
-        Command::NvIncrement {
-            authority,
-            index,
-            auth,
-        } => front_of(alloc, out, &[*authority, *index], Some(auth)),
-        Command::Duplicate {
-            object,
-            parent,
-            auth,
-        } => front_of(alloc, out, &[*object, *parent], Some(auth)),
-        Command::PolicyNv {
-            authority,
-            index,
-            session,
-            auth,
-            ..
-        } => front_of(alloc, out, &[*authority, *index, *session], Some(auth)),
-        Command::PolicyCpHash { session, .. } => front_of(alloc, out, &[*session], None),
-        Command::PolicyNameHash { session, .. } => front_of(alloc, out, &[*session], None),
-        Command::PolicyAuthValue { session } => front_of(alloc, out, &[*session], None),
-        Command::PolicyPassword { session } => front_of(alloc, out, &[*session], None),
-        Command::PolicyPhysicalPresence { session } => front_of(alloc, out, &[*session], None),
-        Command::PolicyCommandCode { session, .. } => front_of(alloc, out, &[*session], None),
-        Command::PolicyCounterTimer { session, .. } => front_of(alloc, out, &[*session], None),
-        Command::PolicyLocality { session, .. } => front_of(alloc, out, &[*session], None),
-        Command::PolicyPcr { session, .. } => front_of(alloc, out, &[*session], None),
-        Command::PolicyDuplicationSelect { session, .. } => front_of(alloc, out, &[*session], None),
-        Command::PolicyNvWritten { session, .. } => front_of(alloc, out, &[*session], None),
-        Command::PolicySigned { key, session, .. } => front_of(alloc, out, &[*key, *session], None),
-        Command::PolicySecret {
-            entity,
-            session,
-            auth,
-            ..
-        } => front_of(alloc, out, &[*entity, *session], Some(auth)),
-        Command::PolicyAuthorize { session, .. } => front_of(alloc, out, &[*session], None),
-        Command::PolicyOr { session, .. } => front_of(alloc, out, &[*session], None),
-        Command::PolicyAuthorizeNv {
-            authority,
-            index,
-            session,
-            auth,
-        } => front_of(alloc, out, &[*authority, *index, *session], Some(auth)),
+    handle(out, first_handle(command))?;
+    handle(out, second_handle(command))?;
+    handle(out, third_handle(command))?;
+    match authorization(command) {
+        Some(area) => spelling::area(alloc, out, area),
+        None => Ok(()),
     }
 }
 
@@ -170,10 +186,12 @@ fn parameters(out: &mut Blob, command: &Command) -> Result<(), NoMemory>
     ensures { Appends result out.old out.new (spell_parameters command.now) }
 {
     match command {
+        Command::PolicyRestart { .. }
+        | Command::PolicyGetDigest { .. }
+        | Command::Unseal { .. }
+        | Command::NvIncrement { .. } => nothing(out),
         Command::StartAuthSession { nonce, .. } => sessions::write_start_auth_session(out, nonce),
         Command::FlushContext { session } => sessions::write_flush_context(out, *session),
-        Command::PolicyRestart { .. } => nothing(out),
-        Command::PolicyGetDigest { .. } => nothing(out),
         Command::PcrExtend { digest, .. } => pcrs::write_pcr_extend(out, digest),
         Command::PcrRead { mask } => pcrs::write_pcr_read(out, *mask),
         Command::VerifySignature {
@@ -181,41 +199,10 @@ fn parameters(out: &mut Blob, command: &Command) -> Result<(), NoMemory>
             signature,
             ..
         } => objects::write_verify_signature(out, digest, signature),
-        Command::Unseal { .. } => nothing(out),
         Command::Hmac { buffer, hash, .. } => objects::write_hmac(out, buffer, *hash),
         Command::NvRead { size, offset, .. } => indices::write_nv_read(out, *size, *offset),
         Command::NvWrite { bytes, offset, .. } => indices::write_nv_write(out, bytes, *offset),
-        Command::NvIncrement { .. } => nothing(out),
         Command::Duplicate { .. } => objects::write_duplicate(out),
-        Command::PolicyNv {
-            operand,
-            offset,
-            operation,
-            ..
-        } => policies::write_policy_nv(out, operand, *offset, *operation),
-        Command::PolicyCpHash { digest, .. } => policies::write_policy_cp_hash(out, digest),
-        Command::PolicyNameHash { digest, .. } => policies::write_policy_name_hash(out, digest),
-        Command::PolicyAuthValue { .. } => nothing(out),
-        Command::PolicyPassword { .. } => nothing(out),
-        Command::PolicyPhysicalPresence { .. } => nothing(out),
-        Command::PolicyCommandCode { code, .. } => policies::write_policy_command_code(out, *code),
-        Command::PolicyCounterTimer {
-            operand,
-            offset,
-            operation,
-            ..
-        } => policies::write_policy_counter_timer(out, operand, *offset, *operation),
-        Command::PolicyLocality { locality, .. } => policies::write_policy_locality(out, *locality),
-        Command::PolicyPcr { given, mask, .. } => policies::write_policy_pcr(out, given, *mask),
-        Command::PolicyDuplicationSelect {
-            object,
-            parent,
-            include,
-            ..
-        } => policies::write_policy_duplication_select(out, object, parent, *include),
-        Command::PolicyNvWritten { written, .. } => policies::write_policy_nv_written(
-            out, *written,
-        ),
         Command::PolicySigned {
             nonce,
             cp_hash,
@@ -231,6 +218,41 @@ fn parameters(out: &mut Blob, command: &Command) -> Result<(), NoMemory>
             expiration,
             ..
         } => policies::write_policy_secret(out, nonce, cp_hash, policy_ref, expiration),
+        _ => policy_parameters(out, command),
+    }
+}
+
+/// The parameters of a policy command other than PolicySigned and PolicySecret.
+fn policy_parameters(out: &mut Blob, command: &Command) -> Result<(), NoMemory>
+    requires { is_other_policy (code_of_command command.now) ≡ true }
+    ensures { Appends result out.old out.new (spell_parameters command.now) }
+{
+    match command {
+        Command::PolicyNv {
+            operand,
+            offset,
+            operation,
+            ..
+        }
+        | Command::PolicyCounterTimer {
+            operand,
+            offset,
+            operation,
+            ..
+        } => policies::write_comparison(out, operand, *offset, *operation),
+        Command::PolicyCpHash { digest, .. } | Command::PolicyNameHash { digest, .. } => {
+            policies::write_digest(out, digest)
+        }
+        Command::PolicyCommandCode { code, .. } => policies::write_policy_command_code(out, *code),
+        Command::PolicyLocality { locality, .. } => policies::write_policy_locality(out, *locality),
+        Command::PolicyPcr { given, mask, .. } => policies::write_policy_pcr(out, given, *mask),
+        Command::PolicyDuplicationSelect {
+            object,
+            parent,
+            include,
+            ..
+        } => policies::write_policy_duplication_select(out, object, parent, *include),
+        Command::PolicyNvWritten { written, .. } => policies::write_nv_written(out, *written),
         Command::PolicyAuthorize {
             approved,
             policy_ref,
@@ -239,7 +261,7 @@ fn parameters(out: &mut Blob, command: &Command) -> Result<(), NoMemory>
             ..
         } => policies::write_policy_authorize(out, approved, policy_ref, key, ticket),
         Command::PolicyOr { digests, .. } => policies::write_policy_or(out, digests),
-        Command::PolicyAuthorizeNv { .. } => nothing(out),
+        _ => nothing(out),
     }
 }
 
