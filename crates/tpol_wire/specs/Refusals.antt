@@ -4,42 +4,55 @@ use Rattle.std.specs.Borrow.{Bor}
 use Rattle.tpol_wire.specs.declared.fault.WireFault.{WireFault}
 use Rattle.tpol_wire.specs.declared.fault.WireFault.TheVariants.{Refused, NoMemory}
 
--- the tag is neither 8001 nor 8002
+-- TPM_RC_BAD_TAG: the tag is neither 8001 nor 8002
 abbrev pub bad_tag : ℕ
 bad_tag = 0x01e
 
--- a value, a hash, a size, the number of bytes, of a handle, a session or a parameter
+-- ---- codes that the position of a handle, a session or a parameter is added to
+
+-- TPM_RC_ATTRIBUTES: an attribute bit that may not be set
 abbrev pub bad_attributes : ℕ
 bad_attributes = 0x082
 
+-- TPM_RC_HASH: a hash algorithm other than the row's
 abbrev pub bad_hash : ℕ
 bad_hash = 0x083
 
+-- TPM_RC_VALUE: a value out of its range
 abbrev pub bad_value : ℕ
 bad_value = 0x084
 
+-- TPM_RC_NONCE: a nonce where none may be
 abbrev pub bad_nonce : ℕ
 bad_nonce = 0x08f
 
+-- TPM_RC_SIZE: a length or a count out of its bounds, or bytes left over
 abbrev pub bad_size : ℕ
 bad_size = 0x095
 
+-- TPM_RC_INSUFFICIENT: too few bytes
 abbrev pub insufficient : ℕ
 insufficient = 0x09a
 
--- an authorization is missing; the command's size, its code, the authorization's size are wrong; an authorization is too much
+-- ---- codes of a whole command
+
+-- TPM_RC_AUTH_MISSING: the command needs an authorization
 abbrev pub auth_missing : ℕ
 auth_missing = 0x125
 
+-- TPM_RC_COMMAND_SIZE: the size of the buffer is wrong
 abbrev pub command_size : ℕ
 command_size = 0x142
 
+-- TPM_RC_COMMAND_CODE: no command has this code
 abbrev pub command_code : ℕ
 command_code = 0x143
 
+-- TPM_RC_AUTHSIZE: the size of the authorization is wrong
 abbrev pub auth_size : ℕ
 auth_size = 0x144
 
+-- TPM_RC_AUTH_CONTEXT: the command takes no authorization
 abbrev pub auth_context : ℕ
 auth_context = 0x145
 

@@ -8,14 +8,12 @@ ghost use Rattle.tpol_wire.specs.Refusals.{Gives, Reads, Finds, FindsFront, Find
 
 use crate::auth_area::AuthArea;
 use crate::codes;
+use crate::constants::TPM_RS_PW;
 use crate::fault::WireFault;
 use crate::fields::refused;
 use crate::handle_kind::HandleKind;
 use std::alloc::Global;
 use tpol_base::{Blob, Cursor};
-
-/// The handle that stands for a password (TPM_RS_PW).
-const PASSWORD: u32 = 0x4000_0009;
 
 /// The end of an area, lent: all of it.
 #[derive(Drop)]
@@ -25,8 +23,8 @@ pub(crate) struct Tail<'a> {
     pub(crate) hmac: &'a [u8],
 }
 
-/// A 2B of any length.
-fn sized<'a>(cursor: &mut Cursor<'a>) -> Option<&'a [u8]>
+/// A 2B of any length, lent.
+fn any_buffer<'a>(cursor: &mut Cursor<'a>) -> Option<&'a [u8]>
     ensures { FindsSlice result (sized_at 0 is_any_length cursor.old) cursor.new }
 {
     let length = cursor.u16()?;
@@ -37,9 +35,9 @@ fn sized<'a>(cursor: &mut Cursor<'a>) -> Option<&'a [u8]>
 pub(crate) fn read_tail<'a>(cursor: &mut Cursor<'a>) -> Option<Tail<'a>>
     ensures { Finds (λ tail. (tail.nonce.now, tail.attributes, tail.hmac.now)) result (tail_of cursor.old) }
 {
-    let nonce = sized(cursor)?;
+    let nonce = any_buffer(cursor)?;
     let attributes = cursor.u8()?;
-    let hmac = sized(cursor)?;
+    let hmac = any_buffer(cursor)?;
     if cursor.left() != 0 {
         return None;
     }
@@ -77,13 +75,13 @@ fn judge(session: u32, tail: &Tail) -> Result<(), WireFault>
     if tail.nonce.len() > 32 || tail.hmac.len() > 64 {
         return Err(refused(codes::SIZE + codes::SESSION));
     }
-    if session != PASSWORD && !HandleKind::Session.has(session) {
+    if session != TPM_RS_PW && !HandleKind::Session.has(session) {
         return Err(refused(codes::VALUE + codes::SESSION));
     }
     if tail.attributes > 1 {
         return Err(refused(codes::ATTRIBUTES + codes::SESSION));
     }
-    if session == PASSWORD && !tail.nonce.is_empty() {
+    if session == TPM_RS_PW && !tail.nonce.is_empty() {
         return Err(refused(codes::NONCE + codes::SESSION));
     }
     Ok(())

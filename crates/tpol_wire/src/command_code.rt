@@ -3,6 +3,8 @@ ghost use Rattle.tpol_wire.specs.Codes.{code_of_number, number_of_code};
 ghost use Rattle.tpol_wire.specs.Commands.{tag};
 ghost use Rattle.tpol_wire.specs.Rows.{row};
 
+use crate::constants::{TPM_ST_NO_SESSIONS, TPM_ST_SESSIONS};
+
 /// The commands of the table, with their codes (TPM 2.0 Part 2, TPM_CC).
 #[derive(Clone, Copy)]
 pub(crate) enum CommandCode {
@@ -114,6 +116,10 @@ impl CommandCode {
     pub(crate) fn tag(self) -> u16
         ensures { result ≡ tag (row self).is_authorized }
     {
-        if self.is_authorized() { 0x8002 } else { 0x8001 }
+        if self.is_authorized() {
+            TPM_ST_SESSIONS
+        } else {
+            TPM_ST_NO_SESSIONS
+        }
     }
 }

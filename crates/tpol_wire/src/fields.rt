@@ -9,18 +9,12 @@ ghost use Rattle.tpol_wire.specs.Kinds.{read, number_at, bytes_at, sized_at, dig
 ghost use Rattle.tpol_wire.specs.Rows.{handle as handle_kind, byte as byte_kind, short as short_kind, long as long_kind, read_size as size_kind, hash as hash_kind, fixed as fixed_kind, fixed_byte as fixed_byte_kind, sized_digest as sized_digest_kind, empty as empty_kind, empty_ticket as empty_ticket_kind, one_digest as one_digest_kind, selection as selection_kind, signature as signature_kind};
 
 use crate::codes;
+use crate::constants::{TPM_ALG_HMAC, TPM_ALG_NULL, TPM_ALG_SHA256, TPM_RH_NULL};
 use crate::fault::WireFault;
 use crate::handle_kind::HandleKind;
 use crate::ticket::Ticket;
 use std::alloc::Global;
 use tpol_base::{Blob, Compare, Cursor, Digest32, Digests, Name, Rc};
-
-/// SHA-256 (TPM 2.0 Part 2, TPM_ALG_SHA256).
-const SHA256: u16 = 0x000b;
-/// The null algorithm (TPM_ALG_NULL).
-const NULL: u16 = 0x0010;
-/// HMAC (TPM_ALG_HMAC).
-const HMAC: u16 = 0x0005;
 
 /// A refusal with this code.
 pub(crate) fn refused(code: u32) -> WireFault
@@ -38,9 +32,11 @@ fn of_parameter(n: u32, code: u32) -> WireFault
     refused(code + 0x040 + 0x100 * n)
 }
 
-fn number8(cursor: &mut Cursor, n: u32) -> Result<u8, WireFault>
+/// Any byte.
+pub(crate) fn number8(cursor: &mut Cursor, n: u32) -> Result<u8, WireFault>
     requires { n < 16 }
-    ensures { Reads result (number_at (0x040 + 0x100 * n) w8 cursor.old) cursor.new }
+    ensures number { Reads result (number_at (0x040 + 0x100 * n) w8 cursor.old) cursor.new }
+    ensures field { Reads result (read (0x040 + 0x100 * n) byte_kind cursor.old) cursor.new }
 {
     match cursor.u8() {
         Some(number) => Ok(number),
@@ -48,9 +44,11 @@ fn number8(cursor: &mut Cursor, n: u32) -> Result<u8, WireFault>
     }
 }
 
+/// Any number of two bytes.
 pub(crate) fn number16(cursor: &mut Cursor, n: u32) -> Result<u16, WireFault>
     requires { n < 16 }
-    ensures { Reads result (number_at (0x040 + 0x100 * n) w16 cursor.old) cursor.new }
+    ensures number { Reads result (number_at (0x040 + 0x100 * n) w16 cursor.old) cursor.new }
+    ensures field { Reads result (read (0x040 + 0x100 * n) short_kind cursor.old) cursor.new }
 {
     match cursor.u16() {
         Some(number) => Ok(number),
@@ -58,9 +56,11 @@ pub(crate) fn number16(cursor: &mut Cursor, n: u32) -> Result<u16, WireFault>
     }
 }
 
+/// Any number of four bytes.
 pub(crate) fn number32(cursor: &mut Cursor, n: u32) -> Result<u32, WireFault>
     requires { n < 16 }
-    ensures { Reads result (number_at (0x040 + 0x100 * n) w32 cursor.old) cursor.new }
+    ensures number { Reads result (number_at (0x040 + 0x100 * n) w32 cursor.old) cursor.new }
+    ensures field { Reads result (read (0x040 + 0x100 * n) long_kind cursor.old) cursor.new }
 {
     match cursor.u32() {
         Some(number) => Ok(number),
@@ -68,6 +68,7 @@ pub(crate) fn number32(cursor: &mut Cursor, n: u32) -> Result<u32, WireFault>
     }
 }
 
+/// So many bytes, lent.
 pub(crate) fn bytes<'a>(
     cursor: &mut Cursor<'a>,
     n: u32,
@@ -83,8 +84,8 @@ pub(crate) fn bytes<'a>(
     }
 }
 
-/// A 2B of any length.
-fn any_sized<'a>(cursor: &mut Cursor<'a>, n: u32) -> Result<&'a [u8], WireFault>
+/// A 2B of any length, lent.
+fn any_buffer<'a>(cursor: &mut Cursor<'a>, n: u32) -> Result<&'a [u8], WireFault>
     requires { n < 16 }
     ensures { ReadsSlice result (sized_at (0x040 + 0x100 * n) is_any_length cursor.old) cursor.new }
 {
@@ -92,8 +93,8 @@ fn any_sized<'a>(cursor: &mut Cursor<'a>, n: u32) -> Result<&'a [u8], WireFault>
     bytes(cursor, n, usize::from(length))
 }
 
-/// A 2B of at most `most` bytes.
-fn bounded<'a>(cursor: &mut Cursor<'a>, n: u32, most: u16) -> Result<&'a [u8], WireFault>
+/// A 2B of at most `most` bytes, lent.
+fn bounded_buffer<'a>(cursor: &mut Cursor<'a>, n: u32, most: u16) -> Result<&'a [u8], WireFault>
     requires { n < 16 }
     ensures { ReadsSlice result (sized_at (0x040 + 0x100 * n) (λ k. nat_le k most) cursor.old) cursor.new }
 {
@@ -134,30 +135,6 @@ pub(crate) fn handle_parameter(
     Ok(handle)
 }
 
-/// Any byte.
-pub(crate) fn byte(cursor: &mut Cursor, n: u32) -> Result<u8, WireFault>
-    requires { n < 16 }
-    ensures { Reads result (read (0x040 + 0x100 * n) byte_kind cursor.old) cursor.new }
-{
-    number8(cursor, n)
-}
-
-/// Any number of two bytes.
-pub(crate) fn short(cursor: &mut Cursor, n: u32) -> Result<u16, WireFault>
-    requires { n < 16 }
-    ensures { Reads result (read (0x040 + 0x100 * n) short_kind cursor.old) cursor.new }
-{
-    number16(cursor, n)
-}
-
-/// Any number of four bytes.
-pub(crate) fn long(cursor: &mut Cursor, n: u32) -> Result<u32, WireFault>
-    requires { n < 16 }
-    ensures { Reads result (read (0x040 + 0x100 * n) long_kind cursor.old) cursor.new }
-{
-    number32(cursor, n)
-}
-
 /// A size of at most 1,024.
 pub(crate) fn size(cursor: &mut Cursor, n: u32) -> Result<u16, WireFault>
     requires { n < 16 }
@@ -176,7 +153,7 @@ pub(crate) fn hash(cursor: &mut Cursor, n: u32) -> Result<u16, WireFault>
     ensures { Reads result (read (0x040 + 0x100 * n) hash_kind cursor.old) cursor.new }
 {
     let hash = number16(cursor, n)?;
-    if hash != SHA256 && hash != NULL {
+    if hash != TPM_ALG_SHA256 && hash != TPM_ALG_NULL {
         return Err(of_parameter(n, codes::HASH));
     }
     Ok(hash)
@@ -259,7 +236,8 @@ fn digest(cursor: &mut Cursor, n: u32) -> Result<Digest32, WireFault>
 /// A 2B of 32 bytes.
 pub(crate) fn sized_digest(cursor: &mut Cursor, n: u32) -> Result<Digest32, WireFault>
     requires { n < 16 }
-    ensures { Reads result (read (0x040 + 0x100 * n) sized_digest_kind cursor.old) cursor.new }
+    ensures field { Reads result (read (0x040 + 0x100 * n) sized_digest_kind cursor.old) cursor.new }
+    ensures listed { Reads result (listed_digest (0x040 + 0x100 * n) cursor.old) cursor.new }
 {
     fixed(cursor, n, 32, codes::SIZE)?;
     digest(cursor, n)
@@ -282,7 +260,7 @@ pub(crate) fn optional(cursor: &mut Cursor, n: u32) -> Result<Option<Digest32>, 
 }
 
 /// A 2B of at most `most` bytes, copied.
-pub(crate) fn sized(
+pub(crate) fn copied_buffer(
     alloc: Global,
     cursor: &mut Cursor,
     n: u32,
@@ -291,7 +269,7 @@ pub(crate) fn sized(
     requires { n < 16 }
     ensures { Reads result (read (0x040 + 0x100 * n) (Sized most) cursor.old) cursor.new }
 {
-    let bytes = bounded(cursor, n, most)?;
+    let bytes = bounded_buffer(cursor, n, most)?;
     Ok(Blob::from_slice(alloc, bytes)?)
 }
 
@@ -300,7 +278,7 @@ pub(crate) fn name(cursor: &mut Cursor, n: u32) -> Result<Name, WireFault>
     requires { n < 16 }
     ensures { Reads result (read (0x040 + 0x100 * n) Named cursor.old) cursor.new }
 {
-    let bytes = any_sized(cursor, n)?;
+    let bytes = any_buffer(cursor, n)?;
     match Name::from_bytes(bytes) {
         Some(name) => Ok(name),
         None => Err(of_parameter(n, codes::SIZE)),
@@ -308,14 +286,14 @@ pub(crate) fn name(cursor: &mut Cursor, n: u32) -> Result<Name, WireFault>
 }
 
 /// One digest of SHA-256 behind its count and its algorithm (TPML_DIGEST_VALUES).
-pub(crate) fn one_digest(cursor: &mut Cursor, n: u32) -> Result<Digest32, WireFault>
+pub(crate) fn digest_values(cursor: &mut Cursor, n: u32) -> Result<Digest32, WireFault>
     requires { n < 16 }
     ensures { Reads result (read (0x040 + 0x100 * n) one_digest_kind cursor.old) cursor.new }
 {
     if number32(cursor, n)? != 1 {
         return Err(of_parameter(n, codes::SIZE));
     }
-    fixed(cursor, n, SHA256, codes::HASH)?;
+    fixed(cursor, n, TPM_ALG_SHA256, codes::HASH)?;
     digest(cursor, n)
 }
 
@@ -327,7 +305,7 @@ pub(crate) fn selection(cursor: &mut Cursor, n: u32) -> Result<u32, WireFault>
     if number32(cursor, n)? != 1 {
         return Err(of_parameter(n, codes::SIZE));
     }
-    fixed(cursor, n, SHA256, codes::HASH)?;
+    fixed(cursor, n, TPM_ALG_SHA256, codes::HASH)?;
     fixed_byte(cursor, n, 3, codes::VALUE)?;
     mask(cursor, n)
 }
@@ -341,13 +319,13 @@ fn mask(cursor: &mut Cursor, n: u32) -> Result<u32, WireFault>
     Ok(u32::from(mask[0]) + 256 * u32::from(mask[1]) + 65536 * u32::from(mask[2]))
 }
 
-/// An HMAC with SHA-256 (TPMT_SIGNATURE).
+/// An TPM_ALG_HMAC with SHA-256 (TPMT_SIGNATURE).
 pub(crate) fn signature(cursor: &mut Cursor, n: u32) -> Result<Digest32, WireFault>
     requires { n < 16 }
     ensures { Reads result (read (0x040 + 0x100 * n) signature_kind cursor.old) cursor.new }
 {
-    fixed(cursor, n, HMAC, codes::VALUE)?;
-    fixed(cursor, n, SHA256, codes::HASH)?;
+    fixed(cursor, n, TPM_ALG_HMAC, codes::VALUE)?;
+    fixed(cursor, n, TPM_ALG_SHA256, codes::HASH)?;
     digest(cursor, n)
 }
 
@@ -358,7 +336,7 @@ pub(crate) fn ticket(alloc: Global, cursor: &mut Cursor, n: u32) -> Result<Ticke
 {
     let tag = number16(cursor, n)?;
     let hierarchy = number32(cursor, n)?;
-    let digest = bounded(cursor, n, 64)?;
+    let digest = bounded_buffer(cursor, n, 64)?;
     Ok(Ticket {
         tag,
         hierarchy,
@@ -384,6 +362,7 @@ pub(crate) fn digests(
     counted_digests(alloc, cursor, n, count)
 }
 
+/// That many 2Bs of 32 bytes.
 fn counted_digests(
     alloc: Global,
     cursor: &mut Cursor,
@@ -395,23 +374,10 @@ fn counted_digests(
 {
     let mut digests = Digests::new(alloc);
     for _ in 0..count {
-        let digest = one_sized(cursor, n)?;
+        let digest = sized_digest(cursor, n)?;
         digests.push(digest)?;
     }
     Ok(digests)
-}
-
-/// A 2B of 32 bytes in a list.
-fn one_sized(cursor: &mut Cursor, n: u32) -> Result<Digest32, WireFault>
-    requires { n < 16 }
-    ensures { Reads result (listed_digest (0x040 + 0x100 * n) cursor.old) cursor.new }
-{
-    let length = number16(cursor, n)?;
-    if length != 32 {
-        return Err(of_parameter(n, codes::SIZE));
-    }
-    let digest = bytes(cursor, n, 32)?;
-    Ok(Digest32::from_slice(digest))
 }
 
 /// A ticket of this tag and the null hierarchy, with no bytes.
@@ -422,7 +388,7 @@ pub(crate) fn empty_ticket(cursor: &mut Cursor, n: u32, tag: u16) -> Result<(), 
     if number16(cursor, n)? != tag {
         return Err(of_parameter(n, codes::VALUE));
     }
-    if number32(cursor, n)? != 0x4000_0007 {
+    if number32(cursor, n)? != TPM_RH_NULL {
         return Err(of_parameter(n, codes::VALUE));
     }
     fixed(cursor, n, 0, codes::SIZE)

@@ -1,6 +1,8 @@
 ghost use Rattle.std.specs.Prelude.{◌≡◌};
 ghost use Rattle.tpol_wire.specs.Handles.{is_of_kind};
 
+use crate::constants::{TPM_RH_ENDORSEMENT, TPM_RH_LOCKOUT, TPM_RH_NULL, TPM_RH_OWNER};
+
 /// What a handle of a command may name (TPM 2.0 Part 2, TPM_HANDLE).
 #[derive(Clone, Copy)]
 pub(crate) enum HandleKind {
@@ -22,15 +24,6 @@ pub(crate) enum HandleKind {
     Parent,
 }
 
-/// The owner hierarchy.
-const OWNER: u32 = 0x4000_0001;
-/// The null hierarchy.
-const NULL: u32 = 0x4000_0007;
-/// The lockout hierarchy.
-const LOCKOUT: u32 = 0x4000_000a;
-/// The endorsement hierarchy.
-const ENDORSEMENT: u32 = 0x4000_000b;
-
 impl HandleKind {
     /// Whether a handle is of this kind.
     pub(crate) fn has(self, handle: u32) -> bool
@@ -42,16 +35,16 @@ impl HandleKind {
             HandleKind::Object => range == 0x80,
             HandleKind::Index => range == 0x01,
             HandleKind::Entity => {
-                handle == OWNER
-                    || handle == LOCKOUT
-                    || handle == ENDORSEMENT
+                handle == TPM_RH_OWNER
+                    || handle == TPM_RH_LOCKOUT
+                    || handle == TPM_RH_ENDORSEMENT
                     || range == 0x80
                     || range == 0x01
             }
-            HandleKind::Authority => handle == OWNER || range == 0x01,
+            HandleKind::Authority => handle == TPM_RH_OWNER || range == 0x01,
             HandleKind::Pcr => handle < 24,
-            HandleKind::Null => handle == NULL,
-            HandleKind::Parent => handle == NULL || range == 0x80,
+            HandleKind::Null => handle == TPM_RH_NULL,
+            HandleKind::Parent => handle == TPM_RH_NULL || range == 0x80,
         }
     }
 }

@@ -27,7 +27,7 @@ pub(crate) fn nv_read(
     let index = fields::handle(cursor, 2, HandleKind::Index)?;
     let auth = areas::area(alloc, tagged, cursor)?;
     let size = fields::size(cursor, 1)?;
-    let offset = fields::short(cursor, 2)?;
+    let offset = fields::number16(cursor, 2)?;
     Ok(Command::NvRead {
         authority,
         index,
@@ -57,8 +57,8 @@ pub(crate) fn nv_write(
     let authority = fields::handle(cursor, 1, HandleKind::Authority)?;
     let index = fields::handle(cursor, 2, HandleKind::Index)?;
     let auth = areas::area(alloc, tagged, cursor)?;
-    let bytes = fields::sized(alloc, cursor, 1, 1024)?;
-    let offset = fields::short(cursor, 2)?;
+    let bytes = fields::copied_buffer(alloc, cursor, 1, 1024)?;
+    let offset = fields::number16(cursor, 2)?;
     Ok(Command::NvWrite {
         authority,
         index,

@@ -8,6 +8,7 @@ mod auth_area;
 mod codes;
 mod command;
 mod command_code;
+mod constants;
 mod fault;
 mod fields;
 mod handle_kind;

@@ -9,6 +9,7 @@ ghost use Rattle.tpol_wire.specs.Spellings.{Appends};
 
 use crate::command::Command;
 use crate::command_code::CommandCode;
+use crate::constants::TPM_ALG_NULL;
 use crate::fault::WireFault;
 use crate::handle_kind::HandleKind;
 use crate::{areas, codes, fields, spelling};
@@ -58,7 +59,7 @@ pub(crate) fn hmac(alloc: Global, tagged: bool, cursor: &mut Cursor) -> Result<C
 {
     let key = fields::handle(cursor, 1, HandleKind::Object)?;
     let auth = areas::area(alloc, tagged, cursor)?;
-    let buffer = fields::sized(alloc, cursor, 1, 1024)?;
+    let buffer = fields::copied_buffer(alloc, cursor, 1, 1024)?;
     let hash = fields::hash(cursor, 2)?;
     Ok(Command::Hmac {
         key,
@@ -89,7 +90,7 @@ pub(crate) fn duplicate(
     let parent = fields::handle(cursor, 2, HandleKind::Parent)?;
     let auth = areas::area(alloc, tagged, cursor)?;
     fields::empty(cursor, 1)?;
-    fields::fixed(cursor, 2, 0x0010, codes::VALUE)?;
+    fields::fixed(cursor, 2, TPM_ALG_NULL, codes::VALUE)?;
     Ok(Command::Duplicate {
         object,
         parent,
@@ -103,5 +104,5 @@ pub(crate) fn write_duplicate(out: &mut Blob) -> Result<(), NoMemory>
     ensures { Appends result out.old out.new (spell_values (row CommandCode.Duplicate).parameters (tt, (tt, tt))) }
 {
     spelling::number16(out, 0)?;
-    spelling::number16(out, 0x0010)
+    spelling::number16(out, TPM_ALG_NULL)
 }

@@ -25,7 +25,7 @@ pub(crate) fn pcr_extend(
 {
     let pcr = fields::handle(cursor, 1, HandleKind::Pcr)?;
     let auth = areas::area(alloc, tagged, cursor)?;
-    let digest = fields::one_digest(cursor, 1)?;
+    let digest = fields::digest_values(cursor, 1)?;
     Ok(Command::PcrExtend { pcr, auth, digest })
 }
 
@@ -34,7 +34,7 @@ pub(crate) fn pcr_extend(
 pub(crate) fn write_pcr_extend(out: &mut Blob, digest: &Digest32) -> Result<(), NoMemory>
     ensures { Appends result out.old out.new (spell_values (row CommandCode.PcrExtend).parameters (digest.now, tt)) }
 {
-    spelling::one_digest(out, digest)
+    spelling::digest_values(out, digest)
 }
 
 /// TPM2_PCR_Read.

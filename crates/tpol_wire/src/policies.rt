@@ -28,8 +28,8 @@ pub(crate) fn policy_nv(
     let index = fields::handle(cursor, 2, HandleKind::Index)?;
     let session = fields::handle(cursor, 3, HandleKind::Session)?;
     let auth = areas::area(alloc, tagged, cursor)?;
-    let operand = fields::sized(alloc, cursor, 1, 64)?;
-    let offset = fields::short(cursor, 2)?;
+    let operand = fields::copied_buffer(alloc, cursor, 1, 64)?;
+    let offset = fields::number16(cursor, 2)?;
     let operation = fields::operation(cursor, 3)?;
     Ok(Command::PolicyNv {
         authority,
@@ -121,7 +121,7 @@ pub(crate) fn policy_command_code(tagged: bool, cursor: &mut Cursor) -> Result<C
 {
     let session = fields::handle(cursor, 1, HandleKind::Session)?;
     areas::no_area(tagged, cursor)?;
-    let code = fields::long(cursor, 1)?;
+    let code = fields::number32(cursor, 1)?;
     Ok(Command::PolicyCommandCode { session, code })
 }
 
@@ -143,8 +143,8 @@ pub(crate) fn policy_counter_timer(
 {
     let session = fields::handle(cursor, 1, HandleKind::Session)?;
     areas::no_area(tagged, cursor)?;
-    let operand = fields::sized(alloc, cursor, 1, 64)?;
-    let offset = fields::short(cursor, 2)?;
+    let operand = fields::copied_buffer(alloc, cursor, 1, 64)?;
+    let offset = fields::number16(cursor, 2)?;
     let operation = fields::operation(cursor, 3)?;
     Ok(Command::PolicyCounterTimer {
         session,
@@ -160,7 +160,7 @@ pub(crate) fn policy_locality(tagged: bool, cursor: &mut Cursor) -> Result<Comma
 {
     let session = fields::handle(cursor, 1, HandleKind::Session)?;
     areas::no_area(tagged, cursor)?;
-    let locality = fields::byte(cursor, 1)?;
+    let locality = fields::number8(cursor, 1)?;
     Ok(Command::PolicyLocality { session, locality })
 }
 
@@ -264,9 +264,9 @@ pub(crate) fn policy_signed(
     let key = fields::handle(cursor, 1, HandleKind::Object)?;
     let session = fields::handle(cursor, 2, HandleKind::Session)?;
     areas::no_area(tagged, cursor)?;
-    let nonce = fields::sized(alloc, cursor, 1, 32)?;
+    let nonce = fields::copied_buffer(alloc, cursor, 1, 32)?;
     let cp_hash = fields::optional(cursor, 2)?;
-    let policy_ref = fields::sized(alloc, cursor, 3, 64)?;
+    let policy_ref = fields::copied_buffer(alloc, cursor, 3, 64)?;
     let expiration = fields::signed(cursor, 4)?;
     let signature = fields::signature(cursor, 5)?;
     Ok(Command::PolicySigned {
@@ -310,9 +310,9 @@ pub(crate) fn policy_secret(
     let entity = fields::handle(cursor, 1, HandleKind::Entity)?;
     let session = fields::handle(cursor, 2, HandleKind::Session)?;
     let auth = areas::area(alloc, tagged, cursor)?;
-    let nonce = fields::sized(alloc, cursor, 1, 32)?;
+    let nonce = fields::copied_buffer(alloc, cursor, 1, 32)?;
     let cp_hash = fields::optional(cursor, 2)?;
-    let policy_ref = fields::sized(alloc, cursor, 3, 64)?;
+    let policy_ref = fields::copied_buffer(alloc, cursor, 3, 64)?;
     let expiration = fields::signed(cursor, 4)?;
     Ok(Command::PolicySecret {
         entity,
@@ -353,7 +353,7 @@ pub(crate) fn policy_authorize(
     let session = fields::handle(cursor, 1, HandleKind::Session)?;
     areas::no_area(tagged, cursor)?;
     let approved = fields::sized_digest(cursor, 1)?;
-    let policy_ref = fields::sized(alloc, cursor, 2, 64)?;
+    let policy_ref = fields::copied_buffer(alloc, cursor, 2, 64)?;
     let key = fields::name(cursor, 3)?;
     let ticket = fields::ticket(alloc, cursor, 4)?;
     Ok(Command::PolicyAuthorize {

@@ -9,6 +9,7 @@ ghost use Rattle.tpol_wire.specs.Refusals.{Gives, Reads, RefusesBy};
 
 use crate::command::Command;
 use crate::command_code::CommandCode;
+use crate::constants::{TPM_ST_NO_SESSIONS, TPM_ST_SESSIONS};
 use crate::fault::WireFault;
 use crate::fields::refused;
 use crate::{codes, indices, objects, pcrs, policies, sessions};
@@ -17,10 +18,6 @@ use tpol_base::Cursor;
 
 /// The longest command.
 const MOST: usize = 4096;
-/// The tag of a command without an authorization (TPM_ST_NO_SESSIONS).
-const NO_SESSIONS: u16 = 0x8001;
-/// The tag of a command with an authorization (TPM_ST_SESSIONS).
-const SESSIONS: u16 = 0x8002;
 
 /// The command's code, and whether the tag announces an authorization.
 #[tactic(auto, unfolding(crate::specs::Reading::header_of))]
@@ -45,8 +42,8 @@ fn header(cursor: &mut Cursor) -> Result<(CommandCode, bool), WireFault>
         return Err(refused(codes::COMMAND_SIZE));
     }
     match tag {
-        NO_SESSIONS => known(code, false),
-        SESSIONS => known(code, true),
+        TPM_ST_NO_SESSIONS => known(code, false),
+        TPM_ST_SESSIONS => known(code, true),
         _ => Err(refused(codes::BAD_TAG)),
     }
 }

@@ -12,6 +12,9 @@ ghost use Rattle.tpol_wire.specs.ReplyReading.{AnswersReply, all_fields_of, answ
 use crate::areas::read_tail;
 use crate::auth_area::ReplyAuth;
 use crate::command_code::CommandCode;
+use crate::constants::{
+    TPM_ST_AUTH_SECRET, TPM_ST_AUTH_SIGNED, TPM_ST_NO_SESSIONS, TPM_ST_RSP_COMMAND,
+};
 use crate::fault::{ReplyFault, WireFault};
 use crate::fields::refused;
 use crate::handle_kind::HandleKind;
@@ -41,7 +44,7 @@ fn policy_get_digest(cursor: &mut Cursor) -> Result<Reply, WireFault>
 fn pcr_read(alloc: Global, cursor: &mut Cursor) -> Result<Reply, WireFault>
     ensures { Reads result (reply_fields_at CommandCode.PcrRead cursor.old) cursor.new }
 {
-    let counter = fields::long(cursor, 1)?;
+    let counter = fields::number32(cursor, 1)?;
     let mask = fields::selection(cursor, 2)?;
     let digests = fields::digests(alloc, cursor, 3, 0, 8)?;
     Ok(Reply::PcrRead {
@@ -63,7 +66,7 @@ fn verify_signature(alloc: Global, cursor: &mut Cursor) -> Result<Reply, WireFau
 fn unseal(alloc: Global, cursor: &mut Cursor) -> Result<Reply, WireFault>
     ensures { Reads result (reply_fields_at CommandCode.Unseal cursor.old) cursor.new }
 {
-    let bytes = fields::sized(alloc, cursor, 1, 1024)?;
+    let bytes = fields::copied_buffer(alloc, cursor, 1, 1024)?;
     Ok(Reply::Unseal { bytes })
 }
 
@@ -79,7 +82,7 @@ fn hmac(cursor: &mut Cursor) -> Result<Reply, WireFault>
 fn nv_read(alloc: Global, cursor: &mut Cursor) -> Result<Reply, WireFault>
     ensures { Reads result (reply_fields_at CommandCode.NvRead cursor.old) cursor.new }
 {
-    let bytes = fields::sized(alloc, cursor, 1, 1024)?;
+    let bytes = fields::copied_buffer(alloc, cursor, 1, 1024)?;
     Ok(Reply::NvRead { bytes })
 }
 
@@ -88,7 +91,7 @@ fn duplicate(alloc: Global, cursor: &mut Cursor) -> Result<Reply, WireFault>
     ensures { Reads result (reply_fields_at CommandCode.Duplicate cursor.old) cursor.new }
 {
     fields::empty(cursor, 1)?;
-    let bytes = fields::sized(alloc, cursor, 2, 1024)?;
+    let bytes = fields::copied_buffer(alloc, cursor, 2, 1024)?;
     fields::empty(cursor, 3)?;
     Ok(Reply::Duplicate { bytes })
 }
@@ -98,7 +101,7 @@ fn policy_signed(cursor: &mut Cursor) -> Result<Reply, WireFault>
     ensures { Reads result (reply_fields_at CommandCode.PolicySigned cursor.old) cursor.new }
 {
     fields::empty(cursor, 1)?;
-    fields::empty_ticket(cursor, 2, 0x8025)?;
+    fields::empty_ticket(cursor, 2, TPM_ST_AUTH_SIGNED)?;
     Ok(Reply::PolicySigned)
 }
 
@@ -107,7 +110,7 @@ fn policy_secret(cursor: &mut Cursor) -> Result<Reply, WireFault>
     ensures { Reads result (reply_fields_at CommandCode.PolicySecret cursor.old) cursor.new }
 {
     fields::empty(cursor, 1)?;
-    fields::empty_ticket(cursor, 2, 0x8023)?;
+    fields::empty_ticket(cursor, 2, TPM_ST_AUTH_SECRET)?;
     Ok(Reply::PolicySecret)
 }
 
@@ -208,14 +211,14 @@ fn authorized(
     Ok((reply, Some(auth)))
 }
 
-/// The tag of a refusal: where the command's tag was refused that of TPM 1.2 (TPM 2.0 Part 2, TPM_ST_RSP_COMMAND).
+/// The tag of a refusal: that of TPM 1.2 where the command's tag was refused.
 pub(crate) fn refusal_tag(code: u32) -> u16
     ensures { result ≡ refusal_tag code }
 {
     if code == codes::BAD_TAG {
-        0x00c4
+        TPM_ST_RSP_COMMAND
     } else {
-        0x8001
+        TPM_ST_NO_SESSIONS
     }
 }
 

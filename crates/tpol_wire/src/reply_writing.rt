@@ -8,6 +8,7 @@ ghost use Rattle.tpol_wire.specs.Spellings.{Appends};
 
 use crate::auth_area::ReplyAuth;
 use crate::command_code::CommandCode;
+use crate::constants::{TPM_RH_NULL, TPM_ST_AUTH_SECRET, TPM_ST_AUTH_SIGNED};
 use crate::reply::Reply;
 use crate::reply_reading::refusal_tag;
 use crate::spelling;
@@ -99,8 +100,8 @@ fn policy_signed(out: &mut Blob) -> Result<(), NoMemory>
     ensures { Appends result out.old out.new (spell_values (reply_row CommandCode.PolicySigned) (tt, (tt, tt))) }
 {
     spelling::number16(out, 0)?;
-    spelling::number16(out, 0x8025)?;
-    spelling::number32(out, 0x4000_0007)?;
+    spelling::number16(out, TPM_ST_AUTH_SIGNED)?;
+    spelling::number32(out, TPM_RH_NULL)?;
     spelling::number16(out, 0)
 }
 
@@ -110,8 +111,8 @@ fn policy_secret(out: &mut Blob) -> Result<(), NoMemory>
     ensures { Appends result out.old out.new (spell_values (reply_row CommandCode.PolicySecret) (tt, (tt, tt))) }
 {
     spelling::number16(out, 0)?;
-    spelling::number16(out, 0x8023)?;
-    spelling::number32(out, 0x4000_0007)?;
+    spelling::number16(out, TPM_ST_AUTH_SECRET)?;
+    spelling::number32(out, TPM_RH_NULL)?;
     spelling::number16(out, 0)
 }
 
@@ -226,6 +227,7 @@ fn layout(alloc: Global, tag: u16, code: u32, body: &[u8]) -> Result<Blob, NoMem
 {
     let mut out = Blob::new(alloc);
     spelling::number16(&mut out, tag)?;
+    // The remainder keeps the sum within a usize; of the sum the last four bytes are written.
     spelling::length32(&mut out, 10 + body.len() % 0x1_0000_0000)?;
     spelling::number32(&mut out, code)?;
     out.extend_from_slice(body)?;

@@ -9,6 +9,7 @@ ghost use Rattle.tpol_wire.specs.Spellings.{Appends};
 
 use crate::command::Command;
 use crate::command_code::CommandCode;
+use crate::constants::{TPM_ALG_NULL, TPM_ALG_SHA256, TPM_SE_POLICY};
 use crate::fault::WireFault;
 use crate::handle_kind::HandleKind;
 use crate::{areas, codes, fields, spelling};
@@ -23,9 +24,9 @@ pub(crate) fn start_auth_session(tagged: bool, cursor: &mut Cursor) -> Result<Co
     areas::no_area(tagged, cursor)?;
     let nonce = fields::sized_digest(cursor, 1)?;
     fields::empty(cursor, 2)?;
-    fields::fixed_byte(cursor, 3, 0x01, codes::VALUE)?;
-    fields::fixed(cursor, 4, 0x0010, codes::VALUE)?;
-    fields::fixed(cursor, 5, 0x000b, codes::HASH)?;
+    fields::fixed_byte(cursor, 3, TPM_SE_POLICY, codes::VALUE)?;
+    fields::fixed(cursor, 4, TPM_ALG_NULL, codes::VALUE)?;
+    fields::fixed(cursor, 5, TPM_ALG_SHA256, codes::HASH)?;
     Ok(Command::StartAuthSession {
         tpm_key,
         bind,
@@ -40,9 +41,9 @@ pub(crate) fn write_start_auth_session(out: &mut Blob, nonce: &Digest32) -> Resu
 {
     spelling::sized_digest(out, nonce)?;
     spelling::number16(out, 0)?;
-    spelling::byte(out, 0x01)?;
-    spelling::number16(out, 0x0010)?;
-    spelling::number16(out, 0x000b)
+    spelling::byte(out, TPM_SE_POLICY)?;
+    spelling::number16(out, TPM_ALG_NULL)?;
+    spelling::number16(out, TPM_ALG_SHA256)
 }
 
 /// TPM2_FlushContext.

@@ -10,6 +10,7 @@ ghost use Rattle.tpol_wire.specs.Rows.{byte as byte_kind, short as short_kind, l
 ghost use Rattle.tpol_wire.specs.Spellings.{Appends};
 
 use crate::auth_area::AuthArea;
+use crate::constants::{TPM_ALG_HMAC, TPM_ALG_SHA256};
 use crate::ticket::Ticket;
 use byteorder::{BigEndian, ByteOrder};
 use std::alloc::Global;
@@ -113,7 +114,7 @@ pub(crate) fn name(out: &mut Blob, name: &Name) -> Result<(), NoMemory>
         }
         Name::Hash(digest) => {
             number16(out, 34)?;
-            number16(out, 0x000b)?;
+            number16(out, TPM_ALG_SHA256)?;
             out.extend_from_slice(&digest.bytes)
         }
     }
@@ -128,12 +129,12 @@ pub(crate) fn ticket(out: &mut Blob, ticket: &Ticket) -> Result<(), NoMemory>
     sized(out, ticket.digest.as_slice())
 }
 
-/// One digest behind its count and its algorithm.
-pub(crate) fn one_digest(out: &mut Blob, digest: &Digest32) -> Result<(), NoMemory>
+/// One digest behind its count and its algorithm (TPML_DIGEST_VALUES).
+pub(crate) fn digest_values(out: &mut Blob, digest: &Digest32) -> Result<(), NoMemory>
     ensures { Appends result out.old out.new (spell one_digest_kind digest.now) }
 {
     number32(out, 1)?;
-    number16(out, 0x000b)?;
+    number16(out, TPM_ALG_SHA256)?;
     out.extend_from_slice(&digest.bytes)
 }
 
@@ -142,7 +143,7 @@ pub(crate) fn selection(out: &mut Blob, mask: u32) -> Result<(), NoMemory>
     ensures { Appends result out.old out.new (spell selection_kind mask) }
 {
     number32(out, 1)?;
-    number16(out, 0x000b)?;
+    number16(out, TPM_ALG_SHA256)?;
     let bytes = [
         3,
         (mask % 256) as u8,
@@ -156,8 +157,8 @@ pub(crate) fn selection(out: &mut Blob, mask: u32) -> Result<(), NoMemory>
 pub(crate) fn signature(out: &mut Blob, hmac: &Digest32) -> Result<(), NoMemory>
     ensures { Appends result out.old out.new (spell signature_kind hmac.now) }
 {
-    number16(out, 0x0005)?;
-    number16(out, 0x000b)?;
+    number16(out, TPM_ALG_HMAC)?;
+    number16(out, TPM_ALG_SHA256)?;
     out.extend_from_slice(&hmac.bytes)
 }
 

@@ -8,12 +8,12 @@ pub returns-in_err-digest : goal.returns-in_err-digest
 returns-in_err-digest c =
     let p = err_from_is_err_and c.from_residual.result c.from_residual.ensures.1 in
     let position = 0x040 + 0x100 * c.args.n in
-    rw (p.1, p.2) (stops c.in_err-digest.field-0.0 position c.loop.digests c.args.count c.loop.counter c.loop.cursor (digests_at position c.args.count c.args.cursor.now) c.loop-test.true c.in_err-digest.ensures c.loop.invariant)
+    rw (p.1, p.2) (stops c.in_err-digest.field-0.0 position c.loop.digests c.args.count c.loop.counter c.loop.cursor (digests_at position c.args.count c.args.cursor.now) c.loop-test.true c.in_err-digest.ensures.listed c.loop.invariant)
 
 pub loop-preserved : goal.loop-preserved
 loop-preserved c =
     let position = 0x040 + 0x100 * c.args.n in
-    rw c.in_ok-push.ensures.ok (goes_on position c.loop.digests c.args.count c.loop.counter c.loop.cursor c.in_ok-digest.digest c.one_sized.new.cursor (digests_at position c.args.count c.args.cursor.now) c.loop-test.true c.in_ok-digest.ensures c.loop.invariant)
+    rw c.in_ok-push.ensures.ok (goes_on position c.loop.digests c.args.count c.loop.counter c.loop.cursor c.in_ok-digest.digest c.sized_digest.new.cursor (digests_at position c.args.count c.args.cursor.now) c.loop-test.true c.in_ok-digest.ensures.listed c.loop.invariant)
 
 pub returns : goal.returns
 returns c =
