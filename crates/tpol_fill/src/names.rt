@@ -1,12 +1,10 @@
 //! The digest of the Names that a POLICYNAMEHASH names.
 
-ghost use Rattle.std.specs.Prelude.{◌≡◌, ℕ, List, ◌++◌, codes, map};
+ghost use Rattle.std.specs.Prelude.{◌≡◌, codes, map};
 ghost use Rattle.std.specs.Option.{option_copied};
-ghost use Rattle.tpol_base.specs.Name.{name_bytes};
 ghost use Rattle.tpol_fill.specs.Entities.{or_empty, path_name};
 ghost use Rattle.tpol_fill.specs.Filling.{filled_names, names_digest, names_faults, path_faults};
 ghost use Rattle.tpol_fill.specs.Outcome.{Fills, each_fault};
-ghost use Rattle.tpol_hash.specs.Messages.{Holds};
 ghost use Rattle.tpol_json.specs.Places.{at_member};
 
 use crate::FillFault;
@@ -52,7 +50,7 @@ fn digest_of_paths(
     let mut hasher = Hasher::new();
     for (index, path) in paths.iter().enumerate() {
         match name_at(path.as_str(), sight) {
-            Ok(name) => put_name(&mut hasher, &name),
+            Ok(name) => hasher.put_name(&name),
             Err(kind) => {
                 return Err(FillFault::Bad {
                     kind,
@@ -70,21 +68,7 @@ fn digest_of_names(names: &[Name]) -> Digest32
 {
     let mut hasher = Hasher::new();
     for name in names {
-        put_name(&mut hasher, name);
+        hasher.put_name(name);
     }
     hasher.done()
-}
-
-// Adds the bytes of a Name.
-fn put_name(hasher: &mut Hasher, name: &Name)
-    ensures { (m : List ℕ) → Holds hasher.old m → Holds hasher.new (m ++ name_bytes name.now) }
-{
-    match name {
-        Name::Empty => {}
-        Name::Handle(handle) => hasher.put(&handle.to_be_bytes()),
-        Name::Hash(digest) => {
-            hasher.put(&[0x00, 0x0b]);
-            hasher.put(&digest.bytes);
-        }
-    }
 }

@@ -1,7 +1,8 @@
 -- Public areas and the Names made of them (TPM 2.0 Part 1, "Names"; Part 2, TPMT_PUBLIC and
 -- TPMS_NV_PUBLIC). Numbers are big-endian, and the name algorithm is SHA-256, 000b.
-use Rattle.std.specs.Prelude.{ℕ, Bool, List, [], ◌∷◌, ◌++◌, ◌==◌, not, length, bit_and, bit_or}
+use Rattle.std.specs.Prelude.{ℕ, Bool, List, [], ◌∷◌, ◌++◌, ◌==◌, not, bit_and, bit_or}
 use Rattle.std.specs.Int.{to_be_bytes, w16, w32}
+use Rattle.tpol_base.specs.Sized.{sized}
 use Rattle.tpol_base.specs.declared.name.Name.{Name}
 use Rattle.tpol_base.specs.declared.name.Name.TheVariants.{Hash}
 use Rattle.tpol_hash.specs.Sha256.{sha256_digest}
@@ -9,10 +10,6 @@ use Rattle.tpol_name.specs.declared.areas.NvPublic.{NvPublic}
 use Rattle.tpol_name.specs.declared.areas.ObjectPublic.{ObjectPublic}
 use Rattle.tpol_name.specs.declared.areas.Scheme.{Scheme}
 use Rattle.tpol_name.specs.declared.areas.Scheme.TheVariants.{Sealed, HmacKey}
-
--- a sized buffer: the last two bytes of the length, and the bytes
-abbrev pub sized : List ℕ → List ℕ
-sized bytes = to_be_bytes w16 (length bytes) ++ bytes
 
 -- the scheme NULL of a sealed object, the scheme HMAC over SHA-256 of a key
 abbrev pub scheme_bytes : Scheme → List ℕ

@@ -2,7 +2,8 @@
 
 ghost use Rattle.std.specs.Prelude.{◌≡◌, ℕ, List, ◌++◌, IfOk};
 ghost use Rattle.tpol_hash.specs.Messages.{Holds};
-ghost use Rattle.tpol_name.specs.Areas.{index_name, is_written, object_name, sized, with_written};
+ghost use Rattle.tpol_base.specs.Sized.{sized};
+ghost use Rattle.tpol_name.specs.Areas.{index_name, is_written, object_name, with_written};
 
 use std::alloc::Global;
 use tpol_base::{Blob, Name, NoMemory};

@@ -10,7 +10,8 @@ use Rattle.tpol_scene.specs.Lists.{faults_of, list_faults, optional_faults}
 use Rattle.tpol_scene.specs.Members.{optional}
 use Rattle.tpol_scene.specs.Pcrs.{pcr_item, pcrs_in, zero_bank}
 use Rattle.tpol_scene.specs.Scenes.{authorities_in, authorities_faults, time_in, clock_in, clock_faults, scene_in, scene_faults}
-use Rattle.tpol_scene.specs.Values.{object_in, u32_in, truth_in, digest_in, auth_in, zero_digest}
+use Rattle.tpol_base.specs.Digest.{zero_digest}
+use Rattle.tpol_scene.specs.Values.{object_in, u32_in, truth_in, digest_in, auth_in}
 use Rattle.tpol_scene.specs.declared.fault.SceneFault.{SceneFault}
 use Rattle.tpol_scene.specs.declared.scene.Scene.{Scene}
 use Rattle.tpol_scene.proofs.FirstLemmas.{Leads, fault_in, leads-one, leads-then, leads-optional}

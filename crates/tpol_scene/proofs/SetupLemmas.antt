@@ -23,7 +23,8 @@ use Rattle.tpol_scene.specs.Kinds.{kind_in, least_handle, greatest_handle}
 use Rattle.tpol_scene.specs.Members.{needed, optional}
 use Rattle.tpol_scene.specs.Pcrs.{new_pcr_in, pcr_in, pcr_item, pcrs_in, zero_bank}
 use Rattle.tpol_scene.specs.Scenes.{authorities_in, clock_in, time_in, scene_in}
-use Rattle.tpol_scene.specs.Values.{object_in, text_in, unsigned_in, u32_in, truth_in, digest_in, bytes_up_to, empty_or_32, auth_in, zero_digest}
+use Rattle.tpol_base.specs.Digest.{zero_digest}
+use Rattle.tpol_scene.specs.Values.{object_in, text_in, unsigned_in, u32_in, truth_in, digest_in, bytes_up_to, empty_or_32, auth_in}
 use Rattle.tpol_scene.specs.declared.entities.Entities.{Entities}
 use Rattle.tpol_scene.specs.declared.fault.SceneKind.{SceneKind}
 use Rattle.tpol_scene.specs.declared.fault.SceneKind.TheVariants.{Twice, TooMany, BadState}

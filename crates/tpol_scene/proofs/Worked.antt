@@ -2,7 +2,8 @@
 use Rattle.std.specs.Prelude.{◌≡◌, [], ◌∷◌, codes, true, false, Some, Ok, refl}
 use Rattle.serde_json.specs.Data.{null, number, array, object, unsigned, no_items, item, no_members, member}
 use Rattle.tpol_json.specs.Places.{root, at_member, at_item}
-use Rattle.tpol_scene.specs.Entities.{no_entities, has_path, policy_name, bytes_or_name, heading_in, index_attributes_in, entity_in}
+use Rattle.tpol_base.specs.PolicyName.{without_folder}
+use Rattle.tpol_scene.specs.Entities.{no_entities, has_path, bytes_or_name, heading_in, index_attributes_in, entity_in}
 use Rattle.tpol_scene.specs.Faults.{bad}
 use Rattle.tpol_scene.specs.Lists.{items_from, item_faults}
 use Rattle.tpol_scene.specs.Scenes.{authorities_in, clock_in, scene_faults}
@@ -15,10 +16,10 @@ pub zeros : without_zeros (1 ∷ 0 ∷ 2 ∷ 0 ∷ 0 ∷ []) ≡ 1 ∷ 0 ∷ 2 �
 unfolding without_zeros
 zeros = refl
 
-pub name_in_folder : policy_name (codes "/policy/disk") ≡ codes "disk"
+pub name_in_folder : without_folder (codes "/policy/disk") ≡ codes "disk"
 name_in_folder = refl
 
-pub name_alone : policy_name (codes "policy/disk") ≡ codes "policy/disk"
+pub name_alone : without_folder (codes "policy/disk") ≡ codes "policy/disk"
 name_alone = refl
 
 -- the paths of the hierarchies are taken, with or without a profile in front

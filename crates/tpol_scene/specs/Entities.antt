@@ -1,8 +1,9 @@
 -- The entities of a scene.
-use Rattle.std.specs.Prelude.{ℕ, ◌==◌, ◌&&◌, ◌||◌, nat_eq, nat_lt, not, bit_or, List, [], ◌∷◌, ◌++◌, length, drop, replicate, codes, Bool, Option, Some, None, Ok, if◌then◌else◌}
-use Rattle.std.specs.List.{list_any, starts_with}
+use Rattle.std.specs.Prelude.{ℕ, ◌==◌, ◌&&◌, ◌||◌, nat_lt, not, bit_or, List, [], ◌∷◌, ◌++◌, length, replicate, codes, Bool, Option, Some, None, Ok, if◌then◌else◌}
+use Rattle.std.specs.List.{list_any}
 use Rattle.serde_json.specs.Data.{Data}
 use Rattle.serde_json.specs.Find.{get}
+use Rattle.tpol_base.specs.PolicyName.{without_folder}
 use Rattle.tpol_json.specs.Bytes.{bytes_in}
 use Rattle.tpol_json.specs.Places.{at_member}
 use Rattle.tpol_json.specs.declared.place.Place.{Place}
@@ -55,15 +56,11 @@ new_handle_in entities kind d place = do
   handle ← unsigned_in (least_handle kind) (greatest_handle kind) d place
   if has_handle entities kind handle then bad Twice place else Ok handle
 
--- the name without `/policy/` in front
-abbrev pub policy_name : List ℕ → List ℕ
-policy_name text = if starts_with nat_eq text (codes "/policy/") then drop 8 text else text
-
 -- a policy by its name, and where it stands
 abbrev pub named_policy_in : Data → Place → Found PolicySource
 named_policy_in d place = do
   text ← text_in d place
-  Ok (record { auth_policy = []; named = Some (record { name = policy_name text; place = place }) })
+  Ok (record { auth_policy = []; named = Some (record { name = without_folder text; place = place }) })
 
 abbrev pub bytes_or_name : Option (List ℕ) → Option Data → Place → Found PolicySource
 bytes_or_name None None place = Ok (record { auth_policy = []; named = None })

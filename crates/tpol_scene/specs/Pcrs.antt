@@ -8,7 +8,8 @@ use Rattle.tpol_scene.specs.declared.fault.SceneKind.TheVariants.{Twice}
 use Rattle.tpol_scene.specs.Faults.{Found, bad, ◌>>=◌}
 use Rattle.tpol_scene.specs.Lists.{ItemReading, list_in}
 use Rattle.tpol_scene.specs.Members.{needed}
-use Rattle.tpol_scene.specs.Values.{object_in, unsigned_in, digest_in, zero_digest}
+use Rattle.tpol_base.specs.Digest.{zero_digest}
+use Rattle.tpol_scene.specs.Values.{object_in, unsigned_in, digest_in}
 
 -- 24 zero digests, and no PCR that was given one
 abbrev pub zero_bank : PcrBank

@@ -16,7 +16,8 @@ use Rattle.tpol_scene.specs.Faults.{Found, ◌>>=◌}
 use Rattle.tpol_scene.specs.Lists.{faults_of, list_faults, optional_faults}
 use Rattle.tpol_scene.specs.Members.{optional}
 use Rattle.tpol_scene.specs.Pcrs.{pcr_item, pcrs_in, zero_bank}
-use Rattle.tpol_scene.specs.Values.{object_in, unsigned_in, u32_in, truth_in, digest_in, auth_in, zero_digest}
+use Rattle.tpol_base.specs.Digest.{zero_digest}
+use Rattle.tpol_scene.specs.Values.{object_in, unsigned_in, u32_in, truth_in, digest_in, auth_in}
 
 -- the seed of the nonces and the authorization values of the hierarchies
 unfoldable pub authorities_in : Data → Place → Found Authorities

@@ -1,5 +1,5 @@
 -- The values of a scene's members.
-use Rattle.std.specs.Prelude.{ℕ, ◌^◌, ◌-◌, ◌==◌, ◌||◌, nat_eq, nat_le, pos, unsigned_abs, refl, List, length, take, replicate, Bool, if◌then◌else◌, Ok, ⊤}
+use Rattle.std.specs.Prelude.{ℕ, ◌^◌, ◌-◌, ◌==◌, ◌||◌, nat_eq, nat_le, pos, unsigned_abs, List, length, take, Bool, if◌then◌else◌, Ok, ⊤}
 use Rattle.std.specs.List.{suffix_len}
 use Rattle.serde_json.specs.Data.{Data, null, boolean, number, string, array, object}
 use Rattle.tpol_base.specs.Digest.{digest_of_bytes}
@@ -53,10 +53,6 @@ abbrev pub digest_in : Data → Place → Found Digest32
 digest_in d place = do
   bytes ← read_as (bytes_in d place)
   if length bytes == 32 then Ok (digest_of_bytes bytes) else bad BadHex place
-
--- 32 zero bytes
-abbrev pub zero_digest : Digest32
-zero_digest = record { bytes = replicate 32 0; whole = refl }
 
 -- bytes without the zero bytes at their end
 unfoldable pub without_zeros : List ℕ → List ℕ

@@ -4,7 +4,7 @@ ghost use Rattle.std.specs.List.{list_any};
 ghost use Rattle.serde_json.specs.Find.{get};
 ghost use Rattle.serde_json.specs.View.{view};
 ghost use Rattle.tpol_name.specs.Paths.{is_same_path};
-ghost use Rattle.tpol_scene.specs.Entities.{bytes_or_name, has_handle, has_path, heading_in, named_policy_in, new_handle_in, new_path_in, policy_name, policy_source_in, some_policy_in};
+ghost use Rattle.tpol_scene.specs.Entities.{bytes_or_name, has_handle, has_path, heading_in, named_policy_in, new_handle_in, new_path_in, policy_source_in, some_policy_in};
 ghost use Rattle.tpol_scene.specs.Faults.{Gives};
 ghost use Rattle.tpol_scene.specs.Kinds.{kind_in};
 ghost use Rattle.tpol_scene.specs.Members.{needed, optional};
@@ -17,7 +17,7 @@ use crate::values::{check_object, empty_or_32, text_of, unsigned_of};
 use crate::{SceneFault, SceneKind};
 use serde_json::Value;
 use std::alloc::Global;
-use tpol_base::{Blob, Text};
+use tpol_base::{Blob, Text, without_folder};
 use tpol_json::{Place, member};
 use tpol_name::{IndexEntry, ObjectEntry, same_path};
 
@@ -240,18 +240,11 @@ fn named_policy(alloc: Global, value: &Value, place: &Place) -> Result<PolicySou
 {
     let text = text_of(alloc, value, place)?;
     let named = NamedPolicy {
-        name: Text::from_str(alloc, policy_name(text.as_str()))?,
+        name: Text::from_str(alloc, without_folder(text.as_str()))?,
         place: place.try_clone(alloc)?,
     };
     Ok(PolicySource {
         auth_policy: Blob::new(alloc),
         named: Some(named),
     })
-}
-
-// The name without `/policy/` in front.
-fn policy_name(text: &str) -> &str
-    ensures { result.now ≡ policy_name text.now }
-{
-    text.strip_prefix("/policy/").unwrap_or(text)
 }

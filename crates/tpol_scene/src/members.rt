@@ -2,9 +2,10 @@ ghost use Rattle.std.specs.Prelude.{◌≡◌, [], Some, IfOk, IfErr};
 ghost use Rattle.serde_json.specs.Find.{get};
 ghost use Rattle.serde_json.specs.View.{view};
 ghost use Rattle.tpol_json.specs.Places.{at_member};
+ghost use Rattle.tpol_base.specs.Digest.{zero_digest};
 ghost use Rattle.tpol_scene.specs.Faults.{Gives, Refuses};
 ghost use Rattle.tpol_scene.specs.Members.{any_in, needed, optional};
-ghost use Rattle.tpol_scene.specs.Values.{auth_in, bytes_up_to, digest_in, empty_or_32, truth_in, u32_in, zero_digest};
+ghost use Rattle.tpol_scene.specs.Values.{auth_in, bytes_up_to, digest_in, empty_or_32, truth_in, u32_in};
 
 use crate::fault::refused;
 use crate::values::{auth_of, bytes_up_to, digest_of, empty_or_32, truth_of, u32_of, zero_digest};

@@ -1,7 +1,8 @@
 ghost use Rattle.std.specs.Prelude.{◌≡◌, ◌^◌, ◌≤◌, ◌<◌, IfOk};
 ghost use Rattle.serde_json.specs.View.{view};
+ghost use Rattle.tpol_base.specs.Digest.{zero_digest};
 ghost use Rattle.tpol_scene.specs.Faults.{Gives};
-ghost use Rattle.tpol_scene.specs.Values.{auth_in, bytes_up_to, digest_in, empty_or_32, object_in, text_in, truth_in, u32_in, unsigned_in, without_zeros, zero_digest};
+ghost use Rattle.tpol_scene.specs.Values.{auth_in, bytes_up_to, digest_in, empty_or_32, object_in, text_in, truth_in, u32_in, unsigned_in, without_zeros};
 
 use crate::fault::refused;
 use crate::{SceneFault, SceneKind};

@@ -8,6 +8,7 @@ pub mod Listed
 pub mod Outcome
 pub mod PathLine
 pub mod ReadStep
+pub mod Reached
 pub mod Refusals
 pub mod Report
 pub mod SceneStep

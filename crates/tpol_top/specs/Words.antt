@@ -1,9 +1,8 @@
 -- The words of the program.
-use Rattle.std.specs.Prelude.{ℕ, Bool, false, List, [], ◌∷◌, Option, None, Some, codes, drop, nat_eq, if◌then◌else◌}
-use Rattle.std.specs.List.{starts_with}
+use Rattle.std.specs.Prelude.{ℕ, Bool, false, List, [], ◌∷◌, Option, None, Some, codes, if◌then◌else◌}
 use Rattle.std.specs.Option.{is_some, option_map_or}
 use Rattle.std.specs.Str.{bytes_eq}
-use Rattle.tpol_base.specs.PolicyName.{is_policy_name}
+use Rattle.tpol_base.specs.PolicyName.{is_policy_name, without_folder}
 use Rattle.tpol_top.specs.declared.command.Command.{Command}
 use Rattle.tpol_top.specs.declared.command.Command.TheVariants.{Compile, Paths, Canon}
 
@@ -13,10 +12,6 @@ one_word_command word =
     if bytes_eq word (codes "compile") then Some (Compile None)
     else (if bytes_eq word (codes "paths") then Some (Paths None)
     else (if bytes_eq word (codes "canon") then Some Canon else None))
-
--- a name without `/policy/` in front
-abbrev pub without_folder : List ℕ → List ℕ
-without_folder name = if starts_with nat_eq name (codes "/policy/") then drop 8 name else name
 
 -- the name of a policy or of a scene, where it is one
 abbrev pub policy_stem : List ℕ → Option (List ℕ)

@@ -1,9 +1,10 @@
-ghost use Rattle.std.specs.Prelude.{◌≡◌, ◌≤◌, ◌⊎◌, false, is_some, IfSome, IfOk, IsSome, IsErrOf};
+ghost use Rattle.std.specs.Prelude.{◌≡◌, ◌≤◌, ◌⊎◌, false, is_some, IfSome, IfOk, IsOk, IsSome, IsErrOf};
 ghost use Rattle.tpol_base.specs.Causes.{Rose};
 ghost use Rattle.tpol_fill.specs.Erased.{erased};
 ghost use Rattle.std.specs.Option.{option_copied};
 ghost use Rattle.tpol_top.specs.Closed.{closed_step, with_notes};
 ghost use Rattle.tpol_top.specs.Filled.{filled_step};
+ghost use Rattle.tpol_top.specs.ReadStep.{read_step};
 ghost use Rattle.tpol_tree.specs.BranchCounts.{EachOrHasBranches};
 ghost use Rattle.tpol_tree.specs.Erased.{erased_policy};
 ghost use Rattle.tpol_top.specs.Steps.{Answers};
@@ -32,6 +33,7 @@ pub fn closed_document<H: Shelf>(
     ensures branches { IfOk result (λ found. HasBranchCounts found.0.elements) }
     ensures keeps { H.documents shelf.new ≡ H.documents shelf.old }
     ensures untouched { is_some scene.now ≡ false → shelf.new ≡ shelf.old }
+    ensures asked { (shelf.new ≡ shelf.old) ⊎ IsOk (read_step input.now) }
     ensures later { H.faults shelf.old ≤ H.faults shelf.new }
     ensures failed { IsErrOf result Halt.ShelfFailed → Rose (H.faults shelf.old) (H.faults shelf.new) }
     ensures stays { IsErrOf result Halt.ShelfFailed ⊎ (H.faults shelf.new ≡ H.faults shelf.old) }

@@ -1,10 +1,10 @@
 ghost use Rattle.std.specs.Prelude.{◌≡◌, map, IfOk};
 ghost use Rattle.std.specs.Option.{option_map};
 ghost use Rattle.std.specs.String.{string_bytes};
-ghost use Rattle.tpol_top.specs.Words.{command_of, one_word_command, policy_stem, scene_command, without_folder};
+ghost use Rattle.tpol_top.specs.Words.{command_of, one_word_command, policy_stem, scene_command};
 
 use std::alloc::Global;
-use tpol_base::{NoMemory, Text, is_policy_name};
+use tpol_base::{NoMemory, Text, is_policy_name, without_folder};
 
 /// What the words ask for.
 #[derive(Drop)]
@@ -83,10 +83,4 @@ fn policy_stem(alloc: Global, name: &str) -> Result<Option<Text>, NoMemory>
     } else {
         Ok(None)
     }
-}
-
-fn without_folder(name: &str) -> &str
-    ensures { result.now ≡ without_folder name.now }
-{
-    name.strip_prefix("/policy/").unwrap_or(name)
 }

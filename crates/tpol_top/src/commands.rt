@@ -1,6 +1,7 @@
-ghost use Rattle.std.specs.Prelude.{◌≡◌, ◌≤◌, ◌⊎◌, false, is_some, IfSome, IsSome, IsTrue, IsErrOf};
+ghost use Rattle.std.specs.Prelude.{◌≡◌, ◌≤◌, ◌⊎◌, false, is_some, IfSome, IsOk, IsSome, IsTrue, IsErrOf};
 ghost use Rattle.tpol_base.specs.Causes.{Rose};
 ghost use Rattle.tpol_top.specs.Commands.{command_step, compile_step, paths_step};
+ghost use Rattle.tpol_top.specs.ReadStep.{read_step};
 ghost use Rattle.tpol_top.specs.Steps.{Answers};
 ghost use Rattle.tpol_top.specs.Words.{uses_shelf_for};
 
@@ -25,6 +26,7 @@ pub fn answer_of_command<H: Shelf>(
         Answers (λ outcome. outcome) (command_step command.now input.now all) result) }
     ensures keeps { H.documents shelf.new ≡ H.documents shelf.old }
     ensures untouched { uses_shelf_for command.now ≡ false → shelf.new ≡ shelf.old }
+    ensures asked { (shelf.new ≡ shelf.old) ⊎ IsOk (read_step input.now) }
     ensures later { H.faults shelf.old ≤ H.faults shelf.new }
     ensures failed { IsErrOf result Halt.ShelfFailed → Rose (H.faults shelf.old) (H.faults shelf.new) }
     ensures stays { IsErrOf result Halt.ShelfFailed ⊎ (H.faults shelf.new ≡ H.faults shelf.old) }
@@ -49,6 +51,7 @@ fn compile<H: Shelf>(
         Answers (λ outcome. outcome) (compile_step scene.now input.now all) result) }
     ensures keeps { H.documents shelf.new ≡ H.documents shelf.old }
     ensures untouched { is_some scene.now ≡ false → shelf.new ≡ shelf.old }
+    ensures asked { (shelf.new ≡ shelf.old) ⊎ IsOk (read_step input.now) }
     ensures later { H.faults shelf.old ≤ H.faults shelf.new }
     ensures failed { IsErrOf result Halt.ShelfFailed → Rose (H.faults shelf.old) (H.faults shelf.new) }
     ensures stays { IsErrOf result Halt.ShelfFailed ⊎ (H.faults shelf.new ≡ H.faults shelf.old) }
@@ -72,6 +75,7 @@ fn list_paths<H: Shelf>(
         Answers (λ outcome. outcome) (paths_step scene.now input.now all) result) }
     ensures keeps { H.documents shelf.new ≡ H.documents shelf.old }
     ensures untouched { is_some scene.now ≡ false → shelf.new ≡ shelf.old }
+    ensures asked { (shelf.new ≡ shelf.old) ⊎ IsOk (read_step input.now) }
     ensures later { H.faults shelf.old ≤ H.faults shelf.new }
     ensures failed { IsErrOf result Halt.ShelfFailed → Rose (H.faults shelf.old) (H.faults shelf.new) }
     ensures stays { IsErrOf result Halt.ShelfFailed ⊎ (H.faults shelf.new ≡ H.faults shelf.old) }

@@ -1,6 +1,8 @@
-ghost use Rattle.std.specs.Prelude.{◌≡◌, ◌≤◌, ◌⊎◌, Some, None, false, IsTrue, IfSome, IfOk, OnOk, OnErr, IsErrOf, map, drop};
+ghost use Rattle.std.specs.Prelude.{◌≡◌, ◌≤◌, ◌⊎◌, Some, None, false, IsTrue, IfSome, IfOk, IsOk, OnOk, OnErr, IsErrOf, map, take, drop};
 ghost use Rattle.std.specs.String.{string_bytes};
 ghost use Rattle.tpol_base.specs.Causes.{Rose, HasLapse, IsQuiet};
+ghost use Rattle.tpol_top.specs.ReadStep.{read_step};
+ghost use Rattle.tpol_top.specs.Reached.{IsPolicyDocument};
 ghost use Rattle.tpol_top.specs.Report.{LosesAtMost, OfChoice, OfReport, most_read, report_of_command, report_of_input};
 ghost use Rattle.tpol_top.specs.Words.{command_of, reads_source, uses_shelf, uses_shelf_for};
 ghost use Rattle.tpol_top.specs.Status.{status_of_stop, IsPastReadingResult};
@@ -62,6 +64,8 @@ pub fn outcome_of_words<S: Source, H: Shelf>(
     ensures read_at_most { LosesAtMost most_read (S.left source.old) (S.left source.new) }
     ensures unread { reads_source (map string_bytes words.now.items) ≡ false → source.new ≡ source.old }
     ensures untouched { uses_shelf (map string_bytes words.now.items) ≡ false → shelf.new ≡ shelf.old }
+    ensures asked { IfSome (S.left source.old) (λ held.
+        (shelf.new ≡ shelf.old) ⊎ IsPolicyDocument (take most_read held)) }
     ensures read_fault { IsErrOf result Stop.ReadFault → Rose (S.faults source.old) (S.faults source.new) }
     ensures read_fault_of { IsErrOf result Stop.ReadFault
         → IsTrue (reads_source (map string_bytes words.now.items)) }
@@ -94,6 +98,8 @@ fn outcome_of_source<S: Source, H: Shelf>(
         → IfSome (S.left source.old) (λ held. S.left source.new ≡ Some (drop most_read held)) }
     ensures read_at_most { LosesAtMost most_read (S.left source.old) (S.left source.new) }
     ensures untouched { uses_shelf_for command.now ≡ false → shelf.new ≡ shelf.old }
+    ensures asked { IfSome (S.left source.old) (λ held.
+        (shelf.new ≡ shelf.old) ⊎ IsPolicyDocument (take most_read held)) }
     ensures read_fault { IsErrOf result Stop.ReadFault → Rose (S.faults source.old) (S.faults source.new) }
     ensures shelf_fault { IsErrOf result Stop.ShelfFault → Rose (H.faults shelf.old) (H.faults shelf.new) }
     ensures shelf_fault_of { IsErrOf result Stop.ShelfFault → IsTrue (uses_shelf_for command.now) }
@@ -133,6 +139,7 @@ fn outcome_of_input<H: Shelf>(
         (outcome ≡ report.outcome) × (H.documents shelf.new ≡ Some report.documents))) }
     ensures keeps { OnErr result (H.documents shelf.new ≡ H.documents shelf.old) }
     ensures untouched { uses_shelf_for command.now ≡ false → shelf.new ≡ shelf.old }
+    ensures asked { (shelf.new ≡ shelf.old) ⊎ IsPolicyDocument input.now }
     ensures cause { HasLapse (H.faults shelf.old) (H.faults shelf.new) result }
     ensures quiet { IsQuiet (H.faults shelf.old) (H.faults shelf.new) result }
     ensures shelf_fault_of { IsErrOf result Lapse.Failed → IsTrue (uses_shelf_for command.now) }
@@ -155,6 +162,7 @@ fn outcome_of_command<H: Shelf>(
         (outcome ≡ report.outcome) × (H.documents shelf.new ≡ Some report.documents))) }
     ensures keeps { OnErr result (H.documents shelf.new ≡ H.documents shelf.old) }
     ensures untouched { uses_shelf_for command.now ≡ false → shelf.new ≡ shelf.old }
+    ensures asked { (shelf.new ≡ shelf.old) ⊎ IsOk (read_step input.now) }
     ensures cause { HasLapse (H.faults shelf.old) (H.faults shelf.new) result }
     ensures quiet { IsQuiet (H.faults shelf.old) (H.faults shelf.new) result }
     ensures shelf_fault_of { IsErrOf result Lapse.Failed → IsTrue (uses_shelf_for command.now) }

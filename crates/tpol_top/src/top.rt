@@ -1,7 +1,8 @@
-ghost use Rattle.std.specs.Prelude.{◌≡◌, ◌≤◌, ◌⊎◌, Some, false, IsTrue, IfSome, map, drop};
+ghost use Rattle.std.specs.Prelude.{◌≡◌, ◌≤◌, ◌⊎◌, Some, false, IsTrue, IfSome, map, take, drop};
 ghost use Rattle.std.specs.String.{string_bytes};
 ghost use Rattle.tpol_base.specs.Causes.{Rose, Grows, GrowsInPart};
 ghost use Rattle.tpol_top.specs.Outcome.{status_of, text_of};
+ghost use Rattle.tpol_top.specs.Reached.{IsPolicyDocument};
 ghost use Rattle.tpol_top.specs.Report.{LosesAtMost, OfReport, most_read};
 ghost use Rattle.tpol_top.specs.Status.{IsWhole, IsSilent, IsPastReading};
 ghost use Rattle.tpol_top.specs.Words.{reads_source, uses_shelf};
@@ -54,9 +55,12 @@ pub fn policy_main<S: Source, K: Sink, H: Shelf>(
         → IfSome (S.left source.old) (λ held. S.left source.new ≡ Some (drop most_read held)) }
     ensures read_at_most { LosesAtMost most_read (S.left source.old) (S.left source.new) }
 
-    // Words that are no command leave the source alone, and a command that names no scene the shelf.
+    // Words that are no command leave the source alone, and a command that names no scene the shelf. The
+    // shelf is asked only once what was read is the document of a policy.
     ensures unread { reads_source (map string_bytes words.now.items) ≡ false → source.new ≡ source.old }
     ensures untouched { uses_shelf (map string_bytes words.now.items) ≡ false → shelf.new ≡ shelf.old }
+    ensures asked { IfSome (S.left source.old) (λ held.
+        (shelf.new ≡ shelf.old) ⊎ IsPolicyDocument (take most_read held)) }
 
     // Each fault comes only where its object failed in this call, and only of commands that use the object.
     ensures read_fault { result ≡ Status.ReadFault → Rose (S.faults source.old) (S.faults source.new) }

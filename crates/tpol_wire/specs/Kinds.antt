@@ -10,6 +10,7 @@ use Rattle.tpol_base.specs.declared.name.Name.TheVariants as names
 use Rattle.tpol_base.specs.Compare.{number_of_compare, compare_of_number}
 use Rattle.tpol_base.specs.Digest.{digest_of_bytes}
 use Rattle.tpol_base.specs.Name.{name_bytes, name_of_bytes}
+pub use Rattle.tpol_base.specs.Sized.{sized}
 use Rattle.tpol_wire.specs.declared.ticket.Ticket.{Ticket}
 use Rattle.tpol_wire.specs.Refusals.{◌>>=◌, bad_value, bad_size, insufficient}
 
@@ -58,9 +59,6 @@ ValueOf (Digests least most) = List Digest32
 ValueOf (Behind w n code kind) = ValueOf kind
 
 -- ---- spellings
-
-abbrev pub sized : List ℕ → List ℕ
-sized bytes = to_be_bytes w16 (length bytes) ++ bytes
 
 abbrev pub truth_byte : Bool → ℕ
 truth_byte true = 1
