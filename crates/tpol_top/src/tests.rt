@@ -9,6 +9,10 @@ const SECRET: &str =
 const SECRET_DIGEST: &str =
     "digest 837197674484b3f81a90cc8d46a5d724fd52d76e06520b64f2a1da1b331469aa\n";
 
+// PCR 23 with 32 zero bytes.
+const PCR_23_DIGEST: &str =
+    "digest 3c87a4b3fb85ebeea58c5fb36ac22d3f280cec27a9f6dd0fa23be9ce560deec8\n";
+
 const VALUE_DIGEST: &str =
     "digest 8fcd2169ab92694e0c633f1ab772842b8241bbc20288981fc7ac1eddc1fddb0e\n";
 
@@ -32,6 +36,10 @@ const CURRENT_PCR: &str = r#"{"policy":[{"type":"POLICYPCR","currentPCRs":[23]}]
 
 const OR: &str =
     r#"{"type":"OR","branches":[{"policy":[{"type":"AUTHVALUE"}]},{"policy":[{"type":"PASSWORD"}]}]}"#;
+
+// Two entities that name policies, of which the second name is none.
+const NAMED_POLICIES: &str =
+    r#"{"entities":[{"kind":"key","path":"a","handle":"0x80000000","policy":"disk","secret":""},{"kind":"key","path":"b","handle":"0x80000001","policy":"a b","secret":""}]}"#;
 
 fn words_of(alloc: Global, words: &[&str]) -> Result<Vec<String>, AllocError> {
     let mut list = Vec::new(alloc);
@@ -210,14 +218,22 @@ fn scenes_give_current_values(rt: HostRuntime) -> Result<(), Fail> {
     shelf.put("bad.scene", b"{")?;
     let (status, text) = run(alloc, &["compile", "--scene", "m"], CURRENT_PCR, &mut shelf)?;
     assert_eq!(rt; status, Status::Done);
-    let (_, written) = run(alloc, &["compile"], PCR_23, &mut shelf)?;
-    assert_eq!(rt; text.as_str(), written.as_str());
+    assert_eq!(rt; text.as_str(), PCR_23_DIGEST);
+    let (_, text) = run(alloc, &["compile"], PCR_23, &mut shelf)?;
+    assert_eq!(rt; text.as_str(), PCR_23_DIGEST);
     let words = ["compile", "--scene", "/policy/none"];
     let (status, text) = run(alloc, &words, CURRENT_PCR, &mut shelf)?;
     assert_eq!(rt; status, Status::BadScene);
     assert_eq!(rt; text.as_str(), "error BadScene NoSuchScene\n");
     let (_, text) = run(alloc, &["paths", "--scene", "bad"], CURRENT_PCR, &mut shelf)?;
     assert_eq!(rt; text.as_str(), "error BadScene NotJson\n");
+    shelf.put("named.scene", NAMED_POLICIES.as_bytes())?;
+    let words = ["compile", "--scene", "named"];
+    let (_, text) = run(alloc, &words, CURRENT_PCR, &mut shelf)?;
+    assert_eq!(rt;
+        text.as_str(),
+        "error BadScene NoSuchPolicy at entities[0].policy\n"
+    );
     Ok(())
 }
 
@@ -246,6 +262,23 @@ fn faults_of_the_outside_are_told(rt: HostRuntime) -> Result<(), Fail> {
     let status = policy_main(alloc, &words, &mut source, &mut sink, &mut shelf);
     assert_eq!(rt; status, Status::ShelfFault);
     assert_eq!(rt; sink.written().ok_or("lost")?.len(), 0);
+    Ok(())
+}
+
+// The source is called until it answers that it is at its end, and the shelf for the scene alone.
+#[test]
+fn nothing_is_called_again(rt: HostRuntime) -> Result<(), Fail> {
+    let alloc = rt.alloc();
+    let words = words_of(alloc, &["compile", "--scene", "m"])?;
+    let document = CURRENT_PCR.as_bytes().to_vec(alloc)?;
+    let mut source = Failing::new(MemorySource::new(document), vec![in alloc; 3]?);
+    let mut sink = MemorySink::new(alloc);
+    let mut scenes = MemoryShelf::new(alloc);
+    scenes.put("m.scene", b"{}")?;
+    let mut shelf = Failing::new(scenes, vec![in alloc; 2]?);
+    let status = policy_main(alloc, &words, &mut source, &mut sink, &mut shelf);
+    assert_eq!(rt; status, Status::Done);
+    assert_eq!(rt; sink.written().ok_or("lost")?, PCR_23_DIGEST.as_bytes());
     Ok(())
 }
 
