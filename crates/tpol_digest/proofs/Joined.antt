@@ -3,7 +3,7 @@ use Rattle.std.proofs.Common.{◌≡◌, ℕ, ◌+◌, ◌<◌, List, [], ◌∷
 use Rattle.std.proofs.lemmas.List.{append-nil, take_more}
 use Rattle.std.proofs.lemmas.List.Concat.{flat_map-append}
 use Rattle.tpol_base.specs.declared.digest.Digest32.{Digest32}
-use Rattle.tpol_digest.specs.Stage.{joined}
+use Rattle.tpol_digest.specs.Update.{joined}
 
 pub joined_more : (base : List ℕ) (digests : List Digest32) (i : ℕ) (d : Digest32) → i < length digests → d ≡ get_or digests i d → (base ++ joined (take i digests)) ++ d.bytes ≡ base ++ joined (take (i + 1) digests)
 joined_more base digests i d within is =

@@ -16,23 +16,23 @@ use Rattle.tpol_tree.specs.declared.closed.ClosedBranches.TheVariants.{More' as 
 use Rattle.tpol_tree.specs.declared.facts.Fact.{Fact}
 use Rattle.tpol_tree.specs.declared.path.ApprovedDoc.{ApprovedDoc}
 use Rattle.tpol_tree.specs.declared.path.Move.{Move}
-use Rattle.tpol_digest.specs.Stage.{Stage, joined, stage_of, stage_of_assertion, stage_of_or, stage_of_approve, stage_of_approve_nv}
+use Rattle.tpol_digest.specs.Update.{Update, joined, update_of, update_of_assertion, update_of_or, update_of_approve, update_of_approve_nv}
 use Rattle.tpol_digest.specs.Digest.{zero_digest, first_string, digest_after, digest_at_element, branch_digests}
 use Rattle.tpol_digest.specs.Sound.{moves_of_facts}
 
 -- the string of the second hash, if there is one
-abbrev pub second_string : Stage → Digest32 → Option (List ℕ) → List (List ℕ)
+abbrev pub second_string : Update → Digest32 → Option (List ℕ) → List (List ℕ)
 second_string s d None = []
 second_string s d (Some policy_ref) = ((sha256_digest (first_string s d)).bytes ++ policy_ref) ∷ []
 
--- the strings of a stage, where d is the digest before: the inner one, then those of the two hashes
-abbrev pub strings_of : Stage → Digest32 → List (List ℕ)
+-- the strings of an update, where d is the digest before: the inner one, then those of the two hashes
+abbrev pub strings_of : Update → Digest32 → List (List ℕ)
 strings_of s d = option_to_list s.inner ++ first_string s d ∷ second_string s d s.policy_ref
 
 -- the strings of moves in a row
 abbrev pub inputs_of_moves : Digest32 → List Move → List (List ℕ)
 inputs_of_moves d [] = []
-inputs_of_moves d (act ∷ rest) = strings_of (stage_of act) d ++ inputs_of_moves (digest_after act d) rest
+inputs_of_moves d (act ∷ rest) = strings_of (update_of act) d ++ inputs_of_moves (digest_after act d) rest
 
 -- the strings of facts; a fact has no values of PCRs
 abbrev pub inputs_of_facts : List Fact → List (List ℕ)
@@ -50,10 +50,10 @@ abbrev mutual
   inputs_at (More' p element q rest) d = inputs_at_element element d ++ inputs_at rest (digest_at_element element d)
 
   pub inputs_at_element : ClosedElement → Digest32 → List (List ℕ)
-  inputs_at_element (Assert assertion) d = pcr_values assertion ++ strings_of (stage_of_assertion assertion) d
-  inputs_at_element (Or branches) d = inputs_at_branches branches d ++ strings_of (stage_of_or (branch_digests branches d)) d
-  inputs_at_element (Authorize key policy_ref) d = strings_of (stage_of_approve key policy_ref) d
-  inputs_at_element (AuthorizeNv index) d = strings_of (stage_of_approve_nv index) d
+  inputs_at_element (Assert assertion) d = pcr_values assertion ++ strings_of (update_of_assertion assertion) d
+  inputs_at_element (Or branches) d = inputs_at_branches branches d ++ strings_of (update_of_or (branch_digests branches d)) d
+  inputs_at_element (Authorize key policy_ref) d = strings_of (update_of_approve key policy_ref) d
+  inputs_at_element (AuthorizeNv index) d = strings_of (update_of_approve_nv index) d
 
   pub inputs_at_branches : ClosedBranches → Digest32 → List (List ℕ)
   inputs_at_branches EndBranches d = []

@@ -3,7 +3,7 @@ pub mod Extent
 pub mod Inputs
 pub mod Paths
 pub mod Sound
-pub mod Stage
-pub mod StageBytes
+pub mod Update
+pub mod UpdateBytes
 pub mod Term
 pub mod WellFormed

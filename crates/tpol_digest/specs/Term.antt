@@ -13,7 +13,7 @@ use Rattle.tpol_tree.specs.declared.closed.ClosedElement.TheVariants.{Assert, Or
 use Rattle.tpol_tree.specs.declared.closed.ClosedBranches.{ClosedBranches}
 use Rattle.tpol_tree.specs.declared.closed.ClosedBranches.TheVariants.{More' as MoreBranches', End as EndBranches}
 use Rattle.tpol_tree.specs.declared.path.Move.{Move}
-use Rattle.tpol_digest.specs.Stage.{Stage, stage_of, stage_of_assertion, stage_of_or, stage_of_approve, stage_of_approve_nv}
+use Rattle.tpol_digest.specs.Update.{Update, update_of, update_of_assertion, update_of_or, update_of_approve, update_of_approve_nv}
 use Rattle.tpol_digest.specs.Digest.{zero_digest}
 
 mutual
@@ -39,7 +39,7 @@ abbrev mutual
   bytes_of_parts (BytesThen bytes rest) = bytes ++ bytes_of_parts rest
   bytes_of_parts (TermThen t rest) = (bytes_of_term t).bytes ++ bytes_of_parts rest
 
--- the term that a stage starts from, where t is the term before
+-- the term that an update starts from, where t is the term before
 abbrev pub start_term : Bool → Term → Term
 start_term true t = Zero
 start_term false t = t
@@ -54,17 +54,17 @@ abbrev pub term_after_second : Option (List ℕ) → Term → Term
 term_after_second None first = first
 term_after_second (Some policy_ref) first = Hash (TermThen first (BytesThen policy_ref NoParts))
 
--- the term after a stage
-abbrev pub term_after_stage : Stage → Term → Term
-term_after_stage s t =
+-- the term after an update
+abbrev pub term_after_update : Update → Term → Term
+term_after_update s t =
     term_after_second s.policy_ref (Hash (TermThen (start_term s.fresh t) (BytesThen (to_be_bytes w32 s.code) (inner_then s.inner (BytesThen s.rest NoParts)))))
 
 -- the term after an assertion, after a move, and after moves in a row
 abbrev pub term_after_assertion : Assertion → Term → Term
-term_after_assertion assertion t = term_after_stage (stage_of_assertion assertion) t
+term_after_assertion assertion t = term_after_update (update_of_assertion assertion) t
 
 abbrev pub term_after : Move → Term → Term
-term_after act t = term_after_stage (stage_of act) t
+term_after act t = term_after_update (update_of act) t
 
 abbrev pub term_from : Term → List Move → Term
 term_from t [] = t
@@ -75,13 +75,13 @@ term_of_moves moves = term_from Zero moves
 
 -- the terms after PolicyOR, PolicyAuthorize and PolicyAuthorizeNV, whatever the term before is
 abbrev pub term_of_or : List Digest32 → Term
-term_of_or digests = term_after_stage (stage_of_or digests) Zero
+term_of_or digests = term_after_update (update_of_or digests) Zero
 
 abbrev pub term_of_approve : Name → List ℕ → Term
-term_of_approve key policy_ref = term_after_stage (stage_of_approve key policy_ref) Zero
+term_of_approve key policy_ref = term_after_update (update_of_approve key policy_ref) Zero
 
 abbrev pub term_of_approve_nv : Name → Term
-term_of_approve_nv index = term_after_stage (stage_of_approve_nv index) Zero
+term_of_approve_nv index = term_after_update (update_of_approve_nv index) Zero
 
 -- the term after elements and after one element, where t is the term before, and the terms of branches,
 -- each of which starts from the term before the OR

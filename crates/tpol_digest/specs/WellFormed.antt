@@ -6,7 +6,7 @@ use Rattle.tpol_tree.specs.declared.closed.Assertion.TheVariants.{Pcr}
 use Rattle.tpol_tree.specs.declared.closed.Closed.{Closed}
 use Rattle.tpol_tree.specs.declared.path.ApprovedDoc.{ApprovedDoc}
 use Rattle.tpol_tree.specs.Closed.{ApprovalsLead, EachAssertion, HasBranchCounts}
-use Rattle.tpol_digest.specs.Stage.{joined}
+use Rattle.tpol_digest.specs.Update.{joined}
 use Rattle.tpol_digest.specs.Digest.{policy_digest}
 
 -- the digest of a PCR assertion is the hash of its values joined

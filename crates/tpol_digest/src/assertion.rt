@@ -1,8 +1,8 @@
 ghost use Rattle.std.specs.Prelude.{◌≡◌, ◌++◌, []};
 ghost use Rattle.tpol_base.specs.Name.{name_bytes};
-ghost use Rattle.tpol_digest.specs.Digest.{after_stage, digest_after_assertion};
+ghost use Rattle.tpol_digest.specs.Digest.{after_update, digest_after_assertion};
 ghost use Rattle.tpol_digest.specs.Term.{Term, bytes_of_term, term_after_assertion};
-ghost use Rattle.tpol_digest.specs.Stage.{hash_of_inner, one_hash, comparison, duplication, pcr_selection};
+ghost use Rattle.tpol_digest.specs.Update.{hash_of_inner, one_hash, comparison, duplication, pcr_selection};
 
 use crate::command_code::{self, code_of_assertion};
 use crate::update::{comparison_digest, hash_once, hash_twice, selection_bytes, start};
@@ -70,7 +70,7 @@ pub fn extend(old: Digest32, assertion: &Assertion) -> Digest32
 }
 
 fn after_pcr(old: &Digest32, mask: u32, pcr_digest: &Digest32) -> Digest32
-    ensures { result ≡ after_stage (one_hash 0x17f (pcr_selection mask ++ pcr_digest.now.bytes)) old.now }
+    ensures { result ≡ after_update (one_hash 0x17f (pcr_selection mask ++ pcr_digest.now.bytes)) old.now }
 {
     let mut hasher = start(old, command_code::POLICY_PCR);
     hasher.put(&selection_bytes(mask));
@@ -86,7 +86,7 @@ fn after_nv(
     operation: Compare,
 ) -> Digest32
     ensures { result
-        ≡ after_stage (hash_of_inner 0x149 (comparison operand.now offset operation) (name_bytes index.now)) old.now }
+        ≡ after_update (hash_of_inner 0x149 (comparison operand.now offset operation) (name_bytes index.now)) old.now }
 {
     let mut hasher = start(old, command_code::POLICY_NV);
     hasher.put(&comparison_digest(operand, offset, operation).bytes);
@@ -96,7 +96,7 @@ fn after_nv(
 
 fn after_duplication(old: &Digest32, object: &Name, parent: &Name, include: bool) -> Digest32
     ensures { result
-        ≡ after_stage (one_hash 0x188 (duplication include (name_bytes object.now) (name_bytes parent.now))) old.now }
+        ≡ after_update (one_hash 0x188 (duplication include (name_bytes object.now) (name_bytes parent.now))) old.now }
 {
     let mut hasher = start(old, command_code::POLICY_DUPLICATION_SELECT);
     if include {

@@ -1,7 +1,7 @@
 // The codes of the policy commands (TPM 2.0 Part 2, TPM_CC).
 
 ghost use Rattle.std.specs.Prelude.{◌≡◌};
-ghost use Rattle.tpol_digest.specs.Stage.{stage_of_assertion};
+ghost use Rattle.tpol_digest.specs.Update.{update_of_assertion};
 
 use tpol_tree::Assertion;
 
@@ -39,7 +39,7 @@ pub const POLICY_AUTHORIZE_NV: u32 = 0x192;
 
 // The code of an assertion's command.
 pub fn code_of_assertion(assertion: &Assertion) -> u32
-    ensures { result ≡ (stage_of_assertion assertion.now).code }
+    ensures { result ≡ (update_of_assertion assertion.now).code }
 {
     match assertion {
         Assertion::Pcr { .. } => POLICY_PCR,

@@ -6,14 +6,14 @@ ghost use Rattle.tpol_hash.specs.Sha256.{sha256_digest};
 ghost use Rattle.tpol_digest.specs.Digest.{first_string, digest_after};
 ghost use Rattle.tpol_digest.specs.Inputs as spec;
 ghost use Rattle.tpol_digest.specs.Sound.{moves_of_facts};
-ghost use Rattle.tpol_digest.specs.Stage.{joined, stage_of};
-ghost use Rattle.tpol_digest.specs.StageBytes.{stage_value};
+ghost use Rattle.tpol_digest.specs.Update.{joined, update_of};
+ghost use Rattle.tpol_digest.specs.UpdateBytes.{update_value};
 
 use crate::moves::digest_after_move;
 use crate::path_parts::zero;
 use crate::policy::{digest_after_element, push_branch_digests};
-use crate::stage::{
-    StageBytes, stage_of_approve, stage_of_approve_nv, stage_of_assertion, stage_of_or,
+use crate::update_bytes::{
+    UpdateBytes, update_of_approve, update_of_approve_nv, update_of_assertion, update_of_or,
 };
 use std::alloc::Global;
 use tpol_base::{Blob, Digest32, Digests, NoMemory};
@@ -47,20 +47,20 @@ pub fn inputs_of_facts(alloc: Global, facts: &Facts) -> Result<Inputs, NoMemory>
     Ok(inputs)
 }
 
-// The string of a stage's first hash.
-fn string_of_first(alloc: Global, stage: &StageBytes, before: &Digest32) -> Result<Blob, NoMemory>
-    ensures { IfOk result (λ string. string ≡ first_string (stage_value stage.now) before.now) }
+// The string of an update's first hash.
+fn string_of_first(alloc: Global, update: &UpdateBytes, before: &Digest32) -> Result<Blob, NoMemory>
+    ensures { IfOk result (λ string. string ≡ first_string (update_value update.now) before.now) }
 {
-    let mut string = if stage.fresh {
+    let mut string = if update.fresh {
         Blob::from_slice(alloc, &Digest32::ZERO.bytes)?
     } else {
         Blob::from_slice(alloc, &before.bytes)?
     };
-    string.extend_from_slice(&stage.code.to_be_bytes())?;
-    if let Some(inner) = &stage.inner {
+    string.extend_from_slice(&update.code.to_be_bytes())?;
+    if let Some(inner) = &update.inner {
         string.extend_from_slice(&hash(inner.as_slice()).bytes)?;
     }
-    string.extend_from_slice(stage.rest.as_slice())?;
+    string.extend_from_slice(update.rest.as_slice())?;
     Ok(string)
 }
 
@@ -94,20 +94,20 @@ fn push_inner(alloc: Global, inputs: &mut Inputs, inner: &Option<Blob>) -> Resul
     }
 }
 
-// Adds the strings of a stage at the end.
+// Adds the strings of an update at the end.
 fn push_strings(
     alloc: Global,
     inputs: &mut Inputs,
-    stage: &StageBytes,
+    update: &UpdateBytes,
     before: &Digest32,
 ) -> Result<(), NoMemory>
-    ensures { OnOk result (inputs.new ≡ inputs.old ++ spec.strings_of (stage_value stage.now) before.now) }
+    ensures { OnOk result (inputs.new ≡ inputs.old ++ spec.strings_of (update_value update.now) before.now) }
 {
-    push_inner(alloc, inputs, &stage.inner)?;
-    let string = string_of_first(alloc, stage, before)?;
+    push_inner(alloc, inputs, &update.inner)?;
+    let string = string_of_first(alloc, update, before)?;
     let first = hash(string.as_slice());
     inputs.push(string)?;
-    push_second(alloc, inputs, &first, &stage.policy_ref)
+    push_second(alloc, inputs, &first, &update.policy_ref)
 }
 
 // Adds the joined values of a PCR assertion at the end.
@@ -174,23 +174,23 @@ fn push_element(
     match element {
         ClosedElement::Assert(assertion) => {
             push_pcr_values(alloc, inputs, assertion)?;
-            let stage = stage_of_assertion(alloc, assertion)?;
-            push_strings(alloc, inputs, &stage, &before)
+            let update = update_of_assertion(alloc, assertion)?;
+            push_strings(alloc, inputs, &update, &before)
         }
         ClosedElement::Or(branches) => {
             push_branches(alloc, inputs, branches, before)?;
             let mut digests = Digests::new(alloc);
             push_branch_digests(&mut digests, branches, before)?;
-            let stage = stage_of_or(alloc, &digests)?;
-            push_strings(alloc, inputs, &stage, &before)
+            let update = update_of_or(alloc, &digests)?;
+            push_strings(alloc, inputs, &update, &before)
         }
         ClosedElement::Authorize { key, policy_ref } => {
-            let stage = stage_of_approve(alloc, key, policy_ref)?;
-            push_strings(alloc, inputs, &stage, &before)
+            let update = update_of_approve(alloc, key, policy_ref)?;
+            push_strings(alloc, inputs, &update, &before)
         }
         ClosedElement::AuthorizeNv { index } => {
-            let stage = stage_of_approve_nv(alloc, index)?;
-            push_strings(alloc, inputs, &stage, &before)
+            let update = update_of_approve_nv(alloc, index)?;
+            push_strings(alloc, inputs, &update, &before)
         }
     }
 }
@@ -221,20 +221,20 @@ fn push_move(
     act: &Move,
     before: &Digest32,
 ) -> Result<(), NoMemory>
-    ensures { OnOk result (inputs.new ≡ inputs.old ++ spec.strings_of (stage_of act.now) before.now) }
+    ensures { OnOk result (inputs.new ≡ inputs.old ++ spec.strings_of (update_of act.now) before.now) }
 {
-    let stage = match act {
-        Move::Assert(assertion) => stage_of_assertion(alloc, assertion)?,
-        Move::Or(digests) => stage_of_or(alloc, digests)?,
+    let update = match act {
+        Move::Assert(assertion) => update_of_assertion(alloc, assertion)?,
+        Move::Or(digests) => update_of_or(alloc, digests)?,
         Move::Approve {
             key,
             policy_ref,
             approved: _,
             signature: _,
-        } => stage_of_approve(alloc, key, policy_ref)?,
-        Move::ApproveNv { index, approved: _ } => stage_of_approve_nv(alloc, index)?,
+        } => update_of_approve(alloc, key, policy_ref)?,
+        Move::ApproveNv { index, approved: _ } => update_of_approve_nv(alloc, index)?,
     };
-    push_strings(alloc, inputs, &stage, before)
+    push_strings(alloc, inputs, &update, before)
 }
 
 // Adds the strings of the moves of facts at the end.

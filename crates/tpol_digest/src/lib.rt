@@ -1,7 +1,7 @@
 //! The digests of policies (TPM 2.0 Part 3, the policy commands), the ways through a policy, and the
 //! strings that are hashed for it.
 //!
-//! The layers above cite the definitions of `specs/`: `Stage`, what a move hashes, as data, from which the
+//! The layers above cite the definitions of `specs/`: `Update`, what a move hashes, as data, from which the
 //! digest, the strings and a `Term`, what is hashed as a tree, follow; `policy_digest` and `digest_of_moves`;
 //! `paths_of`; `IsSound` and `IsWellFormed`. The theorem that all branches meet stands on `paths`.
 #![tactic(auto)]
@@ -18,10 +18,10 @@ mod listing;
 mod moves;
 mod path_parts;
 mod policy;
-mod stage;
 #[cfg(test)]
 mod tests;
 mod update;
+mod update_bytes;
 
 pub use all_paths::{count_paths, paths};
 pub use assertion::extend;

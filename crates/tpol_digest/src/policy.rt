@@ -1,6 +1,6 @@
 ghost use Rattle.std.specs.Prelude.{◌≡◌, ◌++◌, ℕ, List, OnOk};
 ghost use Rattle.tpol_hash.specs.Messages.{Holds};
-ghost use Rattle.tpol_digest.specs.Stage.{joined};
+ghost use Rattle.tpol_digest.specs.Update.{joined};
 ghost use Rattle.tpol_digest.specs.Digest as spec;
 ghost use Rattle.tpol_digest.specs.Term.{bytes_of_term, term_of_approve, term_of_approve_nv, term_of_or, term_of_policy};
 

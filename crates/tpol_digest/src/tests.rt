@@ -372,8 +372,8 @@ fn limits(rt: HostRuntime) -> Result<(), Fail> {
 
 const POLICY_REF: [u8; 8] = [0x00, 0x00, 0x01, 0x6c, 0x00, 0x00, 0x01, 0x5e];
 
-// What the first stage of a PolicySecret of the owner hashes first.
-fn first_stage() -> [u8; 40] {
+// What the first update of a PolicySecret of the owner hashes first.
+fn first_update() -> [u8; 40] {
     let mut first = [0; 40];
     first[34] = 0x01;
     first[35] = 0x51;
@@ -397,7 +397,7 @@ fn inputs_of_two_stages(rt: HostRuntime) -> Result<(), Fail> {
     assert_eq!(rt; &digest_of(&policy).bytes, TWO_STAGES);
     let inputs = inputs_of(alloc, &policy, &Approvals::new(alloc))?;
     assert_eq!(rt; inputs.len(), 4);
-    assert_eq!(rt; inputs.as_slice()[0].as_slice(), first_stage().as_slice());
+    assert_eq!(rt; inputs.as_slice()[0].as_slice(), first_update().as_slice());
     Ok(())
 }
 
@@ -436,7 +436,7 @@ fn inputs_of_a_session(rt: HostRuntime) -> Result<(), Fail> {
     let third = or_string(alloc, OWNER_THEN_REF, AUTH_VALUE)?;
     let inputs = inputs_of_facts(alloc, &facts)?;
     assert_eq!(rt; inputs.len(), 3);
-    assert_eq!(rt; inputs.as_slice()[0].as_slice(), first_stage().as_slice());
+    assert_eq!(rt; inputs.as_slice()[0].as_slice(), first_update().as_slice());
     assert_eq!(rt; inputs.as_slice()[1].as_slice(), second.as_slice());
     assert_eq!(rt; inputs.as_slice()[2].as_slice(), third.as_slice());
     assert_eq!(rt; &run_facts(&facts).bytes, TWO_STAGES);

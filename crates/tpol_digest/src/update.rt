@@ -7,8 +7,8 @@ ghost use Rattle.tpol_base.specs.Compare.{number_of_compare};
 ghost use Rattle.tpol_base.specs.Name.{name_bytes};
 ghost use Rattle.tpol_hash.specs.Sha256.{sha256_digest};
 ghost use Rattle.tpol_hash.specs.Messages.{Holds};
-ghost use Rattle.tpol_digest.specs.Stage.{comparison, one_hash, pcr_selection, two_hashes};
-ghost use Rattle.tpol_digest.specs.Digest.{after_stage};
+ghost use Rattle.tpol_digest.specs.Update.{comparison, one_hash, pcr_selection, two_hashes};
+ghost use Rattle.tpol_digest.specs.Digest.{after_update};
 
 use tpol_base::{Blob, Compare, Digest32, Name};
 use tpol_hash::Hasher;
@@ -25,7 +25,7 @@ pub fn start(old: &Digest32, code: u32) -> Hasher
 
 // The digest after a command that hashes these bytes behind its code.
 pub fn hash_once(old: &Digest32, code: u32, rest: &[u8]) -> Digest32
-    ensures { result ≡ after_stage (one_hash code rest.now) old.now }
+    ensures { result ≡ after_update (one_hash code rest.now) old.now }
 {
     let mut hasher = start(old, code);
     hasher.put(rest);
@@ -34,7 +34,7 @@ pub fn hash_once(old: &Digest32, code: u32, rest: &[u8]) -> Digest32
 
 // The digest after a command that hashes a Name, and then the first digest with the policyRef.
 pub fn hash_twice(old: &Digest32, code: u32, name: &Name, policy_ref: &Blob) -> Digest32
-    ensures { result ≡ after_stage (two_hashes code (name_bytes name.now) policy_ref.now) old.now }
+    ensures { result ≡ after_update (two_hashes code (name_bytes name.now) policy_ref.now) old.now }
 {
     let mut hasher = start(old, code);
     hasher.put_name(name);

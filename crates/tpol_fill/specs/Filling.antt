@@ -6,7 +6,7 @@ use Rattle.tpol_base.specs.declared.digest.Digest32.{Digest32}
 use Rattle.tpol_base.specs.declared.name.Name.{Name}
 use Rattle.tpol_base.specs.Name.{name_bytes}
 use Rattle.tpol_digest.specs.Digest.{zero_digest}
-use Rattle.tpol_digest.specs.Stage.{joined}
+use Rattle.tpol_digest.specs.Update.{joined}
 use Rattle.tpol_fill.specs.declared.fault.FillFault.{FillFault}
 use Rattle.tpol_fill.specs.declared.fault.FillFault.TheVariants.{Bad}
 use Rattle.tpol_fill.specs.declared.fault.FillKind.{FillKind}

@@ -2,7 +2,7 @@
 
 ghost use Rattle.std.specs.Prelude.{◌≡◌, ◌<◌, ℕ, All, IfOk, codes, map};
 ghost use Rattle.std.specs.Option.{option_copied};
-ghost use Rattle.tpol_digest.specs.Stage.{joined};
+ghost use Rattle.tpol_digest.specs.Update.{joined};
 ghost use Rattle.tpol_fill.specs.Filling.{current_faults, current_value, filled_pcrs, mask_of_pcrs, pcr_assertion, pcr_faults, pcrs_of_mask, value_faults, or_zero};
 ghost use Rattle.tpol_fill.specs.Outcome.{Fills, each_fault};
 ghost use Rattle.tpol_hash.specs.Sha256.{sha256_digest};

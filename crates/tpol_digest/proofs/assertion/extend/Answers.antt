@@ -1,7 +1,7 @@
 use Rattle.std.proofs.Common.{sym, ap, ◌∙◌}
 use Rattle.tpol_digest.specs.Digest.{digest_after_assertion}
-use Rattle.tpol_digest.specs.Stage.{stage_of_assertion}
-use Rattle.tpol_digest.proofs.TermLaws.{stage_bytes}
+use Rattle.tpol_digest.specs.Update.{update_of_assertion}
+use Rattle.tpol_digest.proofs.TermLaws.{update_bytes}
 use Rattle.tpol_digest.proofs.assertion.extend.Goals as goal
 
 pub returns-in-Pcr-clause-digest : goal.returns-in-Pcr-clause-digest
@@ -11,4 +11,4 @@ pub returns-in-Pcr-clause-term : goal.returns-in-Pcr-clause-term
 returns-in-Pcr-clause-term c = λ t before.
     returns-in-Pcr-clause-digest c
     ∙ ap (digest_after_assertion c.args.assertion.now) before
-    ∙ sym (stage_bytes (stage_of_assertion c.args.assertion.now) t)
+    ∙ sym (update_bytes (update_of_assertion c.args.assertion.now) t)

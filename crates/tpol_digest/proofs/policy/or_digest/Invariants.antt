@@ -1,7 +1,7 @@
 use Rattle.std.proofs.Common.{◌++◌, take}
 use Rattle.std.specs.Int.{to_be_bytes, w32}
 use Rattle.tpol_hash.specs.Messages.{Holds}
-use Rattle.tpol_digest.specs.Stage.{joined}
+use Rattle.tpol_digest.specs.Update.{joined}
 use Rattle.tpol_digest.specs.Digest as spec
 use Rattle.tpol_digest.proofs.policy.or_digest.Given as goal
 

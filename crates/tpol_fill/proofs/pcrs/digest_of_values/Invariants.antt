@@ -1,5 +1,5 @@
 use Rattle.std.proofs.Common.{take}
-use Rattle.tpol_digest.specs.Stage.{joined}
+use Rattle.tpol_digest.specs.Update.{joined}
 use Rattle.tpol_hash.specs.Messages.{Holds}
 use Rattle.tpol_fill.proofs.pcrs.digest_of_values.Given as goal
 

@@ -14,7 +14,7 @@ use Rattle.tpol_tree.specs.declared.path.Move.TheVariants.{Assert, Or, Approve, 
 
 -- The new digest is H(H(start || code || H(inner) || rest) || policy_ref). The parts that are None, with
 -- the hash that they stand in, are left out.
-pub record Stage : Type 0 where
+pub record Update : Type 0 where
   -- whether the start is 32 zero bytes, in place of the digest before
   pub fresh : Bool
   -- the command code
@@ -26,19 +26,19 @@ pub record Stage : Type 0 where
   pub policy_ref : Option (List ℕ)
 
 -- one hash of the digest before, the code and these bytes
-abbrev pub one_hash : ℕ → List ℕ → Stage
+abbrev pub one_hash : ℕ → List ℕ → Update
 one_hash code rest = record { fresh = false; code = code; inner = None; rest = rest; policy_ref = None }
 
 -- the same with the digest of a string in front of the bytes
-abbrev pub hash_of_inner : ℕ → List ℕ → List ℕ → Stage
+abbrev pub hash_of_inner : ℕ → List ℕ → List ℕ → Update
 hash_of_inner code inner rest = record { fresh = false; code = code; inner = Some inner; rest = rest; policy_ref = None }
 
 -- two hashes, the second with a policyRef, also where that is empty
-abbrev pub two_hashes : ℕ → List ℕ → List ℕ → Stage
+abbrev pub two_hashes : ℕ → List ℕ → List ℕ → Update
 two_hashes code rest policy_ref = record { fresh = false; code = code; inner = None; rest = rest; policy_ref = Some policy_ref }
 
 -- the same from 32 zero bytes
-abbrev pub from_zero : Stage → Stage
+abbrev pub from_zero : Update → Update
 from_zero s = record s { fresh = true }
 
 -- a selection of SHA-256 PCRs (TPM 2.0 Part 2, TPML_PCR_SELECTION): PCR n is bit n mod 8 of byte n / 8
@@ -61,39 +61,39 @@ duplication true object parent = object ++ parent ++ yes_no true ∷ []
 duplication false object parent = parent ++ yes_no false ∷ []
 
 -- one line for each assertion
-abbrev pub stage_of_assertion : Assertion → Stage
-stage_of_assertion (Pcr mask digest values) = one_hash 0x17f (pcr_selection mask ++ digest.bytes)
-stage_of_assertion (Nv index operand offset operation) = hash_of_inner 0x149 (comparison operand offset operation) (name_bytes index)
-stage_of_assertion (CounterTimer operand offset operation) = hash_of_inner 0x16d (comparison operand offset operation) []
-stage_of_assertion (Secret entity policy_ref cp_hash expiration) = two_hashes 0x151 (name_bytes entity) policy_ref
-stage_of_assertion (Signed key policy_ref cp_hash expiration) = two_hashes 0x160 (name_bytes key) policy_ref
-stage_of_assertion (CommandCode code) = one_hash 0x16c (to_be_bytes w32 code)
-stage_of_assertion (Locality locality) = one_hash 0x16f (locality ∷ [])
-stage_of_assertion (CpHash digest) = one_hash 0x16e digest.bytes
-stage_of_assertion (NameHash digest) = one_hash 0x170 digest.bytes
-stage_of_assertion (NvWritten written) = one_hash 0x18f (yes_no written ∷ [])
-stage_of_assertion AuthValue = one_hash 0x16b []
-stage_of_assertion Password = one_hash 0x16b []
-stage_of_assertion PhysicalPresence = one_hash 0x187 []
-stage_of_assertion (Duplication object parent include) = one_hash 0x188 (duplication include (name_bytes object) (name_bytes parent))
+abbrev pub update_of_assertion : Assertion → Update
+update_of_assertion (Pcr mask digest values) = one_hash 0x17f (pcr_selection mask ++ digest.bytes)
+update_of_assertion (Nv index operand offset operation) = hash_of_inner 0x149 (comparison operand offset operation) (name_bytes index)
+update_of_assertion (CounterTimer operand offset operation) = hash_of_inner 0x16d (comparison operand offset operation) []
+update_of_assertion (Secret entity policy_ref cp_hash expiration) = two_hashes 0x151 (name_bytes entity) policy_ref
+update_of_assertion (Signed key policy_ref cp_hash expiration) = two_hashes 0x160 (name_bytes key) policy_ref
+update_of_assertion (CommandCode code) = one_hash 0x16c (to_be_bytes w32 code)
+update_of_assertion (Locality locality) = one_hash 0x16f (locality ∷ [])
+update_of_assertion (CpHash digest) = one_hash 0x16e digest.bytes
+update_of_assertion (NameHash digest) = one_hash 0x170 digest.bytes
+update_of_assertion (NvWritten written) = one_hash 0x18f (yes_no written ∷ [])
+update_of_assertion AuthValue = one_hash 0x16b []
+update_of_assertion Password = one_hash 0x16b []
+update_of_assertion PhysicalPresence = one_hash 0x187 []
+update_of_assertion (Duplication object parent include) = one_hash 0x188 (duplication include (name_bytes object) (name_bytes parent))
 
 -- the bytes of digests, joined
 abbrev pub joined : List Digest32 → List ℕ
 joined digests = flat_map (λ d. d.bytes) digests
 
 -- PolicyOR, PolicyAuthorize and PolicyAuthorizeNV, which start from zero
-abbrev pub stage_of_or : List Digest32 → Stage
-stage_of_or digests = from_zero (one_hash 0x171 (joined digests))
+abbrev pub update_of_or : List Digest32 → Update
+update_of_or digests = from_zero (one_hash 0x171 (joined digests))
 
-abbrev pub stage_of_approve : Name → List ℕ → Stage
-stage_of_approve key policy_ref = from_zero (two_hashes 0x16a (name_bytes key) policy_ref)
+abbrev pub update_of_approve : Name → List ℕ → Update
+update_of_approve key policy_ref = from_zero (two_hashes 0x16a (name_bytes key) policy_ref)
 
-abbrev pub stage_of_approve_nv : Name → Stage
-stage_of_approve_nv index = from_zero (one_hash 0x192 (name_bytes index))
+abbrev pub update_of_approve_nv : Name → Update
+update_of_approve_nv index = from_zero (one_hash 0x192 (name_bytes index))
 
 -- one line for each kind of move
-abbrev pub stage_of : Move → Stage
-stage_of (Assert assertion) = stage_of_assertion assertion
-stage_of (Or digests) = stage_of_or digests
-stage_of (Approve key policy_ref approved signature) = stage_of_approve key policy_ref
-stage_of (ApproveNv index approved) = stage_of_approve_nv index
+abbrev pub update_of : Move → Update
+update_of (Assert assertion) = update_of_assertion assertion
+update_of (Or digests) = update_of_or digests
+update_of (Approve key policy_ref approved signature) = update_of_approve key policy_ref
+update_of (ApproveNv index approved) = update_of_approve_nv index

@@ -2,8 +2,8 @@
 
 ghost use Rattle.std.specs.Prelude.{◌≡◌, ◌++◌, [], IfOk};
 ghost use Rattle.tpol_base.specs.Name.{name_bytes};
-ghost use Rattle.tpol_digest.specs.Stage as spec;
-ghost use Rattle.tpol_digest.specs.StageBytes.{stage_value};
+ghost use Rattle.tpol_digest.specs.Update as spec;
+ghost use Rattle.tpol_digest.specs.UpdateBytes.{update_value};
 
 use crate::command_code::{self, code_of_assertion};
 use crate::update::{comparison_end, selection_bytes};
@@ -14,7 +14,7 @@ use tpol_tree::Assertion;
 // The new digest is H(H(start || code || H(inner) || rest) || policy_ref), where the parts that are None
 // are left out, and the start is 32 zero bytes where `fresh` holds and else the digest before.
 #[derive(Drop)]
-pub struct StageBytes {
+pub struct UpdateBytes {
     pub fresh: bool,
     pub code: u32,
     pub inner: Option<Blob>,
@@ -23,10 +23,10 @@ pub struct StageBytes {
 }
 
 // A command that hashes these bytes behind its code.
-fn one_hash(code: u32, rest: Blob) -> StageBytes
-    ensures { stage_value result ≡ spec.one_hash code rest }
+fn one_hash(code: u32, rest: Blob) -> UpdateBytes
+    ensures { update_value result ≡ spec.one_hash code rest }
 {
-    StageBytes {
+    UpdateBytes {
         fresh: false,
         code,
         inner: None,
@@ -41,13 +41,13 @@ fn two_hashes(
     code: u32,
     name: &Name,
     policy_ref: &Blob,
-) -> Result<StageBytes, NoMemory>
-    ensures { IfOk result (λ stage. stage_value stage
+) -> Result<UpdateBytes, NoMemory>
+    ensures { IfOk result (λ update. update_value update
         ≡ spec.two_hashes code (name_bytes name.now) policy_ref.now) }
 {
     let rest = name.to_bytes(alloc)?;
     let second = Blob::from_slice(alloc, policy_ref.as_slice())?;
-    Ok(StageBytes {
+    Ok(UpdateBytes {
         fresh: false,
         code,
         inner: None,
@@ -64,13 +64,13 @@ fn comparison(
     offset: u16,
     operation: Compare,
     rest: Blob,
-) -> Result<StageBytes, NoMemory>
-    ensures { IfOk result (λ stage. stage_value stage
+) -> Result<UpdateBytes, NoMemory>
+    ensures { IfOk result (λ update. update_value update
         ≡ spec.hash_of_inner code (spec.comparison operand.now offset operation) rest) }
 {
     let mut inner = Blob::from_slice(alloc, operand.as_slice())?;
     inner.extend_from_slice(&comparison_end(offset, operation))?;
-    Ok(StageBytes {
+    Ok(UpdateBytes {
         fresh: false,
         code,
         inner: Some(inner),
@@ -79,8 +79,8 @@ fn comparison(
     })
 }
 
-fn pcr(alloc: Global, mask: u32, pcr_digest: &Digest32) -> Result<StageBytes, NoMemory>
-    ensures { IfOk result (λ stage. stage_value stage
+fn pcr(alloc: Global, mask: u32, pcr_digest: &Digest32) -> Result<UpdateBytes, NoMemory>
+    ensures { IfOk result (λ update. update_value update
         ≡ spec.one_hash 0x17f (spec.pcr_selection mask ++ pcr_digest.now.bytes)) }
 {
     let mut rest = Blob::from_slice(alloc, &selection_bytes(mask))?;
@@ -93,8 +93,8 @@ fn duplication(
     object: &Name,
     parent: &Name,
     include: bool,
-) -> Result<StageBytes, NoMemory>
-    ensures { IfOk result (λ stage. stage_value stage
+) -> Result<UpdateBytes, NoMemory>
+    ensures { IfOk result (λ update. update_value update
         ≡ spec.one_hash 0x188 (spec.duplication include (name_bytes object.now) (name_bytes parent.now))) }
 {
     let second = parent.to_bytes(alloc)?;
@@ -109,8 +109,8 @@ fn duplication(
 }
 
 // What an assertion hashes.
-pub fn stage_of_assertion(alloc: Global, assertion: &Assertion) -> Result<StageBytes, NoMemory>
-    ensures { IfOk result (λ stage. stage_value stage ≡ spec.stage_of_assertion assertion.now) }
+pub fn update_of_assertion(alloc: Global, assertion: &Assertion) -> Result<UpdateBytes, NoMemory>
+    ensures { IfOk result (λ update. update_value update ≡ spec.update_of_assertion assertion.now) }
 {
     let code = code_of_assertion(assertion);
     match assertion {
@@ -163,45 +163,45 @@ pub fn stage_of_assertion(alloc: Global, assertion: &Assertion) -> Result<StageB
 }
 
 // A command that hashes a copy of these bytes behind its code.
-fn hashed(alloc: Global, code: u32, rest: &[u8]) -> Result<StageBytes, NoMemory>
-    ensures { IfOk result (λ stage. stage_value stage ≡ spec.one_hash code rest.now) }
+fn hashed(alloc: Global, code: u32, rest: &[u8]) -> Result<UpdateBytes, NoMemory>
+    ensures { IfOk result (λ update. update_value update ≡ spec.one_hash code rest.now) }
 {
     let rest = Blob::from_slice(alloc, rest)?;
     Ok(one_hash(code, rest))
 }
 
 // What an OR hashes.
-pub fn stage_of_or(alloc: Global, digests: &Digests) -> Result<StageBytes, NoMemory>
-    ensures { IfOk result (λ stage. stage_value stage ≡ spec.stage_of_or digests.now) }
+pub fn update_of_or(alloc: Global, digests: &Digests) -> Result<UpdateBytes, NoMemory>
+    ensures { IfOk result (λ update. update_value update ≡ spec.update_of_or digests.now) }
 {
     let mut rest = Blob::new(alloc);
     for digest in digests.as_slice() {
         rest.extend_from_slice(&digest.bytes)?;
     }
-    let mut stage = one_hash(command_code::POLICY_OR, rest);
-    stage.fresh = true;
-    Ok(stage)
+    let mut update = one_hash(command_code::POLICY_OR, rest);
+    update.fresh = true;
+    Ok(update)
 }
 
 // What an AUTHORIZE hashes.
-pub fn stage_of_approve(
+pub fn update_of_approve(
     alloc: Global,
     key: &Name,
     policy_ref: &Blob,
-) -> Result<StageBytes, NoMemory>
-    ensures { IfOk result (λ stage. stage_value stage ≡ spec.stage_of_approve key.now policy_ref.now) }
+) -> Result<UpdateBytes, NoMemory>
+    ensures { IfOk result (λ update. update_value update ≡ spec.update_of_approve key.now policy_ref.now) }
 {
-    let mut stage = two_hashes(alloc, command_code::POLICY_AUTHORIZE, key, policy_ref)?;
-    stage.fresh = true;
-    Ok(stage)
+    let mut update = two_hashes(alloc, command_code::POLICY_AUTHORIZE, key, policy_ref)?;
+    update.fresh = true;
+    Ok(update)
 }
 
 // What an AUTHORIZENV hashes.
-pub fn stage_of_approve_nv(alloc: Global, index: &Name) -> Result<StageBytes, NoMemory>
-    ensures { IfOk result (λ stage. stage_value stage ≡ spec.stage_of_approve_nv index.now) }
+pub fn update_of_approve_nv(alloc: Global, index: &Name) -> Result<UpdateBytes, NoMemory>
+    ensures { IfOk result (λ update. update_value update ≡ spec.update_of_approve_nv index.now) }
 {
     let rest = index.to_bytes(alloc)?;
-    let mut stage = one_hash(command_code::POLICY_AUTHORIZE_NV, rest);
-    stage.fresh = true;
-    Ok(stage)
+    let mut update = one_hash(command_code::POLICY_AUTHORIZE_NV, rest);
+    update.fresh = true;
+    Ok(update)
 }
