@@ -5,10 +5,10 @@ use Rattle.serde_json.specs.Data.{Data}
 use Rattle.serde_json.specs.Find.{get}
 use Rattle.tpol_json.specs.Places.{at_member}
 use Rattle.tpol_json.specs.declared.place.Place.{Place}
-use Rattle.tpol_rows.specs.Faults.{Found, ◌>>=◌}
-use Rattle.tpol_rows.specs.Members.{Way, alone, first_way, names_of, read_way, without}
-use Rattle.tpol_rows.specs.Walks.{still}
-use Rattle.tpol_rows.specs.declared.walk.Walk.{Walk}
+use Rattle.tpol_elements.specs.Faults.{Found, ◌>>=◌}
+use Rattle.tpol_elements.specs.Members.{Way, alone, first_way, names_of, read_way, without}
+use Rattle.tpol_elements.specs.Walks.{still}
+use Rattle.tpol_elements.specs.declared.walk.Walk.{Walk}
 
 -- what is found, if anything, is so
 abbrev pub AllFound : {A : Type 0} → (A → Type 0) → Found A → Type 0

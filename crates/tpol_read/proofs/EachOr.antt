@@ -11,14 +11,14 @@ use Rattle.tpol_read.specs.Approvals.{approvals_member}
 use Rattle.tpol_read.specs.Documents.{start, document_in, policy_of}
 use Rattle.tpol_read.specs.Elements.{element_type_in, leaf_element, element_of_type, element_by, counted, elements_from, elements_of, elements_in, policy_member, description_member, name_member, branch_in, branches_from, is_branch_count, branches_of, branches_in, or_by, or_at, element_at, max_levels}
 use Rattle.tpol_read.specs.RisingPcrs.{HasRisingPcrs, ElementHasRisingPcrs, BranchesHaveRisingPcrs}
-use Rattle.tpol_rows.specs.declared.types.ElementType.{ElementType}
-use Rattle.tpol_rows.specs.declared.types.ElementType.TheVariants as types
-use Rattle.tpol_rows.specs.declared.types.LeafType.{LeafType}
-use Rattle.tpol_rows.specs.declared.walk.Walk.{Walk}
-use Rattle.tpol_rows.specs.Members.{object_in, read_needed}
-use Rattle.tpol_rows.specs.Rows.{leaf_row}
-use Rattle.tpol_rows.specs.Walks.{Reading}
-use Rattle.tpol_rows.specs.Wishes.{items_count}
+use Rattle.tpol_elements.specs.declared.types.ElementType.{ElementType}
+use Rattle.tpol_elements.specs.declared.types.ElementType.TheVariants as types
+use Rattle.tpol_elements.specs.declared.types.LeafType.{LeafType}
+use Rattle.tpol_elements.specs.declared.walk.Walk.{Walk}
+use Rattle.tpol_elements.specs.Members.{object_in, read_needed}
+use Rattle.tpol_elements.specs.Rows.{leaf_row}
+use Rattle.tpol_elements.specs.Walks.{Reading}
+use Rattle.tpol_elements.specs.Wishes.{items_count}
 use Rattle.tpol_tree.specs.BranchCounts.{branch_count, EachOrHasBranches, ElementHasBranches, BranchesHaveBranches}
 use Rattle.tpol_tree.specs.Closed.{IsBranchCount}
 use Rattle.tpol_tree.specs.Erased.{erased_element, erased_elements, erased_branches}

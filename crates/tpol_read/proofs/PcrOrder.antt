@@ -11,13 +11,13 @@ use Rattle.tpol_json.specs.Places.{at_member, at_item}
 use Rattle.tpol_json.specs.declared.place.Place.{Place}
 use Rattle.tpol_read.proofs.AllFound.{AllFound, all_after, all_then, all_still, all_ways}
 use Rattle.tpol_read.specs.RisingPcrs.{IsRising}
-use Rattle.tpol_rows.specs.Faults.{bad}
-use Rattle.tpol_rows.specs.Members.{object_in, read_needed}
-use Rattle.tpol_rows.specs.Numbers.{unsigned_in}
-use Rattle.tpol_rows.specs.Pcrs.{PcrList, has_value, with_value, new_pcr_in, pcr_member, bank_member, value_member, pcr_value_in, pcr_values_from, wish_of_values, pcr_values_in, mask_in, current_pcrs_in, select_member, bank_in, only_bank, bank_or_list, banks_in, pcrs_among, pcrs_in}
-use Rattle.tpol_rows.specs.Walks.{still}
-use Rattle.tpol_rows.specs.declared.fault.PolicyKind.TheVariants.{Twice}
-use Rattle.tpol_rows.specs.declared.walk.Walk.{Walk}
+use Rattle.tpol_elements.specs.Faults.{bad}
+use Rattle.tpol_elements.specs.Members.{object_in, read_needed}
+use Rattle.tpol_elements.specs.Numbers.{unsigned_in}
+use Rattle.tpol_elements.specs.Pcrs.{PcrList, has_value, with_value, new_pcr_in, pcr_member, bank_member, value_member, pcr_value_in, pcr_values_from, wish_of_values, pcr_values_in, mask_in, current_pcrs_in, select_member, bank_in, only_bank, bank_or_list, banks_in, pcrs_among, pcrs_in}
+use Rattle.tpol_elements.specs.Walks.{still}
+use Rattle.tpol_elements.specs.declared.fault.PolicyKind.TheVariants.{Twice}
+use Rattle.tpol_elements.specs.declared.walk.Walk.{Walk}
 use Rattle.tpol_tree.specs.declared.wishes.PcrWish.{PcrWish}
 
 -- ---- putting a value in

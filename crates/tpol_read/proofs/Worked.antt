@@ -3,14 +3,14 @@ use Rattle.std.specs.Prelude.{◌≡◌, ℕ, List, [], ◌∷◌, codes, Ok, Er
 use Rattle.serde_json.specs.Data.{Data, string, number, unsigned, array, object, no_items, item, no_members, member}
 use Rattle.tpol_json.specs.declared.place.Place.{Place}
 use Rattle.tpol_json.specs.Places.{root, at_member, at_item}
-use Rattle.tpol_rows.specs.declared.fault.PolicyFault.TheVariants.{Bad}
-use Rattle.tpol_rows.specs.declared.fault.PolicyKind.TheVariants as kinds
-use Rattle.tpol_rows.specs.Faults.{Found}
-use Rattle.tpol_rows.specs.Members.{noted}
-use Rattle.tpol_rows.specs.Pcrs.{pcr_member, pcr_value_in, pcrs_among}
-use Rattle.tpol_rows.specs.Rows.{pcr_row, command_code_row, without_pem}
-use Rattle.tpol_rows.specs.Types.{type_in}
-use Rattle.tpol_rows.specs.Words.{find_word}
+use Rattle.tpol_elements.specs.declared.fault.PolicyFault.TheVariants.{Bad}
+use Rattle.tpol_elements.specs.declared.fault.PolicyKind.TheVariants as kinds
+use Rattle.tpol_elements.specs.Faults.{Found}
+use Rattle.tpol_elements.specs.Members.{noted}
+use Rattle.tpol_elements.specs.Pcrs.{pcr_member, pcr_value_in, pcrs_among}
+use Rattle.tpol_elements.specs.Rows.{pcr_row, command_code_row, without_pem}
+use Rattle.tpol_elements.specs.Types.{type_in}
+use Rattle.tpol_elements.specs.Words.{find_word}
 use Rattle.tpol_tree.specs.declared.policy.Element.TheVariants.{AuthValue, CommandCode}
 use Rattle.tpol_read.specs.Approvals.{approval_in, approval_type_in, approvals_member, counted_approval}
 use Rattle.tpol_read.specs.Documents.{approval_faults, start, document_in, element_count, element_faults, member_faults, policy_faults, policy_of}

@@ -3,14 +3,14 @@ ghost use Rattle.std.specs.Prelude.{◌≡◌, [], map};
 ghost use Rattle.serde_json.specs.View.{view, items_view};
 ghost use Rattle.tpol_read.specs.Approvals.{approval_in, approval_type_in, approvals_from, approvals_member, approvals_of, by_index, by_key, counted_approval, signature_member, type_of_approval};
 ghost use Rattle.serde_json.specs.Find.{as_array};
-ghost use Rattle.tpol_rows.specs.Faults.{Gives};
-ghost use Rattle.tpol_rows.specs.Walks.{Leaves};
+ghost use Rattle.tpol_elements.specs.Faults.{Gives};
+ghost use Rattle.tpol_elements.specs.Walks.{Leaves};
 
 use serde_json::Value;
 use std::alloc::Global;
 use tpol_base::Digest32;
 use tpol_json::{Place, member};
-use tpol_rows::{
+use tpol_elements::{
     PolicyFault, PolicyKind, Walk, check_object, digest, index_wish, item_index, key_wish,
     note_unknown, only_word, policy_ref, refuse, refuse_member, without_pem,
 };

@@ -12,7 +12,7 @@ use crate::members::description;
 use serde_json::Value;
 use std::alloc::Global;
 use tpol_json::{ParseFault, Place, parse};
-use tpol_rows::{Notes, PolicyFault, Walk, check_object, note_unknown};
+use tpol_elements::{Notes, PolicyFault, Walk, check_object, note_unknown};
 use tpol_tree::Policy;
 
 /// How many elements a document may have, those of ORs among them.

@@ -3,7 +3,7 @@
 ghost use Rattle.std.specs.Prelude.{◌≡◌};
 ghost use Rattle.serde_json.specs.View.{view, items_view};
 ghost use Rattle.tpol_read.specs.Elements.{LeavesAs, element_at, elements_from, elements_in, policy_member, counted, branch_in, branches_from, branches_in, or_at, is_branch_count, leaf_element};
-ghost use Rattle.tpol_rows.specs.Wishes.{items_count};
+ghost use Rattle.tpol_elements.specs.Wishes.{items_count};
 ghost use Rattle.tpol_tree.specs.Erased.{erased_branch, erased_branches, erased_element, erased_elements};
 
 use crate::lists::{branch_before, element_before};
@@ -11,7 +11,7 @@ use crate::members::{description, name, type_of_element};
 use serde_json::Value;
 use std::alloc::Global;
 use tpol_json::{Place, member};
-use tpol_rows::{
+use tpol_elements::{
     ElementType, LeafType, PolicyFault, PolicyKind, Walk, check_object, leaf_row, note_leaf,
     note_unknown, refuse, refuse_member,
 };
@@ -203,7 +203,7 @@ fn branch_list(
     }
 }
 
-#[tactic(auto, using(tpol_rows::proofs::Items::counts))]
+#[tactic(auto, using(tpol_elements::proofs::Items::counts))]
 fn is_branch_count(items: &[Value]) -> bool
     ensures { result ≡ is_branch_count (items_count (items_view items.now)) }
 {

@@ -11,4 +11,4 @@ mod members;
 mod tests;
 
 pub use document::read_policy;
-pub use tpol_rows::{Notes, PolicyFault, PolicyKind};
+pub use tpol_elements::{Notes, PolicyFault, PolicyKind};

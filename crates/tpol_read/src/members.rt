@@ -1,13 +1,13 @@
 // The members of elements, branches and documents that hold no elements.
 ghost use Rattle.serde_json.specs.View.{view};
 ghost use Rattle.tpol_read.specs.Elements.{element_type_in, name_member, description_member};
-ghost use Rattle.tpol_rows.specs.Faults.{Gives};
+ghost use Rattle.tpol_elements.specs.Faults.{Gives};
 
 use serde_json::Value;
 use std::alloc::Global;
 use tpol_base::Text;
 use tpol_json::{Place, member};
-use tpol_rows::{
+use tpol_elements::{
     ElementType, PolicyFault, PolicyKind, check_object, element_type, refuse_member, text,
 };
 

@@ -4,9 +4,9 @@ use Rattle.serde_json.specs.Data.{Data}
 use Rattle.tpol_json.specs.declared.place.Place.{Place}
 use Rattle.tpol_json.specs.Document.{document_of}
 use Rattle.tpol_read.specs.Documents.{policy_faults, policy_of}
-use Rattle.tpol_rows.specs.declared.fault.PolicyFault.{PolicyFault}
-use Rattle.tpol_rows.specs.declared.fault.PolicyFault.TheVariants.{NotJson, Bad, NoMemory}
-use Rattle.tpol_rows.specs.Faults.{Found}
+use Rattle.tpol_elements.specs.declared.fault.PolicyFault.{PolicyFault}
+use Rattle.tpol_elements.specs.declared.fault.PolicyFault.TheVariants.{NotJson, Bad, NoMemory}
+use Rattle.tpol_elements.specs.Faults.{Found}
 use Rattle.tpol_top.specs.declared.outcome.Outcome.{Outcome}
 use Rattle.tpol_top.specs.declared.outcome.Verdict.TheVariants.{BadPolicy}
 use Rattle.tpol_top.specs.Outcome.{one_line}

@@ -4,8 +4,8 @@ use Rattle.tpol_fill.specs.declared.fault.FillKind.{FillKind}
 use Rattle.tpol_fill.specs.declared.fault.FillKind.TheVariants.{NoSuchPath, NoSuchPcr, NotKeyedHash, VoidPrefix}
 use Rattle.tpol_json.specs.declared.place.Place.{Place}
 use Rattle.tpol_json.specs.PlaceText.{text_of_place}
-use Rattle.tpol_rows.specs.declared.fault.PolicyKind.{PolicyKind}
-use Rattle.tpol_rows.specs.declared.fault.PolicyKind.TheVariants as policy
+use Rattle.tpol_elements.specs.declared.fault.PolicyKind.{PolicyKind}
+use Rattle.tpol_elements.specs.declared.fault.PolicyKind.TheVariants as policy
 use Rattle.tpol_scene.specs.declared.fault.SceneKind.{SceneKind}
 use Rattle.tpol_scene.specs.declared.fault.SceneKind.TheVariants as scene
 use Rattle.tpol_top.specs.declared.outcome.Outcome.{Outcome}

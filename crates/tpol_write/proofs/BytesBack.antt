@@ -13,10 +13,10 @@ use Rattle.tpol_json.specs.Numbers.{number_in}
 use Rattle.tpol_json.specs.Reading as json
 use Rattle.tpol_json.specs.declared.place.Place.{Place}
 use Rattle.tpol_read.proofs.AllFound.{AllFound, all_then, all_if}
-use Rattle.tpol_rows.specs.Bytes.{bytes_up_to, empty_or_32, digest_in}
-use Rattle.tpol_rows.specs.Faults.{Found, read_as, bad, ◌>>=◌}
-use Rattle.tpol_rows.specs.Numbers.{unsigned_in, signed_in}
-use Rattle.tpol_rows.specs.declared.fault.PolicyKind.TheVariants.{BadHex}
+use Rattle.tpol_elements.specs.Bytes.{bytes_up_to, empty_or_32, digest_in}
+use Rattle.tpol_elements.specs.Faults.{Found, read_as, bad, ◌>>=◌}
+use Rattle.tpol_elements.specs.Numbers.{unsigned_in, signed_in}
+use Rattle.tpol_elements.specs.declared.fault.PolicyKind.TheVariants.{BadHex}
 use Rattle.tpol_write.proofs.ReadBack.{bytes_back, numbers_back, passed}
 use Rattle.tpol_write.specs.Objects.{hex_text, natural, integer}
 

@@ -18,15 +18,15 @@ use Rattle.tpol_read.specs.Documents.{start, document_in, policy_of}
 use Rattle.tpol_read.specs.Elements.{element_at, max_levels, description_member, policy_member}
 use Rattle.tpol_read.specs.declared.approvals.ApprovalType.{ApprovalType}
 use Rattle.tpol_read.specs.declared.approvals.ApprovalType.TheVariants as types
-use Rattle.tpol_rows.specs.Bytes.{digest_in}
-use Rattle.tpol_rows.specs.Faults.{bad, ◌>>=◌}
-use Rattle.tpol_rows.specs.Fields.{policy_ref_in}
-use Rattle.tpol_rows.specs.Members.{object_in, noted, unknown}
-use Rattle.tpol_rows.specs.Rows.{without_pem}
-use Rattle.tpol_rows.specs.Wishes.{key_in, index_in}
-use Rattle.tpol_rows.specs.Words.{find_word}
-use Rattle.tpol_rows.specs.declared.fault.PolicyKind.TheVariants as kinds
-use Rattle.tpol_rows.specs.declared.walk.Walk.{Walk}
+use Rattle.tpol_elements.specs.Bytes.{digest_in}
+use Rattle.tpol_elements.specs.Faults.{bad, ◌>>=◌}
+use Rattle.tpol_elements.specs.Fields.{policy_ref_in}
+use Rattle.tpol_elements.specs.Members.{object_in, noted, unknown}
+use Rattle.tpol_elements.specs.Rows.{without_pem}
+use Rattle.tpol_elements.specs.Wishes.{key_in, index_in}
+use Rattle.tpol_elements.specs.Words.{find_word}
+use Rattle.tpol_elements.specs.declared.fault.PolicyKind.TheVariants as kinds
+use Rattle.tpol_elements.specs.declared.walk.Walk.{Walk}
 use Rattle.tpol_tree.specs.declared.policy.Elements.{Elements}
 use Rattle.tpol_tree.specs.declared.policy.Policy.{Policy}
 use Rattle.tpol_tree.specs.declared.wishes.ApprovalWish.{ApprovalWish}

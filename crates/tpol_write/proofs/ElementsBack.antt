@@ -13,19 +13,19 @@ use Rattle.tpol_json.specs.Places.{at_member, at_item}
 use Rattle.tpol_json.specs.declared.place.Place.{Place}
 use Rattle.tpol_read.proofs.AllFound.{AllFound, all_after, all_then, all_map, all_if}
 use Rattle.tpol_read.specs.Elements.{element_type_in, leaf_element, element_of_type, element_by, counted, elements_from, elements_of, elements_in, policy_member, description_member, name_member, branch_in, branches_from, is_branch_count, branches_of, branches_in, or_by, or_at, element_at}
-use Rattle.tpol_rows.specs.Bytes.{text_in}
-use Rattle.tpol_rows.specs.Faults.{bad}
-use Rattle.tpol_rows.specs.Members.{object_in, needed, noted}
-use Rattle.tpol_rows.specs.Rows.{leaf_row}
-use Rattle.tpol_rows.specs.Types.{type_in}
-use Rattle.tpol_rows.specs.Walks.{Reading}
-use Rattle.tpol_rows.specs.Wishes.{items_count}
-use Rattle.tpol_rows.specs.Words.{find_word}
-use Rattle.tpol_rows.specs.declared.fault.PolicyKind.TheVariants as kinds
-use Rattle.tpol_rows.specs.declared.types.ElementType.{ElementType}
-use Rattle.tpol_rows.specs.declared.types.ElementType.TheVariants as types
-use Rattle.tpol_rows.specs.declared.types.LeafType.{LeafType}
-use Rattle.tpol_rows.specs.declared.walk.Walk.{Walk}
+use Rattle.tpol_elements.specs.Bytes.{text_in}
+use Rattle.tpol_elements.specs.Faults.{bad}
+use Rattle.tpol_elements.specs.Members.{object_in, needed, noted}
+use Rattle.tpol_elements.specs.Rows.{leaf_row}
+use Rattle.tpol_elements.specs.Types.{type_in}
+use Rattle.tpol_elements.specs.Walks.{Reading}
+use Rattle.tpol_elements.specs.Wishes.{items_count}
+use Rattle.tpol_elements.specs.Words.{find_word}
+use Rattle.tpol_elements.specs.declared.fault.PolicyKind.TheVariants as kinds
+use Rattle.tpol_elements.specs.declared.types.ElementType.{ElementType}
+use Rattle.tpol_elements.specs.declared.types.ElementType.TheVariants as types
+use Rattle.tpol_elements.specs.declared.types.LeafType.{LeafType}
+use Rattle.tpol_elements.specs.declared.walk.Walk.{Walk}
 use Rattle.tpol_tree.specs.Erased.{nowhere}
 use Rattle.tpol_tree.specs.declared.policy.Branch.{Branch}
 use Rattle.tpol_tree.specs.declared.policy.Branches.{Branches}

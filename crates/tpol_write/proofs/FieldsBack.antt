@@ -15,13 +15,13 @@ use Rattle.tpol_json.specs.Bytes.{bytes_in}
 use Rattle.tpol_json.specs.Places.{at_member}
 use Rattle.tpol_json.specs.declared.place.Place.{Place}
 use Rattle.tpol_read.proofs.AllFound.{AllFound, all_then}
-use Rattle.tpol_rows.specs.Bytes.{bytes_up_to, digest_in, name_in, is_empty_name, name_or_bad}
-use Rattle.tpol_rows.specs.Faults.{Found, bad, read_as}
-use Rattle.tpol_rows.specs.Fields.{policy_ref_in, some_digest_in, cp_hash_in, expiration_in, operand_in, offset_in, operation_member_in}
-use Rattle.tpol_rows.specs.Members.{read_needed, read_optional}
-use Rattle.tpol_rows.specs.Numbers.{unsigned_in, signed_in, operation_in, truth_in}
-use Rattle.tpol_rows.specs.Rows.{include_member, object_member, included_object, written_member}
-use Rattle.tpol_rows.specs.declared.fault.PolicyKind.TheVariants.{Missing}
+use Rattle.tpol_elements.specs.Bytes.{bytes_up_to, digest_in, name_in, is_empty_name, name_or_bad}
+use Rattle.tpol_elements.specs.Faults.{Found, bad, read_as}
+use Rattle.tpol_elements.specs.Fields.{policy_ref_in, some_digest_in, cp_hash_in, expiration_in, operand_in, offset_in, operation_member_in}
+use Rattle.tpol_elements.specs.Members.{read_needed, read_optional}
+use Rattle.tpol_elements.specs.Numbers.{unsigned_in, signed_in, operation_in, truth_in}
+use Rattle.tpol_elements.specs.Rows.{include_member, object_member, included_object, written_member}
+use Rattle.tpol_elements.specs.declared.fault.PolicyKind.TheVariants.{Missing}
 use Rattle.tpol_write.specs.Names.{operation_name}
 use Rattle.tpol_write.specs.Objects.{hex_text, natural, integer}
 use Rattle.tpol_write.specs.Wishes.{name_value}

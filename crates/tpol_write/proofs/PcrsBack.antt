@@ -16,16 +16,16 @@ use Rattle.tpol_json.specs.Places.{at_member, at_item}
 use Rattle.tpol_json.specs.declared.place.Place.{Place}
 use Rattle.tpol_read.proofs.AllFound.{AllFound, all_after, all_then, all_map, all_ways}
 use Rattle.tpol_read.proofs.PcrOrder.{put_value, with_value-is, first_no, second_no}
-use Rattle.tpol_rows.specs.Bytes.{digest_in}
-use Rattle.tpol_rows.specs.Faults.{Found, bad}
-use Rattle.tpol_rows.specs.Members.{object_in, noted}
-use Rattle.tpol_rows.specs.Numbers.{unsigned_in, locality_word_in, localities_from, locality_list, localities_or, locality_in}
-use Rattle.tpol_rows.specs.Pcrs.{PcrList, has_value, with_value, new_pcr_in, pcr_member, bank_member, value_member, pcr_value_in, pcr_values_from, wish_of_values, pcr_values_in, pcr_bit, mask_from, mask_of_list, mask_in, current_pcrs_in, select_member, bank_in, only_bank, bank_or_list, banks_in, pcrs_among, pcrs_in}
-use Rattle.tpol_rows.specs.Walks.{still}
-use Rattle.tpol_rows.specs.Words.{find_word, found_or, localities}
-use Rattle.tpol_rows.specs.declared.fault.PolicyKind.{PolicyKind}
-use Rattle.tpol_rows.specs.declared.fault.PolicyKind.TheVariants.{BadNumber, Twice}
-use Rattle.tpol_rows.specs.declared.walk.Walk.{Walk}
+use Rattle.tpol_elements.specs.Bytes.{digest_in}
+use Rattle.tpol_elements.specs.Faults.{Found, bad}
+use Rattle.tpol_elements.specs.Members.{object_in, noted}
+use Rattle.tpol_elements.specs.Numbers.{unsigned_in, locality_word_in, localities_from, locality_list, localities_or, locality_in}
+use Rattle.tpol_elements.specs.Pcrs.{PcrList, has_value, with_value, new_pcr_in, pcr_member, bank_member, value_member, pcr_value_in, pcr_values_from, wish_of_values, pcr_values_in, pcr_bit, mask_from, mask_of_list, mask_in, current_pcrs_in, select_member, bank_in, only_bank, bank_or_list, banks_in, pcrs_among, pcrs_in}
+use Rattle.tpol_elements.specs.Walks.{still}
+use Rattle.tpol_elements.specs.Words.{find_word, found_or, localities}
+use Rattle.tpol_elements.specs.declared.fault.PolicyKind.{PolicyKind}
+use Rattle.tpol_elements.specs.declared.fault.PolicyKind.TheVariants.{BadNumber, Twice}
+use Rattle.tpol_elements.specs.declared.walk.Walk.{Walk}
 use Rattle.tpol_tree.specs.declared.wishes.PcrWish.{PcrWish}
 use Rattle.tpol_tree.specs.declared.wishes.PcrWish.TheVariants.{Values, Current}
 use Rattle.tpol_write.specs.Elements.{typed}

@@ -20,14 +20,14 @@ use Rattle.tpol_json.specs.Bytes.{bytes_in}
 use Rattle.tpol_json.specs.declared.place.Place.{Place}
 use Rattle.tpol_read.proofs.AllFound.{AllFound, all_after, all_then, all_map}
 use Rattle.tpol_json.specs.Places.{at_member}
-use Rattle.tpol_rows.specs.Bytes.{name_in, name_or_bad, empty_or_32}
-use Rattle.tpol_rows.specs.Faults.{Found, read_as, ◌>>=◌}
-use Rattle.tpol_rows.specs.Members.{object_in, needed, optional, read_needed, read_optional, noted}
-use Rattle.tpol_rows.specs.Numbers.{u32_in, unsigned_in, scheme_in}
-use Rattle.tpol_rows.specs.Publics.{then_noted, through, through_member, object_public, index_public, object_public_in, index_public_in, key_type_member, name_hash_member, attributes_member, auth_policy_member, scheme_member, unique_member, nv_index_member, data_size_member}
-use Rattle.tpol_rows.specs.Walks.{Reading}
-use Rattle.tpol_rows.specs.Words.{find_word}
-use Rattle.tpol_rows.specs.declared.walk.Walk.{Walk}
+use Rattle.tpol_elements.specs.Bytes.{name_in, name_or_bad, empty_or_32}
+use Rattle.tpol_elements.specs.Faults.{Found, read_as, ◌>>=◌}
+use Rattle.tpol_elements.specs.Members.{object_in, needed, optional, read_needed, read_optional, noted}
+use Rattle.tpol_elements.specs.Numbers.{u32_in, unsigned_in, scheme_in}
+use Rattle.tpol_elements.specs.Publics.{then_noted, through, through_member, object_public, index_public, object_public_in, index_public_in, key_type_member, name_hash_member, attributes_member, auth_policy_member, scheme_member, unique_member, nv_index_member, data_size_member}
+use Rattle.tpol_elements.specs.Walks.{Reading}
+use Rattle.tpol_elements.specs.Words.{find_word}
+use Rattle.tpol_elements.specs.declared.walk.Walk.{Walk}
 use Rattle.tpol_tree.specs.declared.wishes.ObjectPublicText.{ObjectPublicText}
 use Rattle.tpol_tree.specs.declared.wishes.NvPublicText.{NvPublicText}
 use Rattle.tpol_write.specs.Objects.{hex_text, natural}

@@ -14,21 +14,21 @@ use Rattle.tpol_json.specs.Places.{at_member}
 use Rattle.tpol_json.specs.declared.place.Place.{Place}
 use Rattle.tpol_read.proofs.AllFound.{AllFound, all_after, all_then}
 use Rattle.tpol_read.specs.Elements.{element_by, element_of_type, element_type_in, leaf_element}
-use Rattle.tpol_rows.specs.Bytes.{digest_in}
-use Rattle.tpol_rows.specs.Faults.{Found}
-use Rattle.tpol_rows.specs.Fields.{policy_ref_in, cp_hash_in, expiration_in, operand_in, offset_in, operation_member_in}
-use Rattle.tpol_rows.specs.Members.{needed, object_in, noted, unknown}
-use Rattle.tpol_rows.specs.Numbers.{code_in, locality_in}
-use Rattle.tpol_rows.specs.Pcrs.{pcrs_in}
-use Rattle.tpol_rows.specs.Rows.{leaf_row, pcr_row, nv_row, secret_row, signed_row, authorize_row, authorize_nv_row, locality_row, command_code_row, cp_hash_row, name_hash_row, counter_timer_row, duplication_row, nv_written_row, without_pem, include_member, included_object, written_member}
-use Rattle.tpol_rows.specs.Types.{type_in, leaf_members}
-use Rattle.tpol_rows.specs.Walks.{Reading, still}
-use Rattle.tpol_rows.specs.Wishes.{key_in, index_in, entity_in, parent_in, names_in}
-use Rattle.tpol_rows.specs.Words.{find_word}
-use Rattle.tpol_rows.specs.declared.types.ElementType.TheVariants.{Leaf}
-use Rattle.tpol_rows.specs.declared.types.LeafType.{LeafType}
-use Rattle.tpol_rows.specs.declared.types.LeafType.TheVariants as types
-use Rattle.tpol_rows.specs.declared.walk.Walk.{Walk}
+use Rattle.tpol_elements.specs.Bytes.{digest_in}
+use Rattle.tpol_elements.specs.Faults.{Found}
+use Rattle.tpol_elements.specs.Fields.{policy_ref_in, cp_hash_in, expiration_in, operand_in, offset_in, operation_member_in}
+use Rattle.tpol_elements.specs.Members.{needed, object_in, noted, unknown}
+use Rattle.tpol_elements.specs.Numbers.{code_in, locality_in}
+use Rattle.tpol_elements.specs.Pcrs.{pcrs_in}
+use Rattle.tpol_elements.specs.Rows.{leaf_row, pcr_row, nv_row, secret_row, signed_row, authorize_row, authorize_nv_row, locality_row, command_code_row, cp_hash_row, name_hash_row, counter_timer_row, duplication_row, nv_written_row, without_pem, include_member, included_object, written_member}
+use Rattle.tpol_elements.specs.Types.{type_in, leaf_members}
+use Rattle.tpol_elements.specs.Walks.{Reading, still}
+use Rattle.tpol_elements.specs.Wishes.{key_in, index_in, entity_in, parent_in, names_in}
+use Rattle.tpol_elements.specs.Words.{find_word}
+use Rattle.tpol_elements.specs.declared.types.ElementType.TheVariants.{Leaf}
+use Rattle.tpol_elements.specs.declared.types.LeafType.{LeafType}
+use Rattle.tpol_elements.specs.declared.types.LeafType.TheVariants as types
+use Rattle.tpol_elements.specs.declared.walk.Walk.{Walk}
 use Rattle.tpol_tree.specs.declared.policy.Branches.{Branches}
 use Rattle.tpol_tree.specs.declared.policy.Element.{Element}
 use Rattle.tpol_tree.specs.declared.policy.Element.TheVariants.{Pcr, Nv, Secret, Signed, Authorize, AuthorizeNv, Locality, CommandCode, CpHash, NameHash, CounterTimer, Duplication, NvWritten, AuthValue, Password, PhysicalPresence}

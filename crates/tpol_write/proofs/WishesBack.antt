@@ -10,13 +10,13 @@ use Rattle.tpol_write.proofs.PublicsBack.{name_back, object_public_back, index_p
 use Rattle.tpol_json.specs.Places.{at_member, at_item}
 use Rattle.tpol_json.specs.declared.place.Place.{Place}
 use Rattle.tpol_read.proofs.AllFound.{AllFound, all_after, all_then, all_map, all_if, all_ways}
-use Rattle.tpol_rows.specs.Bytes.{text_in, digest_in, name_in, full_name_in, is_empty_name}
-use Rattle.tpol_rows.specs.Faults.{Found, bad, ◌>>=◌}
-use Rattle.tpol_rows.specs.Publics.{object_public_in, index_public_in}
-use Rattle.tpol_rows.specs.Walks.{still}
-use Rattle.tpol_rows.specs.Wishes.{key_by_path, key_by_public, key_among, key_in, index_by_path, index_by_public, index_among, index_in, entity_by_path, entity_by_name, entity_among, entity_in, parent_by_path, parent_by_public, parent_by_name, parent_among, parent_in, items_count, each_from, three_at_most, one_to_three, names_by_digest, names_by_names, names_by_paths, names_among, names_in}
-use Rattle.tpol_rows.specs.declared.fault.PolicyKind.TheVariants.{BadHex, BadNumber}
-use Rattle.tpol_rows.specs.declared.walk.Walk.{Walk}
+use Rattle.tpol_elements.specs.Bytes.{text_in, digest_in, name_in, full_name_in, is_empty_name}
+use Rattle.tpol_elements.specs.Faults.{Found, bad, ◌>>=◌}
+use Rattle.tpol_elements.specs.Publics.{object_public_in, index_public_in}
+use Rattle.tpol_elements.specs.Walks.{still}
+use Rattle.tpol_elements.specs.Wishes.{key_by_path, key_by_public, key_among, key_in, index_by_path, index_by_public, index_among, index_in, entity_by_path, entity_by_name, entity_among, entity_in, parent_by_path, parent_by_public, parent_by_name, parent_among, parent_in, items_count, each_from, three_at_most, one_to_three, names_by_digest, names_by_names, names_by_paths, names_among, names_in}
+use Rattle.tpol_elements.specs.declared.fault.PolicyKind.TheVariants.{BadHex, BadNumber}
+use Rattle.tpol_elements.specs.declared.walk.Walk.{Walk}
 use Rattle.tpol_tree.specs.declared.wishes.ObjectPublicText.{ObjectPublicText}
 use Rattle.tpol_tree.specs.declared.wishes.NvPublicText.{NvPublicText}
 use Rattle.tpol_tree.specs.declared.wishes.KeyWish.{KeyWish}

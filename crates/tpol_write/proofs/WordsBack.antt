@@ -20,9 +20,9 @@ use Rattle.tpol_json.specs.declared.fault.JsonKind.TheVariants.{BadNumber}
 use Rattle.tpol_json.specs.Words.{same_word}
 use Rattle.tpol_json.specs.declared.place.Place.{Place}
 use Rattle.tpol_read.proofs.AllFound.{AllFound, all_map}
-use Rattle.tpol_rows.specs.Faults.{Found, ◌>>=◌, read_as}
-use Rattle.tpol_rows.specs.Numbers.{operation_in, code_in, u32_in}
-use Rattle.tpol_rows.specs.Words.{command_codes, find_word, found_or, word_in}
+use Rattle.tpol_elements.specs.Faults.{Found, ◌>>=◌, read_as}
+use Rattle.tpol_elements.specs.Numbers.{operation_in, code_in, u32_in}
+use Rattle.tpol_elements.specs.Words.{command_codes, find_word, found_or, word_in}
 use Rattle.tpol_write.specs.Names.{operation_name, code_text, find_name, name_or_digits}
 
 -- ---- comparisons

@@ -4,7 +4,7 @@ use Rattle.std.specs.Int.{to_be_bytes, w32}
 use Rattle.hex.specs.Hex.{encode_lower}
 use Rattle.tpol_base.specs.declared.compare.Compare.{Compare}
 use Rattle.tpol_base.specs.declared.compare.Compare.TheVariants.{Eq, Neq, SignedGt, UnsignedGt, SignedLt, UnsignedLt, SignedGe, UnsignedGe, SignedLe, UnsignedLe, BitSet, BitClear}
-use Rattle.tpol_rows.specs.Words.{command_codes}
+use Rattle.tpol_elements.specs.Words.{command_codes}
 
 -- TPM 2.0 Part 2, TPM_EO
 abbrev pub operation_name : Compare → List ℕ

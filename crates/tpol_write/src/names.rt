@@ -1,10 +1,10 @@
 ghost use Rattle.std.specs.Prelude.{◌≡◌, ◌++◌, map, option_map, IfOk, codes};
-ghost use Rattle.tpol_rows.specs.Words.{command_codes};
+ghost use Rattle.tpol_elements.specs.Words.{command_codes};
 ghost use Rattle.tpol_write.specs.Names.{code_text, find_name, operation_name};
 
 use std::alloc::Global;
 use tpol_base::{Compare, NoMemory, Text};
-use tpol_rows::command_codes;
+use tpol_elements::command_codes;
 
 /// The name of a comparison (TPM 2.0 Part 2, TPM_EO).
 pub fn operation_name(operation: Compare) -> &'static str

@@ -4,8 +4,8 @@ use Rattle.serde_json.specs.View.{view}
 use Rattle.tpol_read.specs.Elements.{LeavesAs, element_at}
 use Rattle.tpol_read.proofs.ItemLists.{elements_in-each}
 use Rattle.tpol_read.proofs.elements.+reading.Goals as goal
-use Rattle.tpol_rows.specs.Faults.{Found}
-use Rattle.tpol_rows.specs.declared.walk.Walk.{Walk}
+use Rattle.tpol_elements.specs.Faults.{Found}
+use Rattle.tpol_elements.specs.declared.walk.Walk.{Walk}
 use Rattle.tpol_tree.specs.Erased.{erased_elements}
 use Rattle.tpol_tree.specs.declared.policy.Elements.{Elements}
 

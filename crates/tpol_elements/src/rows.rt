@@ -1,0 +1,292 @@
+// What the members of each element say that holds no other elements.
+ghost use Rattle.serde_json.specs.View.{view};
+ghost use Rattle.tpol_elements.specs.Faults.{Gives};
+ghost use Rattle.tpol_elements.specs.Rows.{authorize_nv_row, authorize_row, command_code_row, counter_timer_row, cp_hash_row, duplication_row, include_member, included_object, leaf_row, locality_row, name_hash_row, nv_row, nv_written_row, object_member, pcr_row, secret_row, signed_row, without_pem, written_member};
+ghost use Rattle.tpol_elements.specs.Walks.{Leaves};
+
+use crate::bytes::{digest, name};
+use crate::fault::refuse_member;
+use crate::fields::{cp_hash, expiration, offset, operand, operation_member, policy_ref};
+use crate::numbers::{code, localities, truth};
+use crate::pcrs::pcr_wish;
+use crate::wishes::{entity_wish, index_wish, key_wish, names_wish, parent_wish};
+use crate::{LeafType, PolicyFault, PolicyKind, Walk};
+use serde_json::Value;
+use std::alloc::Global;
+use tpol_base::Name;
+use tpol_json::{Place, member};
+use tpol_tree::Element;
+
+/// No `keyPEM` may stand here: it holds an asymmetric key, and is `AsymmetricKey` at its own place.
+#[tactic(auto, unfolding(crate::specs::Rows::without_pem))]
+pub fn without_pem(alloc: Global, value: &Value, place: &Place) -> Result<(), PolicyFault>
+    ensures { Gives result (without_pem (view value.now) place.now) }
+{
+    if member(value, "keyPEM").is_some() {
+        refuse_member(alloc, PolicyKind::AsymmetricKey, place, "keyPEM")
+    } else {
+        Ok(())
+    }
+}
+
+#[tactic(auto, unfolding(crate::specs::Rows::pcr_row))]
+fn pcr_row(
+    alloc: Global,
+    value: &Value,
+    place: &Place,
+    walk: &mut Walk,
+) -> Result<Element, PolicyFault>
+    ensures { Leaves result walk.new (pcr_row (view value.now) place.now walk.old) }
+{
+    Ok(Element::Pcr(pcr_wish(alloc, value, place, walk)?))
+}
+
+#[tactic(auto, unfolding(crate::specs::Rows::nv_row))]
+fn nv_row(
+    alloc: Global,
+    value: &Value,
+    place: &Place,
+    walk: &mut Walk,
+) -> Result<Element, PolicyFault>
+    ensures { Leaves result walk.new (nv_row (view value.now) place.now walk.old) }
+{
+    let index = index_wish(alloc, value, place, walk)?;
+    let operand = operand(alloc, value, place)?;
+    let offset = offset(alloc, value, place)?;
+    let operation = operation_member(alloc, value, place)?;
+    Ok(Element::Nv {
+        index,
+        operand,
+        offset,
+        operation,
+    })
+}
+
+#[tactic(auto, unfolding(crate::specs::Rows::secret_row))]
+fn secret_row(alloc: Global, value: &Value, place: &Place) -> Result<Element, PolicyFault>
+    ensures { Gives result (secret_row (view value.now) place.now) }
+{
+    let entity = entity_wish(alloc, value, place)?;
+    let policy_ref = policy_ref(alloc, value, place)?;
+    let cp_hash = cp_hash(alloc, value, place)?;
+    let expiration = expiration(alloc, value, place)?;
+    Ok(Element::Secret {
+        entity,
+        policy_ref,
+        cp_hash,
+        expiration,
+    })
+}
+
+#[tactic(auto, unfolding(crate::specs::Rows::signed_row))]
+fn signed_row(
+    alloc: Global,
+    value: &Value,
+    place: &Place,
+    walk: &mut Walk,
+) -> Result<Element, PolicyFault>
+    ensures { Leaves result walk.new (signed_row (view value.now) place.now walk.old) }
+{
+    without_pem(alloc, value, place)?;
+    let key = key_wish(alloc, value, "publicKey", place, walk)?;
+    let policy_ref = policy_ref(alloc, value, place)?;
+    let cp_hash = cp_hash(alloc, value, place)?;
+    let expiration = expiration(alloc, value, place)?;
+    Ok(Element::Signed {
+        key,
+        policy_ref,
+        cp_hash,
+        expiration,
+    })
+}
+
+#[tactic(auto, unfolding(crate::specs::Rows::authorize_row))]
+fn authorize_row(
+    alloc: Global,
+    value: &Value,
+    place: &Place,
+    walk: &mut Walk,
+) -> Result<Element, PolicyFault>
+    ensures { Leaves result walk.new (authorize_row (view value.now) place.now walk.old) }
+{
+    without_pem(alloc, value, place)?;
+    let key = key_wish(alloc, value, "publicKey", place, walk)?;
+    let policy_ref = policy_ref(alloc, value, place)?;
+    Ok(Element::Authorize { key, policy_ref })
+}
+
+#[tactic(auto, unfolding(crate::specs::Rows::authorize_nv_row))]
+fn authorize_nv_row(
+    alloc: Global,
+    value: &Value,
+    place: &Place,
+    walk: &mut Walk,
+) -> Result<Element, PolicyFault>
+    ensures { Leaves result walk.new (authorize_nv_row (view value.now) place.now walk.old) }
+{
+    let index = index_wish(alloc, value, place, walk)?;
+    Ok(Element::AuthorizeNv { index })
+}
+
+#[tactic(auto, unfolding(crate::specs::Rows::locality_row))]
+fn locality_row(alloc: Global, value: &Value, place: &Place) -> Result<Element, PolicyFault>
+    ensures { Gives result (locality_row (view value.now) place.now) }
+{
+    match member(value, "locality") {
+        Some(found) => {
+            let set = localities(alloc, found, &place.member(alloc, "locality")?)?;
+            Ok(Element::Locality(set))
+        }
+        None => refuse_member(alloc, PolicyKind::Missing, place, "locality"),
+    }
+}
+
+#[tactic(auto, unfolding(crate::specs::Rows::command_code_row))]
+fn command_code_row(alloc: Global, value: &Value, place: &Place) -> Result<Element, PolicyFault>
+    ensures { Gives result (command_code_row (view value.now) place.now) }
+{
+    match member(value, "code") {
+        Some(found) => {
+            let code = code(alloc, found, &place.member(alloc, "code")?)?;
+            Ok(Element::CommandCode(code))
+        }
+        None => refuse_member(alloc, PolicyKind::Missing, place, "code"),
+    }
+}
+
+#[tactic(auto, unfolding(crate::specs::Rows::cp_hash_row))]
+fn cp_hash_row(alloc: Global, value: &Value, place: &Place) -> Result<Element, PolicyFault>
+    ensures { Gives result (cp_hash_row (view value.now) place.now) }
+{
+    match member(value, "cpHash") {
+        Some(found) => {
+            let digest = digest(alloc, found, &place.member(alloc, "cpHash")?)?;
+            Ok(Element::CpHash(digest))
+        }
+        None => refuse_member(alloc, PolicyKind::Missing, place, "cpHash"),
+    }
+}
+
+#[tactic(auto, unfolding(crate::specs::Rows::name_hash_row))]
+fn name_hash_row(alloc: Global, value: &Value, place: &Place) -> Result<Element, PolicyFault>
+    ensures { Gives result (name_hash_row (view value.now) place.now) }
+{
+    Ok(Element::NameHash(names_wish(alloc, value, place)?))
+}
+
+#[tactic(auto, unfolding(crate::specs::Rows::counter_timer_row))]
+fn counter_timer_row(alloc: Global, value: &Value, place: &Place) -> Result<Element, PolicyFault>
+    ensures { Gives result (counter_timer_row (view value.now) place.now) }
+{
+    let operand = operand(alloc, value, place)?;
+    let offset = offset(alloc, value, place)?;
+    let operation = operation_member(alloc, value, place)?;
+    Ok(Element::CounterTimer {
+        operand,
+        offset,
+        operation,
+    })
+}
+
+#[tactic(auto, unfolding(crate::specs::Rows::include_member))]
+fn include_member(alloc: Global, value: &Value, place: &Place) -> Result<bool, PolicyFault>
+    ensures { Gives result (include_member (view value.now) place.now) }
+{
+    match member(value, "includeObject") {
+        Some(found) => truth(alloc, found, &place.member(alloc, "includeObject")?),
+        None => Ok(false),
+    }
+}
+
+#[tactic(auto, unfolding(crate::specs::Rows::object_member))]
+fn object_member(alloc: Global, value: &Value, place: &Place) -> Result<Name, PolicyFault>
+    ensures { Gives result (object_member (view value.now) place.now) }
+{
+    match member(value, "objectName") {
+        Some(found) => name(alloc, found, &place.member(alloc, "objectName")?),
+        None => Ok(Name::Empty),
+    }
+}
+
+// The object's Name, which is needed where it is included.
+#[tactic(auto, unfolding(crate::specs::Rows::included_object))]
+fn included_object(
+    alloc: Global,
+    value: &Value,
+    include: bool,
+    place: &Place,
+) -> Result<Name, PolicyFault>
+    ensures { Gives result (included_object include (view value.now) place.now) }
+{
+    match object_member(alloc, value, place)? {
+        Name::Empty if include => { refuse_member(alloc, PolicyKind::Missing, place, "objectName") }
+        object => Ok(object),
+    }
+}
+
+#[tactic(auto, unfolding(crate::specs::Rows::duplication_row))]
+fn duplication_row(
+    alloc: Global,
+    value: &Value,
+    place: &Place,
+    walk: &mut Walk,
+) -> Result<Element, PolicyFault>
+    ensures { Leaves result walk.new (duplication_row (view value.now) place.now walk.old) }
+{
+    let parent = parent_wish(alloc, value, place, walk)?;
+    let include = include_member(alloc, value, place)?;
+    let object = included_object(alloc, value, include, place)?;
+    Ok(Element::Duplication {
+        object,
+        parent,
+        include,
+    })
+}
+
+#[tactic(auto, unfolding(crate::specs::Rows::written_member))]
+fn written_member(alloc: Global, value: &Value, place: &Place) -> Result<bool, PolicyFault>
+    ensures { Gives result (written_member (view value.now) place.now) }
+{
+    match member(value, "writtenSet") {
+        Some(found) => truth(alloc, found, &place.member(alloc, "writtenSet")?),
+        None => Ok(true),
+    }
+}
+
+#[tactic(auto, unfolding(crate::specs::Rows::nv_written_row))]
+fn nv_written_row(alloc: Global, value: &Value, place: &Place) -> Result<Element, PolicyFault>
+    ensures { Gives result (nv_written_row (view value.now) place.now) }
+{
+    Ok(Element::NvWritten(written_member(alloc, value, place)?))
+}
+
+/// The element of this type, by its own members; else the first fault in them, in the order in which its
+/// row reads them.
+pub fn leaf_row(
+    alloc: Global,
+    leaf: LeafType,
+    value: &Value,
+    place: &Place,
+    walk: &mut Walk,
+) -> Result<Element, PolicyFault>
+    ensures { Leaves result walk.new (leaf_row leaf (view value.now) place.now walk.old) }
+{
+    match leaf {
+        LeafType::Pcr => pcr_row(alloc, value, place, walk),
+        LeafType::Nv => nv_row(alloc, value, place, walk),
+        LeafType::Secret => secret_row(alloc, value, place),
+        LeafType::Signed => signed_row(alloc, value, place, walk),
+        LeafType::Authorize => authorize_row(alloc, value, place, walk),
+        LeafType::AuthorizeNv => authorize_nv_row(alloc, value, place, walk),
+        LeafType::Locality => locality_row(alloc, value, place),
+        LeafType::CommandCode => command_code_row(alloc, value, place),
+        LeafType::CpHash => cp_hash_row(alloc, value, place),
+        LeafType::NameHash => name_hash_row(alloc, value, place),
+        LeafType::CounterTimer => counter_timer_row(alloc, value, place),
+        LeafType::DuplicationSelect => duplication_row(alloc, value, place, walk),
+        LeafType::NvWritten => nv_written_row(alloc, value, place),
+        LeafType::AuthValue => Ok(Element::AuthValue),
+        LeafType::Password => Ok(Element::Password),
+        LeafType::PhysicalPresence => Ok(Element::PhysicalPresence),
+    }
+}

@@ -1,9 +1,0 @@
-use Rattle.std.proofs.Common.{◌≡◌, [], drop}
-use Rattle.serde_json.specs.View.{items_view}
-use Rattle.tpol_rows.specs.Bytes.{text_in}
-use Rattle.tpol_rows.specs.Wishes.{each_from}
-use Rattle.tpol_rows.proofs.wishes.paths_of.Given as goal
-
--- what was read so far, with the items to come, is what all say
-abbrev pub invariant-loop-index : goal.invariant-loop-index
-invariant-loop-index l = each_from text_in l.paths l.index (items_view (drop l.index l.items)) l.place ≡ each_from text_in [] 0 (items_view l.items) l.place
