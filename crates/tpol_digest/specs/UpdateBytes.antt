@@ -1,5 +1,5 @@
 -- The update that bytes in memory say.
-use Rattle.tpol_digest.specs.declared.update.UpdateBytes.{UpdateBytes}
+use Rattle.tpol_digest.specs.declared.update_bytes.UpdateBytes.{UpdateBytes}
 use Rattle.tpol_digest.specs.Update.{Update}
 
 -- the update of these bytes
