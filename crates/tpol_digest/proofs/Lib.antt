@@ -10,5 +10,6 @@ pub mod OutsideSteps
 pub mod Products
 pub mod Soundness
 pub mod TermLaws
+pub mod Walks
 pub mod Weights
 pub mod Worked

@@ -26,6 +26,7 @@ use Rattle.tpol_digest.specs.Extent.{FullExtent, no_path, one_move, both, either
 use Rattle.tpol_digest.specs.declared.extent.Extent.{Extent}
 use Rattle.tpol_digest.specs.WellFormed.{HaveBranchCounts}
 use Rattle.tpol_digest.proofs.Products.{Each-append, Each-product}
+use Rattle.tpol_digest.proofs.Walks.{length-product}
 
 -- some path has at least so many moves
 abbrev pub HasLong : ℕ → List Path → Type 0
@@ -117,14 +118,6 @@ measures_longer a step act paths h = record {
 
 followed_moves : (p q : Path) → length (followed_by p q).moves ≡ length p.moves + length q.moves
 followed_moves p q = length-append p.moves q.moves
-
-length-product : (xs ys : List Path) → length (product xs ys) ≡ length xs * length ys
-length-product [] ys = omega arith
-length-product (x ∷ xs) ys =
-    length-append (map (followed_by x) ys) (product xs ys)
-    ∙ ap (λ n. n + length (product xs ys)) (length-map ys (followed_by x))
-    ∙ ap (λ n. length ys + n) (length-product xs ys)
-    ∙ omega arith
 
 reached_behind : (m n : ℕ) (x : Path) → m ≤ length x.moves → (ys : List Path) → HasLong n ys → HasLong (m + n) (map (followed_by x) ys)
 reached_behind m n x le [] h = absurd h

@@ -6,4 +6,5 @@ pub mod Sound
 pub mod Update
 pub mod UpdateBytes
 pub mod Term
+pub mod Walks
 pub mod WellFormed
