@@ -1,6 +1,7 @@
 -- Digests out of bytes, and the zero digest.
-use Rattle.std.specs.Prelude.{◌≡◌, ℕ, zero, suc, List, [], ◌∷◌, length, replicate, refl}
+use Rattle.std.specs.Prelude.{◌≡◌, ℕ, Bool, zero, suc, List, [], ◌∷◌, length, replicate, refl}
 use Rattle.std.proofs.Common.{ap}
+use Rattle.std.specs.Str.{bytes_eq}
 use Rattle.tpol_base.specs.declared.digest.Digest32.{Digest32}
 
 -- the first n bytes, with zero bytes where there are fewer
@@ -17,6 +18,10 @@ length-front (suc n) (byte ∷ bytes) = ap suc (length-front n bytes)
 -- the digest of the first 32 bytes
 unfoldable pub digest_of_bytes : List ℕ → Digest32
 digest_of_bytes bytes = record { bytes = front 32 bytes; whole = length-front 32 bytes }
+
+-- whether two digests are the same
+abbrev pub is_same_digest : Digest32 → Digest32 → Bool
+is_same_digest a b = bytes_eq a.bytes b.bytes
 
 -- 32 zero bytes
 abbrev pub zero_digest : Digest32

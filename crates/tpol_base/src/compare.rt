@@ -1,5 +1,5 @@
-ghost use Rattle.std.specs.Prelude.{◌≡◌};
-ghost use Rattle.tpol_base.specs.Compare.{compare_of_number, number_of_compare};
+ghost use Rattle.std.specs.Prelude.{◌≡◌, map};
+ghost use Rattle.tpol_base.specs.Compare.{compare_of_number, name_of_compare, names_of_comparisons, number_of_compare};
 
 /// The comparison of PolicyNV and PolicyCounterTimer (TPM 2.0 Part 2, TPM_EO), numbered 0 to 11 in this
 /// order. Operands are compared as big-endian numbers, signed ones in two's complement.
@@ -65,5 +65,45 @@ impl Compare {
             .iter()
             .copied()
             .find(|compare| compare.number() == number)
+    }
+
+    /// The comparison's name, without `TPM_EO_`, as documents write it.
+    pub fn name(self) -> &'static str
+        ensures { result.now ≡ name_of_compare self }
+    {
+        match self {
+            Compare::Eq => "EQ",
+            Compare::Neq => "NEQ",
+            Compare::SignedGt => "SIGNED_GT",
+            Compare::UnsignedGt => "UNSIGNED_GT",
+            Compare::SignedLt => "SIGNED_LT",
+            Compare::UnsignedLt => "UNSIGNED_LT",
+            Compare::SignedGe => "SIGNED_GE",
+            Compare::UnsignedGe => "UNSIGNED_GE",
+            Compare::SignedLe => "SIGNED_LE",
+            Compare::UnsignedLe => "UNSIGNED_LE",
+            Compare::BitSet => "BITSET",
+            Compare::BitClear => "BITCLEAR",
+        }
+    }
+
+    /// Every comparison with its name, by its number.
+    pub fn names() -> &'static [(&'static str, Compare)]
+        ensures { map (λ word. (word.0.now, word.1)) result.now ≡ names_of_comparisons }
+    {
+        &[
+            ("EQ", Compare::Eq),
+            ("NEQ", Compare::Neq),
+            ("SIGNED_GT", Compare::SignedGt),
+            ("UNSIGNED_GT", Compare::UnsignedGt),
+            ("SIGNED_LT", Compare::SignedLt),
+            ("UNSIGNED_LT", Compare::UnsignedLt),
+            ("SIGNED_GE", Compare::SignedGe),
+            ("UNSIGNED_GE", Compare::UnsignedGe),
+            ("SIGNED_LE", Compare::SignedLe),
+            ("UNSIGNED_LE", Compare::UnsignedLe),
+            ("BITSET", Compare::BitSet),
+            ("BITCLEAR", Compare::BitClear),
+        ]
     }
 }

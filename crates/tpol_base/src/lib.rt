@@ -6,37 +6,47 @@
 //! outside answers `Failed` only where that count rose in the call.
 #![tactic(auto)]
 
+pub mod attributes;
 mod check;
+mod command_code;
 mod compare;
+pub mod constants;
 mod cursor;
 mod digest;
 mod document;
 mod failing;
+mod flag;
 mod folder_shelf;
+pub mod handle;
 mod memory_shelf;
 mod memory_sink;
 mod memory_source;
 mod name;
 mod no_memory;
 mod outside;
+pub mod pcr;
 mod policy_name;
 mod rc;
+pub mod response_code;
 mod sequence;
 mod std_sink;
 mod std_source;
 mod text;
 
 pub use check::Check;
+pub use command_code::{CommandCode, command_codes, command_name};
 pub use compare::Compare;
 pub use cursor::Cursor;
 pub use digest::Digest32;
 pub use document::Document;
 pub use failing::Failing;
+pub use flag::yes_no;
 pub use folder_shelf::FolderShelf;
+pub use handle::HandleKind;
 pub use memory_shelf::{MemoryShelf, most_handed_out};
 pub use memory_sink::MemorySink;
 pub use memory_source::MemorySource;
-pub use name::Name;
+pub use name::{Name, NameBytes};
 pub use no_memory::NoMemory;
 pub use outside::{Failed, Lapse, Shelf, Sink, Source};
 pub use policy_name::{is_policy_name, without_folder};

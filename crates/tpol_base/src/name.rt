@@ -1,9 +1,11 @@
-ghost use Rattle.std.specs.Prelude.{◌≡◌, IfSome, IfNone, IfOk, length};
+ghost use Rattle.std.specs.Prelude.{◌≡◌, ◌≤◌, ◌∷◌, IfSome, IfNone, IfOk, length};
 ghost use Rattle.tpol_base.specs.Name.{name_bytes, name_of_bytes};
 ghost use Rattle.tpol_base.specs.declared.name.Name.{Name as EntityName};
 
+use crate::constants::TPM_ALG_SHA256;
 use crate::{Blob, Digest32, NoMemory};
 use std::alloc::Global;
+use std::marker::Model;
 
 /// The Name of an entity (TPM 2.0 Part 1, "Names"). Its bytes are nothing, the four bytes of a handle
 /// (hierarchies, PCRs, sessions), or the two bytes `000b` of SHA-256 and a digest (objects and indices).
@@ -32,6 +34,17 @@ impl Name {
         }
     }
 
+    /// The bytes of the Name: 0, 4 or 34. They take no memory.
+    pub fn bytes(&self) -> NameBytes
+        ensures { result ≡ name_bytes self.now }
+    {
+        match self {
+            Name::Empty => NameBytes::of(&[]),
+            Name::Handle(handle) => NameBytes::of(&handle.to_be_bytes()),
+            Name::Hash(digest) => NameBytes::of_hash(digest),
+        }
+    }
+
     /// The bytes of the Name: 0, 4 or 34.
     pub fn to_bytes(&self, alloc: Global) -> Result<Blob, NoMemory>
         ensures { IfOk result (λ bytes. bytes ≡ name_bytes self.now) }
@@ -45,6 +58,61 @@ impl Name {
                 Ok(bytes)
             }
         }
+    }
+}
+
+/// The greatest number of bytes of a Name: an algorithm and a digest.
+const GREATEST: usize = 34;
+
+/// The bytes of a Name; contracts see the list of them.
+#[derive(Drop)]
+pub struct NameBytes {
+    bytes: [u8; GREATEST],
+    count: usize,
+}
+
+impl Model for NameBytes {
+    ghost use Rattle.std.specs.Prelude.{◌≤◌, List, ℕ, take};
+
+    ghost Value = { List ℕ };
+
+    ghost view = { λ n. take n.count n.bytes };
+
+    ghost invariant = { λ n. n.count ≤ 34 };
+}
+
+impl NameBytes {
+    // These bytes.
+    fn of(bytes: &[u8]) -> NameBytes
+        requires { length bytes.now ≤ 34 }
+        ensures { result ≡ bytes.now }
+    {
+        let mut all = [0; GREATEST];
+        all[..bytes.len()].copy_from_slice(bytes);
+        NameBytes {
+            bytes: all,
+            count: bytes.len(),
+        }
+    }
+
+    // The algorithm's number and the digest.
+    fn of_hash(digest: &Digest32) -> NameBytes
+        ensures { result ≡ 0x00 ∷ 0x0b ∷ digest.now.bytes }
+    {
+        let mut bytes = [0; GREATEST];
+        bytes[1] = TPM_ALG_SHA256 as u8;
+        bytes[2..].copy_from_slice(&digest.bytes);
+        NameBytes {
+            bytes,
+            count: GREATEST,
+        }
+    }
+
+    /// The bytes in order.
+    pub fn as_slice(&self) -> &[u8]
+        ensures { result.now ≡ self.now }
+    {
+        &self.bytes[..self.count]
     }
 }
 
