@@ -1,9 +1,8 @@
-ghost use Rattle.std.specs.Prelude.{◌≡◌, ◌∷◌, ◌++◌, [], length, IsTrue, ◌↔◌, IfOk, OnOk, OnErr};
+ghost use Rattle.std.specs.Prelude.{◌≡◌, ◌∷◌, ◌++◌, [], length, slice_get, IsTrue, ◌↔◌, IfOk, OnOk, OnErr};
 ghost use Rattle.std.specs.Option.{option_copied};
-ghost use Rattle.std.specs.Prelude.{slice_get};
 
-use crate::NoMemory;
-use std::alloc::Global;
+use crate::{ExactClone, NoMemory};
+use std::alloc::{AllocError, Global};
 use std::marker::Model;
 
 /// A list over a `Vec`; contracts see the list of its items.
@@ -18,6 +17,16 @@ impl<T> Model for Sequence<T> {
     ghost Value = { List T };
 
     ghost view = { λ s. s.items.items };
+}
+
+impl<T: ExactClone> Clone for Sequence<T> {
+    ghost is_clone = { λ sequence copy. copy ≡ sequence };
+
+    fn clone(&self) -> Result<Sequence<T>, AllocError> {
+        Ok(Sequence {
+            items: self.items.clone()?,
+        })
+    }
 }
 
 impl<T> Sequence<T> {
