@@ -1,0 +1,5 @@
+pub mod Agreement
+pub mod Facts
+pub mod Held
+pub mod Merged
+pub mod State

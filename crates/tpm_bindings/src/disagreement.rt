@@ -1,0 +1,16 @@
+/// Why no command can meet what all policy commands of a list bind, in the order of the rules.
+#[derive(Clone, Copy, PartialEq, Eq)]
+pub enum Disagreement {
+    /// Two command codes, where PolicyDuplicationSelect counts as that of Duplicate.
+    Code,
+    /// No locality of 0 to 7 is in each PolicyLocality.
+    Locality,
+    /// Two digests of PolicyCpHash.
+    CpHash,
+    /// Two digests of PolicyNameHash or of the Names of a PolicyDuplicationSelect that includes the object.
+    NameHash,
+    /// A PolicyCpHash beside a PolicyNameHash or a PolicyDuplicationSelect.
+    Kinds,
+    /// Two states of PolicyNvWritten.
+    NvWritten,
+}
