@@ -4,6 +4,8 @@ use Rattle.std.specs.Prelude.{ℕ, ◌&&◌, ◌||◌, Bool, true, false, List, 
 use Rattle.std.specs.List.{list_all, list_any}
 use Rattle.std.specs.Bool.{beq}
 use Rattle.std.specs.Str.{bytes_eq}
+use Rattle.tpol_base.specs.declared.command_code.CommandCode.TheVariants.{Duplicate}
+use Rattle.tpol_base.specs.CommandCode.{number_of_code}
 use Rattle.tpol_base.specs.declared.digest.Digest32.{Digest32}
 use Rattle.tpol_base.specs.declared.name.Name.{Name}
 use Rattle.tpol_base.specs.Name.{name_bytes}
@@ -39,7 +41,7 @@ hash_of_names object parent = sha256_digest (name_bytes object ++ name_bytes par
 -- the command code that an assertion asks for: PolicyCommandCode's, and Duplicate's after PolicyDuplicationSelect
 abbrev pub code_in : Assertion → Option ℕ
 code_in (CommandCode code) = Some code
-code_in (Duplication object parent include) = Some 0x14b
+code_in (Duplication object parent include) = Some (number_of_code Duplicate)
 code_in _ = None
 
 -- the set of localities of a PolicyLocality, bit n for locality n

@@ -4,11 +4,9 @@ ghost use Rattle.std.specs.Prelude.{◌≡◌, bit_and};
 ghost use Rattle.tpm_bindings.specs.Facts as spec;
 
 use crate::LastAuth;
-use tpol_base::{Digest32, Name};
+use tpol_base::{CommandCode, Digest32, Name};
 use tpol_hash::Hasher;
 use tpol_tree::{Assertion, Move};
-
-const DUPLICATE: u32 = 0x14b;
 
 // The command code that it asks for.
 pub fn code(act: &Move) -> Option<u32>
@@ -16,7 +14,7 @@ pub fn code(act: &Move) -> Option<u32>
 {
     match act {
         Move::Assert(Assertion::CommandCode(code)) => Some(*code),
-        Move::Assert(Assertion::Duplication { .. }) => Some(DUPLICATE),
+        Move::Assert(Assertion::Duplication { .. }) => Some(CommandCode::Duplicate.number()),
         _ => None,
     }
 }

@@ -3,17 +3,14 @@
 use crate::{Bindings, Disagreement};
 use std::process::Abort;
 use std::test::Fail;
-use tpol_base::{Digest32, Name};
+use tpol_base::handle::{TPM_RH_NULL, TPM_RH_OWNER};
+use tpol_base::{CommandCode, Digest32, Name};
 use tpol_tree::{Assertion, Move};
-
-const UNSEAL: u32 = 0x15e;
-
-const HMAC: u32 = 0x155;
 
 fn duplication() -> Assertion {
     Assertion::Duplication {
-        object: Name::Handle(0x4000_0001),
-        parent: Name::Handle(0x4000_0007),
+        object: Name::Handle(TPM_RH_OWNER),
+        parent: Name::Handle(TPM_RH_NULL),
         include: false,
     }
 }
@@ -31,11 +28,12 @@ fn disagrees(rt: &impl Abort, assertions: [Assertion; 3], rule: Disagreement) {
 #[test]
 fn assertions_that_exclude_each_other(rt: HostRuntime) -> Result<(), Fail> {
     let digest = Assertion::CpHash(Digest32::ZERO);
-    let unseal = Assertion::CommandCode(UNSEAL);
+    let unseal = Assertion::CommandCode(CommandCode::Unseal.number());
+    let hmac = Assertion::CommandCode(CommandCode::Hmac.number());
     let locality = Assertion::Locality(3);
     disagrees(
         &rt,
-        [unseal, Assertion::AuthValue, Assertion::CommandCode(HMAC)],
+        [unseal, Assertion::AuthValue, hmac],
         Disagreement::Code,
     );
     disagrees(
