@@ -1,0 +1,4 @@
+pub mod Passwords
+pub mod SessionMacs
+pub mod Signatures
+pub mod Tickets

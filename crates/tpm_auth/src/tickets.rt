@@ -1,0 +1,100 @@
+//! Tickets: what the machine has verified or authorized once, in a form that it knows again. A ticket is an
+//! HMAC whose key is the machine's proof, which no command gives out.
+
+ghost use Rattle.std.specs.Prelude.{◌≡◌, ℕ, List, ◌++◌, length};
+ghost use Rattle.tpol_base.specs.Name.{name_bytes};
+ghost use Rattle.tpol_base.specs.Sized.{sized};
+ghost use Rattle.tpol_hash.specs.Messages.{HoldsUnder};
+ghost use Rattle.tpm_auth.specs.Tickets.{auth_ticket, is_verified_ticket, verified_ticket};
+
+use tpol_base::{Digest32, Name};
+use tpol_hash::Mac;
+
+/// The structure tag TPM_ST_VERIFIED.
+const VERIFIED: [u8; 2] = [0x80, 0x22];
+
+/// The ticket of VerifySignature: the HMAC over TPM_ST_VERIFIED, the digest and the key's Name
+/// (TPM 2.0 Part 2, TPMT_TK_VERIFIED).
+pub fn verified_ticket(proof: &Digest32, digest: &Digest32, key: &Name) -> Digest32
+    ensures ticket { result ≡ verified_ticket proof.now digest.now key.now }
+{
+    let mut mac = Mac::new(&proof.bytes);
+    mac.put(&VERIFIED);
+    mac.put(&digest.bytes);
+    put_name(&mut mac, key);
+    mac.done()
+}
+
+/// Whether these bytes are the ticket of VerifySignature for this digest and key.
+pub fn check_ticket(proof: &Digest32, digest: &Digest32, key: &Name, given: &[u8]) -> bool
+    ensures right { result ≡ is_verified_ticket proof.now digest.now key.now given.now }
+{
+    given == verified_ticket(proof, digest, key).bytes.as_slice()
+}
+
+/// The ticket of PolicySecret (tag 8023) and PolicySigned (tag 8025), which PolicyTicket takes in their
+/// place: the HMAC over the tag, the deadline in milliseconds, the machine's reset count, cpHashA, policyRef
+/// and the entity's Name, each of the last three behind its length. The order is this project's own
+/// (compare TPM 2.0 Part 2, TPMT_TK_AUTH).
+pub fn auth_ticket(
+    proof: &Digest32,
+    tag: u16,
+    deadline: u64,
+    reset_count: u32,
+    cp_hash: &[u8],
+    policy_ref: &[u8],
+    key: &Name,
+) -> Digest32
+    ensures ticket { result ≡ auth_ticket proof.now tag deadline reset_count cp_hash.now policy_ref.now key.now }
+{
+    let mut mac = Mac::new(&proof.bytes);
+    mac.put(&tag.to_be_bytes());
+    mac.put(&deadline.to_be_bytes());
+    mac.put(&reset_count.to_be_bytes());
+    put_sized(&mut mac, cp_hash);
+    put_sized(&mut mac, policy_ref);
+    put_sized_name(&mut mac, key);
+    mac.done()
+}
+
+// Adds a sized buffer (TPM2B): the last two bytes of the length, and the bytes.
+fn put_sized(mac: &mut Mac, bytes: &[u8])
+    ensures longer { (key m : List ℕ) → HoldsUnder mac.old key m → HoldsUnder mac.new key (m ++ sized bytes.now) }
+{
+    let length = bytes.len().to_be_bytes();
+    mac.put(&length[6..]);
+    mac.put(bytes);
+}
+
+// Adds a Name as a sized buffer.
+fn put_sized_name(mac: &mut Mac, name: &Name)
+    ensures longer { (key m : List ℕ) → HoldsUnder mac.old key m → HoldsUnder mac.new key (m ++ sized (name_bytes name.now)) }
+{
+    mac.put(&name_size(name).to_be_bytes());
+    put_name(mac, name);
+}
+
+// Adds the bytes of a Name.
+fn put_name(mac: &mut Mac, name: &Name)
+    ensures longer { (key m : List ℕ) → HoldsUnder mac.old key m → HoldsUnder mac.new key (m ++ name_bytes name.now) }
+{
+    match name {
+        Name::Empty => {}
+        Name::Handle(handle) => mac.put(&handle.to_be_bytes()),
+        Name::Hash(digest) => {
+            mac.put(&[0x00, 0x0b]);
+            mac.put(&digest.bytes);
+        }
+    }
+}
+
+// The number of a Name's bytes.
+fn name_size(name: &Name) -> u16
+    ensures { result ≡ length (name_bytes name.now) }
+{
+    match name {
+        Name::Empty => 0,
+        Name::Handle(_) => 4,
+        Name::Hash(_) => 34,
+    }
+}
