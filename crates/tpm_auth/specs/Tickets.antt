@@ -1,9 +1,10 @@
 -- Tickets: HMACs with the machine's proof as key.
-use Rattle.std.specs.Prelude.{ℕ, Bool, List, [], ◌∷◌, ◌++◌}
+use Rattle.std.specs.Prelude.{ℕ, Bool, List, ◌++◌}
 use Rattle.std.specs.Int.{to_be_bytes, w16, w32, w64}
 use Rattle.std.specs.Str.{bytes_eq}
 use Rattle.tpol_base.specs.declared.digest.Digest32.{Digest32}
 use Rattle.tpol_base.specs.declared.name.Name.{Name}
+use Rattle.tpol_base.specs.Constants.{st_verified}
 use Rattle.tpol_base.specs.Name.{name_bytes}
 use Rattle.tpol_base.specs.Sized.{sized}
 use Rattle.tpol_hash.specs.Hmac.{hmac_sha256}
@@ -12,7 +13,7 @@ use Rattle.tpol_hash.specs.Hmac.{hmac_sha256}
 -- TPMT_TK_VERIFIED)
 abbrev pub verified_ticket : Digest32 → Digest32 → Name → Digest32
 verified_ticket proof digest key =
-    hmac_sha256 proof.bytes ((0x80 ∷ 0x22 ∷ []) ++ digest.bytes ++ name_bytes key)
+    hmac_sha256 proof.bytes (to_be_bytes w16 st_verified ++ digest.bytes ++ name_bytes key)
 
 -- whether these bytes are that ticket
 abbrev pub is_verified_ticket : Digest32 → Digest32 → Name → List ℕ → Bool

@@ -1,17 +1,14 @@
 //! Tickets: what the machine has verified or authorized once, in a form that it knows again. A ticket is an
 //! HMAC whose key is the machine's proof, which no command gives out.
 
-ghost use Rattle.std.specs.Prelude.{◌≡◌, ℕ, List, ◌++◌, length};
-ghost use Rattle.tpol_base.specs.Name.{name_bytes};
+ghost use Rattle.std.specs.Prelude.{◌≡◌, ℕ, List, ◌++◌};
 ghost use Rattle.tpol_base.specs.Sized.{sized};
 ghost use Rattle.tpol_hash.specs.Messages.{HoldsUnder};
 ghost use Rattle.tpm_auth.specs.Tickets.{auth_ticket, is_verified_ticket, verified_ticket};
 
+use tpol_base::constants::TPM_ST_VERIFIED;
 use tpol_base::{Digest32, Name};
 use tpol_hash::Mac;
-
-/// The structure tag TPM_ST_VERIFIED.
-const VERIFIED: [u8; 2] = [0x80, 0x22];
 
 /// The ticket of VerifySignature: the HMAC over TPM_ST_VERIFIED, the digest and the key's Name
 /// (TPM 2.0 Part 2, TPMT_TK_VERIFIED).
@@ -19,9 +16,9 @@ pub fn verified_ticket(proof: &Digest32, digest: &Digest32, key: &Name) -> Diges
     ensures ticket { result ≡ verified_ticket proof.now digest.now key.now }
 {
     let mut mac = Mac::new(&proof.bytes);
-    mac.put(&VERIFIED);
+    mac.put(&TPM_ST_VERIFIED.to_be_bytes());
     mac.put(&digest.bytes);
-    put_name(&mut mac, key);
+    mac.put(key.bytes().as_slice());
     mac.done()
 }
 
@@ -53,7 +50,7 @@ pub fn auth_ticket(
     mac.put(&reset_count.to_be_bytes());
     put_sized(&mut mac, cp_hash);
     put_sized(&mut mac, policy_ref);
-    put_sized_name(&mut mac, key);
+    put_sized(&mut mac, key.bytes().as_slice());
     mac.done()
 }
 
@@ -64,37 +61,4 @@ fn put_sized(mac: &mut Mac, bytes: &[u8])
     let length = bytes.len().to_be_bytes();
     mac.put(&length[6..]);
     mac.put(bytes);
-}
-
-// Adds a Name as a sized buffer.
-fn put_sized_name(mac: &mut Mac, name: &Name)
-    ensures longer { (key m : List ℕ) → HoldsUnder mac.old key m → HoldsUnder mac.new key (m ++ sized (name_bytes name.now)) }
-{
-    mac.put(&name_size(name).to_be_bytes());
-    put_name(mac, name);
-}
-
-// Adds the bytes of a Name.
-fn put_name(mac: &mut Mac, name: &Name)
-    ensures longer { (key m : List ℕ) → HoldsUnder mac.old key m → HoldsUnder mac.new key (m ++ name_bytes name.now) }
-{
-    match name {
-        Name::Empty => {}
-        Name::Handle(handle) => mac.put(&handle.to_be_bytes()),
-        Name::Hash(digest) => {
-            mac.put(&[0x00, 0x0b]);
-            mac.put(&digest.bytes);
-        }
-    }
-}
-
-// The number of a Name's bytes.
-fn name_size(name: &Name) -> u16
-    ensures { result ≡ length (name_bytes name.now) }
-{
-    match name {
-        Name::Empty => 0,
-        Name::Handle(_) => 4,
-        Name::Hash(_) => 34,
-    }
 }
