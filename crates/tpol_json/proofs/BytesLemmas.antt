@@ -7,7 +7,9 @@ use Rattle.serde_json.specs.View.{view, items_view}
 use Rattle.serde_json.specs.declared.value.Value.{Value}
 use Rattle.tpol_json.specs.Bytes.{byte_in, bytes_from}
 use Rattle.tpol_json.specs.Places.{at_item}
-use Rattle.tpol_json.specs.Reading.{Found, Refuses, ◌>>=◌}
+use Rattle.tpol_base.specs.Answers.{FailsWith, ◌>>=◌}
+use Rattle.tpol_json.specs.Reading.{Found, cause}
+use Rattle.tpol_json.specs.declared.fault.JsonKind.{JsonKind}
 use Rattle.tpol_json.specs.declared.fault.JsonFault.{JsonFault}
 use Rattle.tpol_json.specs.declared.fault.JsonFault.TheVariants.{Bad, NoMemory}
 use Rattle.tpol_json.specs.declared.place.Place.{Place}
@@ -31,7 +33,7 @@ bytes_from-Ok index d ds place byte is = rw is (first byte (bytes_from (suc inde
     first byte (Ok rest) = refl
     first byte (Err fault) = refl
 
-bytes_from-Err : (index : ℕ) (d : Data) (ds : Items) (place : Place) (fault : JsonFault) → byte_in d (at_item place index) ≡ Err fault
+bytes_from-Err : (index : ℕ) (d : Data) (ds : Items) (place : Place) (fault : JsonKind × Place) → byte_in d (at_item place index) ≡ Err fault
     → bytes_from index (item d ds) place ≡ Err fault
 unfolding bytes_from
 bytes_from-Err index d ds place fault is = rw is
@@ -54,10 +56,10 @@ bytes_from-turn vs index v front place byte within is read =
 -- an item was refused, and so the whole list
 pub bytes_from-refused : (vs : List Value) (index : ℕ) (v : Value) (front : List ℕ) (place : Place) (fault : JsonFault) (whole : Found (List ℕ))
     → index < length vs → v ≡ get_or vs index v → with_front front (bytes_from index (items_view (drop index vs)) place) ≡ whole
-    → Refuses fault (byte_in (view v) (at_item place index)) → Refuses fault whole
+    → FailsWith (cause fault) (byte_in (view v) (at_item place index)) → FailsWith (cause fault) whole
 bytes_from-refused vs index v front place NoMemory whole within is so_far refused = tt
 bytes_from-refused vs index v front place (Bad kind at) whole within is so_far refused =
-    sym so_far ∙ rw (items_view-drop vs index v within is, bytes_from-Err index (view v) (items_view (drop (index + 1) vs)) place (Bad kind at) refused)
+    sym so_far ∙ rw (items_view-drop vs index v within is, bytes_from-Err index (view v) (items_view (drop (index + 1) vs)) place (kind, at) refused)
 
 -- no item is left
 pub bytes_from-end : (vs : List Value) (index : ℕ) (front : List ℕ) (place : Place) → length vs ≤ index

@@ -3,3 +3,4 @@ mod NumbersLemmas
 mod SpellingLemmas
 mod WordsLemmas
 mod Worked
+mod UnknownNames

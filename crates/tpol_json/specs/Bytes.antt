@@ -7,7 +7,8 @@ use Rattle.tpol_json.specs.declared.fault.JsonKind.TheVariants.{WrongKind, BadHe
 use Rattle.tpol_json.specs.declared.place.Place.{Place}
 use Rattle.tpol_json.specs.Numbers.{after_0x, whole_number}
 use Rattle.tpol_json.specs.Places.{at_item}
-use Rattle.tpol_json.specs.Reading.{Found, bad, ◌>>=◌}
+use Rattle.tpol_base.specs.Answers.{◌>>=◌}
+use Rattle.tpol_json.specs.Reading.{Found, bad}
 
 -- the bytes of an even number of hexadecimal digits, with or without `0x` in front
 abbrev pub bytes_of_text : List ℕ → Option (List ℕ)

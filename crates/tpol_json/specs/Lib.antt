@@ -1,8 +1,12 @@
-pub mod Bytes
-pub mod Document
-pub mod Numbers
-pub mod PlaceText
-pub mod Places
 pub mod Reading
+pub mod Numbers
+pub mod Bytes
 pub mod Truth
 pub mod Words
+pub mod Document
+pub mod Places
+pub mod Chains
+pub mod PlaceText
+pub mod Faults
+pub mod Members
+pub mod Values

@@ -4,9 +4,9 @@ ghost use Rattle.tpol_json.specs.Bytes.{byte_in, bytes_from, bytes_in, bytes_of_
 ghost use Rattle.tpol_json.specs.Places.{at_item};
 ghost use Rattle.tpol_json.specs.Reading.{Gives};
 
-use crate::fault::{refused, refused_item};
+use crate::fault::refused;
 use crate::numbers::{after_0x, whole_number};
-use crate::{JsonFault, JsonKind, Place};
+use crate::{JsonFault, JsonKind, Place, PlaceRef};
 use hex::FromHexError;
 use serde_json::Value;
 use std::alloc::Global;
@@ -19,6 +19,13 @@ use tpol_base::Blob;
 pub fn bytes_of(alloc: Global, value: &Value, place: &Place) -> Result<Blob, JsonFault>
     ensures { Gives result (bytes_in (view value.now) place.now) }
 {
+    bytes_at(alloc, value, &PlaceRef::at(place))
+}
+
+/// The same at a place that is borrowed.
+pub fn bytes_at(alloc: Global, value: &Value, place: &PlaceRef<'_>) -> Result<Blob, JsonFault>
+    ensures { Gives result (bytes_in (view value.now) place.now) }
+{
     match value {
         Value::String(text) => bytes_of_text(alloc, text.as_str(), place),
         Value::Array(items) => bytes_of_items(alloc, items.as_slice(), place),
@@ -26,7 +33,7 @@ pub fn bytes_of(alloc: Global, value: &Value, place: &Place) -> Result<Blob, Jso
     }
 }
 
-fn bytes_of_text(alloc: Global, text: &str, place: &Place) -> Result<Blob, JsonFault>
+fn bytes_of_text(alloc: Global, text: &str, place: &PlaceRef<'_>) -> Result<Blob, JsonFault>
     ensures { Gives result (hex_or_bad (bytes_of_text text.now) place.now) }
 {
     match hex::decode(alloc, after_0x(text).unwrap_or(text)) {
@@ -36,7 +43,7 @@ fn bytes_of_text(alloc: Global, text: &str, place: &Place) -> Result<Blob, JsonF
     }
 }
 
-fn bytes_of_items(alloc: Global, items: &[Value], place: &Place) -> Result<Blob, JsonFault>
+fn bytes_of_items(alloc: Global, items: &[Value], place: &PlaceRef<'_>) -> Result<Blob, JsonFault>
     ensures { Gives result (bytes_from 0 (items_view items.now) place.now) }
 {
     let mut bytes = Blob::new(alloc);
@@ -48,11 +55,16 @@ fn bytes_of_items(alloc: Global, items: &[Value], place: &Place) -> Result<Blob,
 }
 
 // The byte that the item at this position of the list at the place writes.
-fn byte_of_item(alloc: Global, item: &Value, index: usize, place: &Place) -> Result<u8, JsonFault>
+fn byte_of_item(
+    alloc: Global,
+    item: &Value,
+    index: usize,
+    place: &PlaceRef<'_>,
+) -> Result<u8, JsonFault>
     ensures { Gives result (byte_in (view item.now) (at_item place.now index)) }
 {
     match whole_number(item) {
         Some(number) if 0 <= number && number <= 255 => Ok(number as u8),
-        _ => refused_item(alloc, JsonKind::BadNumber, place, index),
+        _ => refused(alloc, JsonKind::BadNumber, &place.item(index)),
     }
 }

@@ -1,9 +1,10 @@
-ghost use Rattle.tpol_json.specs.Reading.{Gives, bad};
 ghost use Rattle.std.specs.Prelude.{◌≡◌};
-ghost use Rattle.tpol_json.specs.Places.{at_item};
+ghost use Rattle.tpol_json.specs.Faults.{kind_of};
+ghost use Rattle.tpol_json.specs.Faults as members;
+ghost use Rattle.tpol_json.specs.Reading.{Gives, bad};
 ghost use Rattle.tpol_json.specs.declared.fault.JsonFault.TheVariants.{NoMemory as no_memory};
 
-use crate::Place;
+use crate::{Place, PlaceRef};
 use std::alloc::Global;
 use tpol_base::NoMemory;
 
@@ -27,31 +28,49 @@ pub enum JsonFault {
     NoMemory,
 }
 
+/// What is wrong with a member of an object, or with an item of a list.
+#[derive(Clone, Copy, Debug, PartialEq, Eq)]
+pub enum MemberKind {
+    /// A member that is needed is not there.
+    Missing,
+    /// A value of another JSON kind than its member has.
+    WrongKind,
+    /// Bytes that are not written in hexadecimal, or of a wrong length, or no Name.
+    BadHex,
+    /// A number outside its limits, or another text in its place.
+    BadNumber,
+    /// A second one of members of which one is wanted.
+    Twice,
+    /// An item past a list's limit.
+    TooMany,
+}
+
+/// Why a member is not read.
+#[derive(Drop)]
+pub enum MemberFault {
+    /// What stands at the place is at fault.
+    Bad { kind: MemberKind, place: Place },
+    /// Memory ran out.
+    NoMemory,
+}
+
 /// The answer that what stands at the place is at fault; `NoMemory` where it has no memory for the place.
-pub fn refused<T>(alloc: Global, kind: JsonKind, place: &Place) -> Result<T, JsonFault>
+pub fn refused<T>(alloc: Global, kind: JsonKind, place: &PlaceRef<'_>) -> Result<T, JsonFault>
     ensures { Gives result (bad kind place.now) }
 {
-    match place.try_clone(alloc) {
+    match place.to_place(alloc) {
         Ok(place) => Err(JsonFault::Bad { kind, place }),
         Err(_) => Err(JsonFault::NoMemory),
     }
 }
 
-/// The same of the item at this position of the list that stands at the place.
-pub fn refused_item<T>(
-    alloc: Global,
-    kind: JsonKind,
-    place: &Place,
-    index: usize,
-) -> Result<T, JsonFault>
-    ensures { Gives result (bad kind (at_item place.now index)) }
+/// The same of a member.
+pub fn refuse<T>(alloc: Global, kind: MemberKind, place: &PlaceRef<'_>) -> Result<T, MemberFault>
+    ensures { members.Gives result (bad kind place.now) }
 {
-    let Ok(index) = u32::try_from(index) else {
-        return Err(JsonFault::NoMemory);
-    };
-    match place.item(alloc, index) {
-        Ok(place) => Err(JsonFault::Bad { kind, place }),
-        Err(_) => Err(JsonFault::NoMemory),
+    match place.to_place(alloc) {
+        Ok(place) => Err(MemberFault::Bad { kind, place }),
+        Err(_) => Err(MemberFault::NoMemory),
     }
 }
 
@@ -60,5 +79,41 @@ impl From<NoMemory> for JsonFault {
 
     fn from(_: NoMemory) -> JsonFault {
         JsonFault::NoMemory
+    }
+}
+
+impl From<NoMemory> for MemberFault {
+    ghost use Rattle.tpol_json.specs.declared.fault.MemberFault.TheVariants as faults;
+
+    ghost from_gives = { λ _ fault. fault ≡ faults.NoMemory };
+
+    fn from(_: NoMemory) -> MemberFault {
+        MemberFault::NoMemory
+    }
+}
+
+impl From<JsonFault> for MemberFault {
+    ghost use Rattle.tpol_json.specs.Faults.{fault_of};
+
+    ghost from_gives = { λ fault made. made ≡ fault_of fault };
+
+    fn from(fault: JsonFault) -> MemberFault {
+        match fault {
+            JsonFault::Bad { kind, place } => MemberFault::Bad {
+                kind: kind_of(kind),
+                place,
+            },
+            JsonFault::NoMemory => MemberFault::NoMemory,
+        }
+    }
+}
+
+fn kind_of(kind: JsonKind) -> MemberKind
+    ensures { result ≡ kind_of kind }
+{
+    match kind {
+        JsonKind::WrongKind => MemberKind::WrongKind,
+        JsonKind::BadHex => MemberKind::BadHex,
+        JsonKind::BadNumber => MemberKind::BadNumber,
     }
 }

@@ -5,7 +5,7 @@ ghost use Rattle.tpol_json.specs.Numbers.{after_0x, is_hex_digit, number_in, num
 ghost use Rattle.tpol_json.specs.Reading.{Gives};
 
 use crate::fault::refused;
-use crate::{JsonFault, JsonKind, Place};
+use crate::{JsonFault, JsonKind, Place, PlaceRef};
 use serde_json::Value;
 use std::alloc::Global;
 
@@ -19,6 +19,21 @@ pub fn number_of(
     least: i64,
     greatest: i64,
     place: &Place,
+) -> Result<i64, JsonFault>
+    ensures value { Gives result (number_in least greatest (view value.now) place.now) }
+    ensures least { IfOk result (λ n. least ≤ℤ n) }
+    ensures greatest { IfOk result (λ n. n ≤ℤ greatest) }
+{
+    number_at(alloc, value, least, greatest, &PlaceRef::at(place))
+}
+
+/// The same at a place that is borrowed.
+pub fn number_at(
+    alloc: Global,
+    value: &Value,
+    least: i64,
+    greatest: i64,
+    place: &PlaceRef<'_>,
 ) -> Result<i64, JsonFault>
     ensures value { Gives result (number_in least greatest (view value.now) place.now) }
     ensures least { IfOk result (λ n. least ≤ℤ n) }
@@ -41,7 +56,7 @@ fn within(
     number: Option<i64>,
     least: i64,
     greatest: i64,
-    place: &Place,
+    place: &PlaceRef<'_>,
 ) -> Result<i64, JsonFault>
     ensures value { Gives result (within least greatest number place.now) }
     ensures least { IfOk result (λ n. least ≤ℤ n) }

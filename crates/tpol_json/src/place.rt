@@ -1,4 +1,4 @@
-ghost use Rattle.std.specs.Prelude.{◌≡◌, IfOk};
+ghost use Rattle.std.specs.Prelude.{◌≡◌, IfOk, OnOk};
 
 use std::alloc::Global;
 use tpol_base::{NoMemory, Sequence, Text};
@@ -26,6 +26,9 @@ impl PlaceStep {
 
 /// The steps from the root of a document, outermost first.
 pub type PlaceSteps = Sequence<PlaceStep>;
+
+/// The places of unknown members, in reading order.
+pub type Notes = Sequence<Place>;
 
 /// Where in a document something stands. Without a step it is the document itself.
 #[derive(Drop)]
@@ -62,9 +65,7 @@ impl Place {
         ensures { IfOk result (λ place. place ≡ at_member self.now name.now) }
     {
         let mut place = self.try_clone(alloc)?;
-        place
-            .steps
-            .push(PlaceStep::Member(Text::from_str(alloc, name)?))?;
+        place.push_member(alloc, name)?;
         Ok(place)
     }
 
@@ -73,7 +74,22 @@ impl Place {
         ensures { IfOk result (λ place. place ≡ at_item self.now index) }
     {
         let mut place = self.try_clone(alloc)?;
-        place.steps.push(PlaceStep::Item(index))?;
+        place.push_item(index)?;
         Ok(place)
+    }
+
+    /// Goes on to the member of that name.
+    pub fn push_member(&mut self, alloc: Global, name: &str) -> Result<(), NoMemory>
+        ensures { OnOk result (self.new ≡ at_member self.old name.now) }
+    {
+        self.steps
+            .push(PlaceStep::Member(Text::from_str(alloc, name)?))
+    }
+
+    /// Goes on to the item of this position, counted from 0.
+    pub fn push_item(&mut self, index: u32) -> Result<(), NoMemory>
+        ensures { OnOk result (self.new ≡ at_item self.old index) }
+    {
+        self.steps.push(PlaceStep::Item(index))
     }
 }

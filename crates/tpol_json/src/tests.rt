@@ -1,7 +1,9 @@
 //! Outside values: bytes, numbers, words and places as policy documents write them.
 
 use crate::{
-    ParseFault, Place, bytes_of, member, number_of, parse, place_text, same_word, text_of, truth_of,
+    MemberFault, MemberKind, Notes, ParseFault, Place, PlaceRef, bytes_of, digest, member, name,
+    needed, note_unknown, number_of, parse, place_text, same_word, text, text_of, truth_of,
+    unsigned_32, word,
 };
 use std::test::Fail;
 
@@ -106,5 +108,41 @@ fn documents(rt: HostRuntime) -> Result<(), Fail> {
     for bytes in &refused {
         assert!(rt; matches!(parse(alloc, bytes), Err(ParseFault::NotJson)));
     }
+    Ok(())
+}
+
+#[test]
+fn members(rt: HostRuntime) -> Result<(), Fail> {
+    let alloc = rt.alloc();
+    let document = parse(
+        alloc,
+        b"{\"name\":\"40000001\",\"size\":\"0x20\",\"type\":\"tpm2_alg_hmac\",\"x\":null}",
+    )?;
+    let root = Place::root(alloc);
+    let place = PlaceRef::at(&root);
+    let (owner, at) = needed(alloc, &document, "name", &place)
+        .ok()
+        .ok_or("no name")?;
+    let read = name(alloc, owner, &at).ok().ok_or("no Name")?;
+    assert!(rt; read.to_bytes(alloc)?.as_slice() == b"\x40\x00\x00\x01".as_slice());
+    let text = text(alloc, owner, &at).ok().ok_or("no text")?;
+    assert!(rt; text.as_str() == "40000001");
+    let (size, at) = needed(alloc, &document, "size", &place)
+        .ok()
+        .ok_or("no size")?;
+    assert!(rt; unsigned_32(alloc, size, &at).ok() == Some(32));
+    let Err(MemberFault::Bad { kind, place: short }) = digest(alloc, size, &at) else {
+        return Err("a digest of one byte")?;
+    };
+    assert!(rt; kind == MemberKind::BadHex && place_text(alloc, &short)?.as_str() == "size");
+    let (word_of_type, at) = needed(alloc, &document, "type", &place)
+        .ok()
+        .ok_or("no type")?;
+    let schemes = [("HMAC", 5), ("NULL", 16)];
+    let scheme = word(alloc, word_of_type, "TPM2_ALG_", &schemes, &at).ok();
+    assert!(rt; scheme == Some(Some(5)));
+    let mut notes = Notes::new(alloc);
+    note_unknown(alloc, &document, &["name", "type"], &place, &mut notes)?;
+    assert!(rt; notes.len() == 2);
     Ok(())
 }

@@ -5,6 +5,7 @@ use Rattle.tpol_json.specs.declared.fault.JsonFault.TheVariants as json
 use Rattle.tpol_json.specs.declared.fault.JsonKind.{JsonKind}
 use Rattle.tpol_json.specs.declared.fault.JsonKind.TheVariants as kinds
 use Rattle.tpol_json.specs.declared.place.Place.{Place}
+use Rattle.tpol_json.specs.Reading.{ReadAs}
 use Rattle.tpol_scene.specs.declared.fault.SceneFault.{SceneFault}
 use Rattle.tpol_scene.specs.declared.fault.SceneFault.TheVariants.{NotJson, Bad, NoMemory}
 use Rattle.tpol_scene.specs.declared.fault.SceneKind.{SceneKind}
@@ -33,9 +34,9 @@ fault_of (json.Bad kind place) = Bad (kind_of kind) place
 fault_of json.NoMemory = NoMemory
 
 -- bytes, numbers, texts and truth values, with their faults as those of a scene
-abbrev pub read_as : {A : Type 0} → Result A JsonFault → Found A
+abbrev pub read_as : {A : Type 0} → ReadAs JsonKind A → Found A
 read_as (Ok x) = Ok x
-read_as (Err fault) = Err (fault_of fault)
+read_as (Err fault) = bad (kind_of fault.0) fault.1
 
 -- a call that may run out of memory refuses with this fault
 abbrev pub Refuses : {A : Type 0} → SceneFault → Found A → Type 0

@@ -11,7 +11,8 @@ use Rattle.serde_json.specs.Data.{Data, null, boolean, number, string, array, ob
 use Rattle.tpol_json.specs.Bytes.{bytes_in, bytes_from, byte_in, byte_or_bad, hex_or_bad}
 use Rattle.tpol_json.specs.Numbers.{after_0x, number_in, within, whole_number}
 use Rattle.tpol_json.specs.Places.{at_item}
-use Rattle.tpol_json.specs.Reading.{Found, ◌>>=◌}
+use Rattle.tpol_base.specs.Answers.{◌>>=◌}
+use Rattle.tpol_json.specs.Reading.{Found}
 use Rattle.tpol_json.specs.declared.place.Place.{Place}
 
 -- what a JSON reading finds, if anything, is so

@@ -5,7 +5,7 @@ ghost use Rattle.tpol_json.specs.Truth.{text_in, truth_in, truth_of_number, trut
 
 use crate::fault::refused;
 use crate::numbers::whole_number;
-use crate::{JsonFault, JsonKind, Place};
+use crate::{JsonFault, JsonKind, Place, PlaceRef};
 use serde_json::Value;
 use std::alloc::Global;
 use tpol_base::Text;
@@ -14,6 +14,13 @@ use tpol_base::Text;
 /// in any case, and the numbers 1 and 0. `place` is where the value stands, and where a fault stands:
 /// `WrongKind` for `null`, a list and an object, and `BadNumber` for any other text or number.
 pub fn truth_of(alloc: Global, value: &Value, place: &Place) -> Result<bool, JsonFault>
+    ensures { Gives result (truth_in (view value.now) place.now) }
+{
+    truth_at(alloc, value, &PlaceRef::at(place))
+}
+
+/// The same at a place that is borrowed.
+pub fn truth_at(alloc: Global, value: &Value, place: &PlaceRef<'_>) -> Result<bool, JsonFault>
     ensures { Gives result (truth_in (view value.now) place.now) }
 {
     match value {
@@ -39,7 +46,11 @@ fn truth_of_word(text: &str) -> Option<bool>
     }
 }
 
-fn truth_of_number(alloc: Global, number: Option<i64>, place: &Place) -> Result<bool, JsonFault>
+fn truth_of_number(
+    alloc: Global,
+    number: Option<i64>,
+    place: &PlaceRef<'_>,
+) -> Result<bool, JsonFault>
     ensures { Gives result (truth_of_number number place.now) }
 {
     match number {
@@ -51,6 +62,13 @@ fn truth_of_number(alloc: Global, number: Option<i64>, place: &Place) -> Result<
 
 /// Reads a text. `WrongKind` stands at `place` for a value of any other kind.
 pub fn text_of(alloc: Global, value: &Value, place: &Place) -> Result<Text, JsonFault>
+    ensures { Gives result (text_in (view value.now) place.now) }
+{
+    text_at(alloc, value, &PlaceRef::at(place))
+}
+
+/// The same at a place that is borrowed.
+pub fn text_at(alloc: Global, value: &Value, place: &PlaceRef<'_>) -> Result<Text, JsonFault>
     ensures { Gives result (text_in (view value.now) place.now) }
 {
     match value {
