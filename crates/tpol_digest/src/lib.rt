@@ -27,5 +27,5 @@ pub use all_paths::{count_paths, paths};
 pub use assertion::extend;
 pub use fault::TreeFault;
 pub use inputs::{inputs_of, inputs_of_facts};
-pub use moves::{run_facts, run_path};
+pub use moves::{digest_after_move, run_facts, run_path};
 pub use policy::{approve_digest, approve_nv_digest, digest_of, or_digest};

@@ -41,7 +41,7 @@ fn digest_after_facts(before: Digest32, facts: &[Fact]) -> Digest32
     facts.iter().fold(before, |digest, fact| digest_after_move(digest, &fact.act))
 }
 
-// The digest after one move.
+/// The digest after one move, where `before` is the digest before it (TPM 2.0 Part 3, the policy commands).
 pub fn digest_after_move(before: Digest32, act: &Move) -> Digest32
     ensures { result ≡ spec.digest_after act.now before }
 {
