@@ -15,35 +15,42 @@ fn duplication() -> Assertion {
     }
 }
 
-// The last of the assertions is the first that does not agree with those before it, by this rule.
-fn disagrees(rt: &impl Abort, assertions: [Assertion; 3], rule: Disagreement) {
+// The last assertion is the first that does not agree with those before it, by this rule.
+fn disagrees(
+    rt: &impl Abort,
+    first: Assertion,
+    second: Assertion,
+    last: Assertion,
+    rule: Disagreement,
+) {
     let mut bindings = Bindings::new();
-    let [first, second, third] = assertions;
     bindings.merge(&Move::Assert(first), None, None);
     bindings.merge(&Move::Assert(second), None, None);
     assert!(rt; bindings.disagreement().is_none());
-    assert!(rt; bindings.disagreement_with(&Move::Assert(third)) == Some(rule));
+    assert!(rt; bindings.disagreement_with(&Move::Assert(last)) == Some(rule));
 }
 
 #[test]
 fn assertions_that_exclude_each_other(rt: HostRuntime) -> Result<(), Fail> {
-    let digest = Assertion::CpHash(Digest32::ZERO);
-    let unseal = Assertion::CommandCode(CommandCode::Unseal.number());
-    let hmac = Assertion::CommandCode(CommandCode::Hmac.number());
-    let locality = Assertion::Locality(3);
     disagrees(
         &rt,
-        [unseal, Assertion::AuthValue, hmac],
+        Assertion::CommandCode(CommandCode::Unseal.number()),
+        Assertion::AuthValue,
+        Assertion::CommandCode(CommandCode::Hmac.number()),
         Disagreement::Code,
     );
     disagrees(
         &rt,
-        [locality, Assertion::Locality(6), Assertion::Locality(5)],
+        Assertion::Locality(3),
+        Assertion::Locality(6),
+        Assertion::Locality(5),
         Disagreement::Locality,
     );
     disagrees(
         &rt,
-        [Assertion::Locality(1), digest, duplication()],
+        Assertion::Locality(1),
+        Assertion::CpHash(Digest32::ZERO),
+        duplication(),
         Disagreement::Kinds,
     );
     Ok(())
