@@ -1,5 +1,5 @@
 -- Facts about closed policies.
-use Rattle.std.specs.Prelude.{ℕ, ◌+◌, ◌≤◌, Bool, true, false, IsTrue, ⊤}
+use Rattle.std.specs.Prelude.{ℕ, ◌+◌, ◌≤◌, Bool, false, IsTrue, ⊤}
 use Rattle.tpol_tree.specs.declared.closed.Assertion.{Assertion}
 use Rattle.tpol_tree.specs.declared.closed.ClosedElements.{ClosedElements}
 use Rattle.tpol_tree.specs.declared.closed.ClosedElements.TheVariants.{More', End}

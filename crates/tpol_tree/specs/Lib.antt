@@ -1,3 +1,5 @@
 pub mod BranchCounts
 pub mod Closed
+pub mod ClosedErased
+pub mod Elements
 pub mod Erased

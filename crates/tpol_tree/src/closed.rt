@@ -1,11 +1,12 @@
 ghost use Rattle.std.specs.Prelude.{◌≡◌, IfOk};
+ghost use Rattle.std.proofs.Common.{rules};
 
 use std::alloc::Global;
-use tpol_base::{Blob, Compare, Digest32, Digests, Name, NoMemory, Text};
+use tpol_base::{Blob, Compare, Digest32, Digests, ExactClone, Name, NoMemory, Text};
 
 /// One policy assertion with every argument given: what one policy command of TPM 2.0 Part 3 adds to a
 /// policy's digest.
-#[derive(Drop)]
+#[derive(Clone, Drop)]
 pub enum Assertion {
     /// PolicyPCR: the selected PCRs (bit n for PCR n), the SHA-256 of their values joined in rising order,
     /// and the values themselves, which are empty in a fact.
@@ -67,81 +68,16 @@ pub enum Assertion {
     },
 }
 
+impl ExactClone for Assertion {
+    ghost same = { Prim.search rules };
+}
+
 impl Assertion {
     /// A copy of this assertion.
-    pub fn try_clone(&self, alloc: Global) -> Result<Assertion, NoMemory>
+    pub fn try_clone(&self, _alloc: Global) -> Result<Assertion, NoMemory>
         ensures { IfOk result (λ copy. copy ≡ self.now) }
     {
-        Ok(match self {
-            Assertion::Pcr {
-                mask,
-                pcr_digest,
-                values,
-            } => Assertion::Pcr {
-                mask: *mask,
-                pcr_digest: *pcr_digest,
-                values: Digests::from_slice(alloc, values.as_slice())?,
-            },
-            Assertion::Nv {
-                index,
-                operand,
-                offset,
-                operation,
-            } => Assertion::Nv {
-                index: *index,
-                operand: Blob::from_slice(alloc, operand.as_slice())?,
-                offset: *offset,
-                operation: *operation,
-            },
-            Assertion::Secret {
-                entity,
-                policy_ref,
-                cp_hash,
-                expiration,
-            } => Assertion::Secret {
-                entity: *entity,
-                policy_ref: Blob::from_slice(alloc, policy_ref.as_slice())?,
-                cp_hash: *cp_hash,
-                expiration: *expiration,
-            },
-            Assertion::Signed {
-                key,
-                policy_ref,
-                cp_hash,
-                expiration,
-            } => Assertion::Signed {
-                key: *key,
-                policy_ref: Blob::from_slice(alloc, policy_ref.as_slice())?,
-                cp_hash: *cp_hash,
-                expiration: *expiration,
-            },
-            Assertion::CounterTimer {
-                operand,
-                offset,
-                operation,
-            } => Assertion::CounterTimer {
-                operand: Blob::from_slice(alloc, operand.as_slice())?,
-                offset: *offset,
-                operation: *operation,
-            },
-            Assertion::CommandCode(code) => Assertion::CommandCode(*code),
-            Assertion::Locality(localities) => Assertion::Locality(*localities),
-            Assertion::CpHash(digest) => Assertion::CpHash(*digest),
-            Assertion::NameHash(digest) => Assertion::NameHash(*digest),
-            Assertion::NvWritten(written) => Assertion::NvWritten(*written),
-            Assertion::AuthValue => Assertion::AuthValue,
-            Assertion::Password => Assertion::Password,
-            Assertion::PhysicalPresence => Assertion::PhysicalPresence,
-            Assertion::Duplication {
-                object,
-                parent,
-                include,
-            } => Assertion::Duplication {
-                object: *object,
-                parent: *parent,
-                include: *include,
-            },
-        })
+        Ok(self.clone()?)
     }
 }
 

@@ -7,7 +7,7 @@ use tpol_base::{Digest32, NoMemory};
 
 /// What a session keeps of one policy command: the event's number, the move, its cpHashA, and the moment
 /// in milliseconds after which it no longer holds.
-#[derive(Drop)]
+#[derive(Clone, Drop)]
 pub struct Fact {
     pub event: u32,
     pub act: Move,

@@ -6,6 +6,7 @@
 #![tactic(auto)]
 
 mod closed;
+mod closed_clone;
 mod facts;
 mod path;
 mod policy;

@@ -1,11 +1,13 @@
 ghost use Rattle.std.specs.Prelude.{◌≡◌, IfOk};
+ghost use Rattle.std.proofs.Common.{rules};
+ghost use Rattle.tpol_tree.specs.ClosedErased.{erased_document};
 
 use crate::{Assertion, Closed, Moves, PathSteps};
-use std::alloc::Global;
-use tpol_base::{Blob, Digest32, Digests, Name, NoMemory, Text};
+use std::alloc::{AllocError, Global};
+use tpol_base::{Blob, Digest32, Digests, ExactClone, Name, NoMemory, Text};
 
 /// One policy command on the way through a policy.
-#[derive(Drop)]
+#[derive(Clone, Drop)]
 pub enum Move {
     /// One assertion.
     Assert(Assertion),
@@ -26,35 +28,21 @@ pub enum Move {
     },
 }
 
+impl ExactClone for Move {
+    ghost same = { Prim.search rules };
+}
+
 impl Move {
     /// A copy of this move.
-    pub fn try_clone(&self, alloc: Global) -> Result<Move, NoMemory>
+    pub fn try_clone(&self, _alloc: Global) -> Result<Move, NoMemory>
         ensures { IfOk result (λ copy. copy ≡ self.now) }
     {
-        Ok(match self {
-            Move::Assert(assertion) => Move::Assert(assertion.try_clone(alloc)?),
-            Move::Or(digests) => Move::Or(Digests::from_slice(alloc, digests.as_slice())?),
-            Move::Approve {
-                key,
-                policy_ref,
-                approved,
-                signature,
-            } => Move::Approve {
-                key: *key,
-                policy_ref: Blob::from_slice(alloc, policy_ref.as_slice())?,
-                approved: *approved,
-                signature: *signature,
-            },
-            Move::ApproveNv { index, approved } => Move::ApproveNv {
-                index: *index,
-                approved: *approved,
-            },
-        })
+        Ok(self.clone()?)
     }
 }
 
 /// One choice on a path.
-#[derive(Drop)]
+#[derive(Clone, Drop)]
 pub enum PathStep {
     /// A branch of an OR: its position, from 1, and its name.
     Branch { position: u32, name: Text },
@@ -64,24 +52,21 @@ pub enum PathStep {
     Outside,
 }
 
+impl ExactClone for PathStep {
+    ghost same = { Prim.search rules };
+}
+
 impl PathStep {
     /// A copy of this choice.
-    pub fn try_clone(&self, alloc: Global) -> Result<PathStep, NoMemory>
+    pub fn try_clone(&self, _alloc: Global) -> Result<PathStep, NoMemory>
         ensures { IfOk result (λ copy. copy ≡ self.now) }
     {
-        Ok(match self {
-            PathStep::Branch { position, name } => PathStep::Branch {
-                position: *position,
-                name: name.try_clone(alloc)?,
-            },
-            PathStep::Document(name) => PathStep::Document(name.try_clone(alloc)?),
-            PathStep::Outside => PathStep::Outside,
-        })
+        Ok(self.clone()?)
     }
 }
 
 /// One way through a policy: its choices, and its policy commands in order.
-#[derive(Drop)]
+#[derive(Clone, Drop)]
 pub struct Path {
     pub steps: PathSteps,
     pub moves: Moves,
@@ -89,8 +74,12 @@ pub struct Path {
     pub outside: bool,
 }
 
+impl ExactClone for Path {
+    ghost same = { Prim.search rules };
+}
+
 /// Who approved a document.
-#[derive(Drop)]
+#[derive(Clone, Drop)]
 pub enum ApprovedBy {
     /// A key: its Name, policyRef and the signature.
     Key {
@@ -112,4 +101,17 @@ pub struct ApprovedDoc {
     pub by: ApprovedBy,
     pub closed: Closed,
     pub digest: Digest32,
+}
+
+impl Clone for ApprovedDoc {
+    ghost is_clone = { λ document copy. erased_document copy ≡ erased_document document };
+
+    fn clone(&self) -> Result<ApprovedDoc, AllocError> {
+        Ok(ApprovedDoc {
+            document: self.document.clone()?,
+            by: self.by.clone()?,
+            closed: self.closed.clone()?,
+            digest: self.digest,
+        })
+    }
 }
