@@ -50,6 +50,20 @@ abbrev mutual
   ApprovalsLeadBranches leads EndBranches = ⊤
   ApprovalsLeadBranches leads (MoreBranches' p name elements q rest) = ApprovalsLead leads elements × ApprovalsLeadBranches leads rest
 
+-- a fact of each element, at any depth
+abbrev mutual
+  pub EachElement : (ClosedElement → Type 0) → ClosedElements → Type 0
+  EachElement P End = ⊤
+  EachElement P (More' p element q rest) = EachElementWithin P element × EachElement P rest
+
+  pub EachElementWithin : (ClosedElement → Type 0) → ClosedElement → Type 0
+  EachElementWithin P (Or branches) = P (Or branches) × EachElementOfBranches P branches
+  EachElementWithin P element = P element
+
+  pub EachElementOfBranches : (ClosedElement → Type 0) → ClosedBranches → Type 0
+  EachElementOfBranches P EndBranches = ⊤
+  EachElementOfBranches P (MoreBranches' p name elements q rest) = EachElement P elements × EachElementOfBranches P rest
+
 -- a fact of each assertion, at any depth
 abbrev mutual
   pub EachAssertion : (Assertion → Type 0) → ClosedElements → Type 0

@@ -1,3 +1,4 @@
+pub mod Bounds
 pub mod BranchCounts
 pub mod Closed
 pub mod ClosedErased
