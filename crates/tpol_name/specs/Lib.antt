@@ -1,4 +1,5 @@
 pub mod Areas
 pub mod Directories
+pub mod Entities
 pub mod Paths
 pub mod Setups

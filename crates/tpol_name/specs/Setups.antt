@@ -1,11 +1,12 @@
 -- The conditions on what a machine starts from and on what it shows.
-use Rattle.std.specs.Prelude.{◌≡◌, ℕ, ◌^◌, ◌/◌, ◌%◌, ◌≤◌, ◌⊎◌, false, nat_eq, List, [], ◌∷◌, ◌++◌, length, map, replicate, codes, All}
+use Rattle.std.specs.Prelude.{◌≡◌, ℕ, ◌^◌, ◌≤◌, ◌⊎◌, false, nat_eq, List, [], ◌∷◌, ◌++◌, length, map, replicate, codes, All}
 use Rattle.std.specs.List.{IsDistinct, suffix_len}
 use Rattle.tpol_name.specs.declared.entries.IndexEntry.{IndexEntry}
 use Rattle.tpol_name.specs.declared.entries.ObjectEntry.{ObjectEntry}
 use Rattle.tpol_name.specs.declared.setup.Setup.{Setup}
 use Rattle.tpol_name.specs.declared.sight.Sight.{Sight}
 use Rattle.tpol_name.specs.Areas.{is_written}
+pub use Rattle.tpol_base.specs.Attributes.{index_type}
 use Rattle.tpol_name.specs.Paths.{is_same_path}
 
 -- a digest, or nothing
@@ -25,10 +26,6 @@ pub record IsObject (object : ObjectEntry) : Type 0 where
   pub unique : IsDigestOrEmpty object.public.unique
   pub auth : IsAuthValue object.auth
   pub secret : length object.secret ≤ 128
-
--- the type of an index, bits 4 to 7 of its attributes (TPM 2.0 Part 2, TPMA_NV)
-abbrev pub index_type : ℕ → ℕ
-index_type attributes = attributes / 2 ^ 4 % 2 ^ 4
 
 -- the types of indices: ordinary, counter, bit field and extend, with the sizes of their contents
 abbrev pub IsTypeOfSize : ℕ → ℕ → Type 0

@@ -1,22 +1,18 @@
 //! Public areas and the Names made of them.
 
-ghost use Rattle.std.specs.Prelude.{◌≡◌, ℕ, List, ◌++◌, IfOk};
+ghost use Rattle.std.specs.Prelude.{◌≡◌, ℕ, List, ◌++◌};
 ghost use Rattle.tpol_hash.specs.Messages.{Holds};
 ghost use Rattle.tpol_base.specs.Sized.{sized};
-ghost use Rattle.tpol_name.specs.Areas.{index_name, is_written, object_name, with_written};
+ghost use Rattle.tpol_name.specs.Areas.{index_name, is_signing_key, is_written, may_sign, object_name, with_written};
+ghost use Rattle.std.proofs.Common.{rules};
 
-use std::alloc::Global;
-use tpol_base::{Blob, Name, NoMemory};
+use tpol_base::attributes::{NV_WRITTEN, OBJECT_SIGN, has_attribute};
+use tpol_base::constants::{TPM_ALG_HMAC, TPM_ALG_KEYEDHASH, TPM_ALG_NULL, TPM_ALG_SHA256};
+use tpol_base::{Blob, ExactClone, Name};
 use tpol_hash::Hasher;
 
 /// The attribute TPMA_NV_WRITTEN of an index: bit 29 (TPM 2.0 Part 2, TPMA_NV).
-pub const WRITTEN: u32 = 0x2000_0000;
-
-/// The type KEYEDHASH and the name algorithm SHA-256.
-const KEYED_HASH_AREA: [u8; 4] = [0x00, 0x08, 0x00, 0x0b];
-
-/// The name algorithm SHA-256.
-const SHA256: [u8; 2] = [0x00, 0x0b];
+pub const WRITTEN: u32 = NV_WRITTEN;
 
 /// What a keyed-hash object is for (TPM 2.0 Part 2, TPMT_KEYEDHASH_SCHEME).
 #[derive(Clone, Copy, Debug, PartialEq, Eq)]
@@ -29,7 +25,7 @@ pub enum Scheme {
 
 /// The public area of a keyed-hash object (TPM 2.0 Part 2, TPMT_PUBLIC): its attributes (TPMA_OBJECT), an
 /// authPolicy of 0 or 32 bytes, and a unique field of 0 or 32 bytes. The name algorithm is SHA-256.
-#[derive(Drop)]
+#[derive(Clone, Drop)]
 pub struct ObjectPublic {
     pub attributes: u32,
     pub auth_policy: Blob,
@@ -39,7 +35,7 @@ pub struct ObjectPublic {
 
 /// The public area of an NV index (TPM 2.0 Part 2, TPMS_NV_PUBLIC): its handle, its attributes (TPMA_NV),
 /// an authPolicy of 0 or 32 bytes, and the size of its content in bytes. The name algorithm is SHA-256.
-#[derive(Drop)]
+#[derive(Clone, Drop)]
 pub struct NvPublic {
     pub index: u32,
     pub attributes: u32,
@@ -47,32 +43,12 @@ pub struct NvPublic {
     pub size: u16,
 }
 
-impl ObjectPublic {
-    /// A copy of this area.
-    pub fn try_clone(&self, alloc: Global) -> Result<ObjectPublic, NoMemory>
-        ensures { IfOk result (λ area. area ≡ self.now) }
-    {
-        Ok(ObjectPublic {
-            attributes: self.attributes,
-            auth_policy: Blob::from_slice(alloc, self.auth_policy.as_slice())?,
-            scheme: self.scheme,
-            unique: Blob::from_slice(alloc, self.unique.as_slice())?,
-        })
-    }
+impl ExactClone for ObjectPublic {
+    ghost same = { Prim.search rules };
 }
 
-impl NvPublic {
-    /// A copy of this area.
-    pub fn try_clone(&self, alloc: Global) -> Result<NvPublic, NoMemory>
-        ensures { IfOk result (λ area. area ≡ self.now) }
-    {
-        Ok(NvPublic {
-            index: self.index,
-            attributes: self.attributes,
-            auth_policy: Blob::from_slice(alloc, self.auth_policy.as_slice())?,
-            size: self.size,
-        })
-    }
+impl ExactClone for NvPublic {
+    ghost same = { Prim.search rules };
 }
 
 /// The Name of an object: `000b` and the SHA-256 of its public area (TPM 2.0 Part 1, "Names").
@@ -102,12 +78,16 @@ pub fn object_name_of_parts(
     }) }
 {
     let mut hasher = Hasher::new();
-    hasher.put(&KEYED_HASH_AREA);
+    hasher.put(&TPM_ALG_KEYEDHASH.to_be_bytes());
+    hasher.put(&TPM_ALG_SHA256.to_be_bytes());
     hasher.put(&attributes.to_be_bytes());
     put_sized(&mut hasher, auth_policy);
     match scheme {
-        Scheme::Sealed => hasher.put(&[0x00, 0x10]),
-        Scheme::HmacKey => hasher.put(&[0x00, 0x05, 0x00, 0x0b]),
+        Scheme::Sealed => hasher.put(&TPM_ALG_NULL.to_be_bytes()),
+        Scheme::HmacKey => {
+            hasher.put(&TPM_ALG_HMAC.to_be_bytes());
+            hasher.put(&TPM_ALG_SHA256.to_be_bytes());
+        }
     }
     put_sized(&mut hasher, unique);
     Name::Hash(hasher.done())
@@ -131,7 +111,7 @@ pub fn nv_name_once_written(public: &NvPublic) -> Name
 {
     index_name_of_parts(
         public.index,
-        public.attributes | WRITTEN,
+        public.attributes | NV_WRITTEN,
         public.auth_policy.as_slice(),
         public.size,
     )
@@ -148,7 +128,7 @@ pub fn index_name_of_parts(index: u32, attributes: u32, auth_policy: &[u8], size
 {
     let mut hasher = Hasher::new();
     hasher.put(&index.to_be_bytes());
-    hasher.put(&SHA256);
+    hasher.put(&TPM_ALG_SHA256.to_be_bytes());
     hasher.put(&attributes.to_be_bytes());
     put_sized(&mut hasher, auth_policy);
     hasher.put(&size.to_be_bytes());
@@ -159,7 +139,21 @@ pub fn index_name_of_parts(index: u32, attributes: u32, auth_policy: &[u8], size
 pub fn written(public: &NvPublic) -> bool
     ensures attribute { result ≡ is_written public.now.attributes }
 {
-    public.attributes & WRITTEN != 0
+    has_attribute(public.attributes, NV_WRITTEN)
+}
+
+/// Whether an object is an HMAC key that may sign: its attribute sign is set.
+pub fn is_signing_key(public: &ObjectPublic) -> bool
+    ensures key { result ≡ is_signing_key public.now }
+{
+    may_sign(public.scheme, public.attributes)
+}
+
+/// The same of an object with this scheme and these attributes.
+pub fn may_sign(scheme: Scheme, attributes: u32) -> bool
+    ensures key { result ≡ may_sign scheme attributes }
+{
+    scheme == Scheme::HmacKey && has_attribute(attributes, OBJECT_SIGN)
 }
 
 // Adds a sized buffer (TPM2B): the last two bytes of the length, and the bytes.

@@ -6,6 +6,7 @@
 #![tactic(auto)]
 
 mod areas;
+mod entities;
 mod entries;
 mod listing;
 mod paths;
@@ -15,9 +16,10 @@ mod sight;
 mod tests;
 
 pub use areas::{
-    NvPublic, ObjectPublic, Scheme, WRITTEN, index_name_of_parts, nv_name, nv_name_once_written,
-    object_name, object_name_of_parts, written,
+    NvPublic, ObjectPublic, Scheme, WRITTEN, index_name_of_parts, is_signing_key, may_sign,
+    nv_name, nv_name_once_written, object_name, object_name_of_parts, written,
 };
+pub use entities::{hierarchy_at, index_at, object_at};
 pub use entries::{DirEntry, Directory, IndexEntry, Indices, ObjectEntry, Objects};
 pub use listing::directory;
 pub use paths::same_path;

@@ -13,56 +13,48 @@ pub fn directory(alloc: Global, setup: &Setup) -> Result<Directory, NoMemory>
     ensures lines { IfOk result (λ lines. lines ≡ directory_of setup.now) }
 {
     let mut lines = Sequence::new(alloc);
-    list_objects(alloc, &mut lines, setup.objects.as_slice())?;
-    list_indices(alloc, &mut lines, setup.indices.as_slice())?;
+    list_objects(&mut lines, setup.objects.as_slice())?;
+    list_indices(&mut lines, setup.indices.as_slice())?;
     Ok(lines)
 }
 
 // Adds a line for each object.
-fn list_objects(
-    alloc: Global,
-    lines: &mut Directory,
-    objects: &[ObjectEntry],
-) -> Result<(), NoMemory>
+fn list_objects(lines: &mut Directory, objects: &[ObjectEntry]) -> Result<(), NoMemory>
     ensures { OnOk result (lines.new ≡ lines.old ++ map line_of_object objects.now) }
 {
     for object in objects {
-        lines.push(object_line(alloc, object)?)?;
+        lines.push(object_line(object)?)?;
     }
     Ok(())
 }
 
 // Adds a line for each index.
-fn list_indices(
-    alloc: Global,
-    lines: &mut Directory,
-    indices: &[IndexEntry],
-) -> Result<(), NoMemory>
+fn list_indices(lines: &mut Directory, indices: &[IndexEntry]) -> Result<(), NoMemory>
     ensures { OnOk result (lines.new ≡ lines.old ++ map line_of_index indices.now) }
 {
     for index in indices {
-        lines.push(index_line(alloc, index)?)?;
+        lines.push(index_line(index)?)?;
     }
     Ok(())
 }
 
-fn object_line(alloc: Global, object: &ObjectEntry) -> Result<DirEntry, NoMemory>
+fn object_line(object: &ObjectEntry) -> Result<DirEntry, NoMemory>
     ensures { IfOk result (λ line. line ≡ line_of_object object.now) }
 {
     Ok(DirEntry {
-        path: object.path.try_clone(alloc)?,
+        path: object.path.clone()?,
         handle: object.handle,
         name: object_name(&object.public),
         attributes: object.public.attributes,
     })
 }
 
-fn index_line(alloc: Global, index: &IndexEntry) -> Result<DirEntry, NoMemory>
+fn index_line(index: &IndexEntry) -> Result<DirEntry, NoMemory>
     ensures { IfOk result (λ line. line ≡ line_of_index index.now) }
 {
     let public = &index.public;
     Ok(DirEntry {
-        path: index.path.try_clone(alloc)?,
+        path: index.path.clone()?,
         handle: public.index,
         name: nv_name_once_written(public),
         attributes: public.attributes,

@@ -4,7 +4,7 @@ use tpol_base::{Blob, Digest32, Digests};
 /// What a machine starts from: the seed of its nonces, the authorization values of its hierarchies, the 24
 /// values of its PCRs with the PCR update counter, its entities, its time in milliseconds and counters of
 /// resets and restarts with the `safe` flag (TPM 2.0 Part 2, TPMS_CLOCK_INFO), and physical presence.
-#[derive(Drop)]
+#[derive(Clone, Drop)]
 pub struct Setup {
     pub seed: Digest32,
     pub owner: Blob,

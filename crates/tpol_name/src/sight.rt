@@ -1,7 +1,6 @@
 ghost use Rattle.std.specs.Prelude.{◌≡◌, IfOk};
 ghost use Rattle.tpol_name.specs.Setups.{IsSetup, IsSight, first_sight};
 
-use crate::entries::{copy_indices, copy_objects};
 use crate::{Indices, Objects, Setup};
 use std::alloc::Global;
 use tpol_base::{Blob, Digests, NoMemory};
@@ -11,7 +10,7 @@ const SESSIONS: u32 = 64;
 
 /// What a machine shows at one moment, its secret values too: the values of a `Setup` as they are now, and
 /// how many sessions can still be started.
-#[derive(Drop)]
+#[derive(Clone, Drop)]
 pub struct Sight {
     pub objects: Objects,
     pub indices: Indices,
@@ -29,17 +28,17 @@ pub struct Sight {
 }
 
 /// What a machine shows that just started from this setup.
-pub fn opening_sight(alloc: Global, setup: &Setup) -> Result<Sight, NoMemory>
+pub fn opening_sight(_alloc: Global, setup: &Setup) -> Result<Sight, NoMemory>
     ensures sight { IfOk result (λ sight. sight ≡ first_sight setup.now) }
     ensures condition { IsSetup setup.now → IfOk result IsSight }
 {
     Ok(Sight {
-        objects: copy_objects(alloc, setup.objects.as_slice())?,
-        indices: copy_indices(alloc, setup.indices.as_slice())?,
-        owner: Blob::from_slice(alloc, setup.owner.as_slice())?,
-        endorsement: Blob::from_slice(alloc, setup.endorsement.as_slice())?,
-        lockout: Blob::from_slice(alloc, setup.lockout.as_slice())?,
-        pcrs: Digests::from_slice(alloc, setup.pcrs.as_slice())?,
+        objects: setup.objects.clone()?,
+        indices: setup.indices.clone()?,
+        owner: setup.owner.clone()?,
+        endorsement: setup.endorsement.clone()?,
+        lockout: setup.lockout.clone()?,
+        pcrs: setup.pcrs.clone()?,
         pcr_counter: setup.pcr_counter,
         time: setup.time,
         reset_count: setup.reset_count,

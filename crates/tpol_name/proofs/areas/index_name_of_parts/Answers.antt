@@ -10,5 +10,5 @@ returns c =
     (c.put-3.ensures.longer _
     (c.put-2.ensures.longer _ (c.put.ensures.longer _ c.new-hasher.ensures.empty)))) in
     record {
-      name = rw (c.to_be_bytes.ensures, c.to_be_bytes-2.ensures, c.to_be_bytes-3.ensures) at (ap Hash (c.done.ensures.digest _ held));
+      name = rw (c.to_be_bytes.ensures, c.to_be_bytes-2.ensures, c.to_be_bytes-3.ensures, c.to_be_bytes-4.ensures) at (ap Hash (c.done.ensures.digest _ held));
     }
