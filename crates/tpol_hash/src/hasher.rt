@@ -33,14 +33,7 @@ impl Hasher {
     pub fn put_name(&mut self, name: &Name)
         ensures longer { (m : List ℕ) → Holds self.old m → Holds self.new (m ++ name_bytes name.now) }
     {
-        match name {
-            Name::Empty => {}
-            Name::Handle(handle) => self.put(&handle.to_be_bytes()),
-            Name::Hash(digest) => {
-                self.put(&[0x00, 0x0b]);
-                self.put(&digest.bytes);
-            }
-        }
+        self.put(name.bytes().as_slice());
     }
 
     /// The digest of the message.
