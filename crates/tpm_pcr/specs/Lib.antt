@@ -1,0 +1,4 @@
+pub mod Bank
+pub mod Clock
+pub mod Comparison
+pub mod Pcrs
