@@ -44,10 +44,10 @@ module _ (within : Option (ApprovedDoc → FullExtent)) (documents : List Approv
 
 -- ---- counted to the limit
 
-mul_bounds : (a b c : ℕ) → 1 ≤ a → 1 ≤ b → a * b ≤ c → (a ≤ c) × (b ≤ c)
+pub mul_bounds : (a b c : ℕ) → 1 ≤ a → 1 ≤ b → a * b ≤ c → (a ≤ c) × (b ≤ c)
 mul_bounds a b c h k l = (omega (arith, mul-le-mul_left a k), omega (arith, mul-le-mul_left b h))
 
-min_mul : (a b x y : ℕ) → x ≡ min a 4097 → y ≡ min b 4097 → 1 ≤ a → 1 ≤ b → min (x * y) 4097 ≡ min (a * b) 4097
+min_mul : (a b x y : ℕ) → x ≡ min a 65537 → y ≡ min b 65537 → 1 ≤ a → 1 ≤ b → min (x * y) 65537 ≡ min (a * b) 65537
 min_mul a b x y ex ey h k =
     ⊎_elim
     (λ small_a.
@@ -55,23 +55,23 @@ min_mul a b x y ex ey h k =
     (λ small_b.
     let same_a : x ≡ a = omega arith in
     let same_b : y ≡ b = omega arith in
-    ap (λ n. min (n * y) 4097) same_a ∙ ap (λ n. min (a * n) 4097) same_b)
+    ap (λ n. min (n * y) 65537) same_a ∙ ap (λ n. min (a * n) 65537) same_b)
     (λ large_b.
     let x_positive : 1 ≤ x = omega arith in
     omega (arith, mul-le-mul_left y x_positive, mul-le-mul_left b h))
-    (cases_lt b 4097))
+    (cases_lt b 65537))
     (λ large_a.
     let y_positive : 1 ≤ y = omega arith in
     omega (arith, mul-le-mul_left x y_positive, mul-le-mul_left a k))
-    (cases_lt a 4097)
+    (cases_lt a 65537)
 
-pub capped_both : (r s t : Extent) (a b : FullExtent) → IsCapped r a → IsCapped s b → 1 ≤ a.paths → 1 ≤ b.paths → t.paths ≡ min (r.paths * s.paths) 4097 → t.moves ≡ min (r.moves + s.moves) 513 → IsCapped t (both a b)
+pub capped_both : (r s t : Extent) (a b : FullExtent) → IsCapped r a → IsCapped s b → 1 ≤ a.paths → 1 ≤ b.paths → t.paths ≡ min (r.paths * s.paths) 65537 → t.moves ≡ min (r.moves + s.moves) 513 → IsCapped t (both a b)
 capped_both r s t a b ra sb pa pb paths moves = record {
   paths = paths ∙ min_mul a.paths b.paths r.paths s.paths ra.paths sb.paths pa pb;
-  moves = λ few. let bounds = mul_bounds a.paths b.paths 4096 pa pb few in let first = ra.moves bounds.0 in let second = sb.moves bounds.1 in omega arith;
+  moves = λ few. let bounds = mul_bounds a.paths b.paths 65536 pa pb few in let first = ra.moves bounds.0 in let second = sb.moves bounds.1 in omega arith;
 }
 
-pub capped_either : (r s t : Extent) (a b : FullExtent) → IsCapped r a → IsCapped s b → t.paths ≡ min (r.paths + s.paths) 4097 → t.moves ≡ max r.moves s.moves → IsCapped t (either a b)
+pub capped_either : (r s t : Extent) (a b : FullExtent) → IsCapped r a → IsCapped s b → t.paths ≡ min (r.paths + s.paths) 65537 → t.moves ≡ max r.moves s.moves → IsCapped t (either a b)
 capped_either r s t a b ra sb paths moves = record {
   paths = let x = ra.paths in let y = sb.paths in omega arith;
   moves = λ few. let first = ra.moves (omega arith) in let second = sb.moves (omega arith) in omega arith;
@@ -149,13 +149,13 @@ module _ (documents : List ApprovedDoc) (levels : ℕ) (some : levels ≢ 0) (el
   leave : (r : Extent) (xs : List ApprovedDoc) → IsCapped r (extent_by_approval (Some enter) element xs) → IsCapped r (extent_by_approval (document_extent documents levels) element xs)
   leave r xs h = subst (λ within. IsCapped r (extent_by_approval within element xs)) (sym (document_extent-some documents levels some)) h
 
-  pub capped_past : (r : Extent) (i : ℕ) → IsCapped r (extent_by_approval (document_extent documents levels) element (take i documents)) → 4096 < r.paths → IsCapped r (extent_by_approval (document_extent documents levels) element documents)
+  pub capped_past : (r : Extent) (i : ℕ) → IsCapped r (extent_by_approval (document_extent documents levels) element (take i documents)) → 65536 < r.paths → IsCapped r (extent_by_approval (document_extent documents levels) element documents)
   capped_past r i h past =
       let part = extent_by_approval-part enter element documents i in
       let so_far = (entered r (take i documents) h).paths in
       leave r documents (record { paths = omega arith; moves = λ few. absurd (omega arith) })
 
-  pub capped_entered : (r s m t : Extent) (i : ℕ) (document : ApprovedDoc) → i < length documents → document ≡ get_or documents i document → is_some (approval_of element document) ≡ true → IsCapped r (extent_by_approval (document_extent documents levels) element (take i documents)) → IsCapped s (enter document) → m.paths ≡ s.paths → m.moves ≡ min (s.moves + 1) 513 → t.paths ≡ min (r.paths + m.paths) 4097 → t.moves ≡ max r.moves m.moves → IsCapped t (extent_by_approval (document_extent documents levels) element (take (i + 1) documents))
+  pub capped_entered : (r s m t : Extent) (i : ℕ) (document : ApprovedDoc) → i < length documents → document ≡ get_or documents i document → is_some (approval_of element document) ≡ true → IsCapped r (extent_by_approval (document_extent documents levels) element (take i documents)) → IsCapped s (enter document) → m.paths ≡ s.paths → m.moves ≡ min (s.moves + 1) 513 → t.paths ≡ min (r.paths + m.paths) 65537 → t.moves ≡ max r.moves m.moves → IsCapped t (extent_by_approval (document_extent documents levels) element (take (i + 1) documents))
   capped_entered r s m t i document within is accepted h k m_paths m_moves t_paths t_moves =
       let one = capped_either r m t (extent_by_approval (Some enter) element (take i documents)) (longer (enter document)) (entered r (take i documents) h) (capped_longer s m (enter document) k m_paths m_moves) t_paths t_moves in
       let chosen : one_document enter element document ≡ longer (enter document) = ap (λ b. if b then longer (enter document) else no_path) accepted in

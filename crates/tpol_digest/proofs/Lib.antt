@@ -1,13 +1,15 @@
 pub mod Digests
+pub mod Documents
 pub mod Extents
 pub mod Joined
-pub mod Limits
 pub mod Listings
 pub mod Measures
 pub mod Meeting
 pub mod OutsideFirst
 pub mod OutsideSteps
+pub mod Positions
 pub mod Products
+pub mod Refusals
 pub mod Soundness
 pub mod TermLaws
 pub mod Walks

@@ -13,6 +13,7 @@ use Rattle.tpol_tree.specs.declared.path.PathStep.{PathStep}
 use Rattle.tpol_tree.specs.declared.path.PathStep.TheVariants.{Document}
 use Rattle.tpol_digest.specs.Digest.{zero_digest, digest_at_element}
 use Rattle.tpol_digest.specs.Paths.{empty_path, product, between, approval_of, paths_by_approval, approved_paths, paths_at, paths_at_element, paths_at_branches, document_paths}
+use Rattle.tpol_digest.proofs.Documents.{approved_none, document_paths-some}
 use Rattle.tpol_digest.proofs.Products.{empty_product, product_assoc}
 
 module _ (within : ApprovedDoc → List Path) (documents : List ApprovedDoc) where
@@ -31,28 +32,9 @@ module _ (within : ApprovedDoc → List Path) (documents : List ApprovedDoc) whe
       ∙ ap (λ x. x ++ paths_at_branches within documents rest (position + 1) act d) (n ∙ ap (λ x. found ++ map (between step act) x) (i ∙ ap (λ x. product x (paths_at within documents elements d)) s ∙ empty_product (paths_at within documents elements d)))
       ∙ append_assoc found (map (between step act) (paths_at within documents elements d)) (paths_at_branches within documents rest (position + 1) act d)
 
--- with no level left no document is entered
-approved_none : (documents some : List ApprovedDoc) (element : ClosedElement) → approved_paths (document_paths documents zero) some element ≡ []
-unfolding document_paths
-approved_none documents [] element = refl
-approved_none documents (document ∷ rest) element =
-    ap (λ l. l ++ approved_paths (document_paths documents zero) rest element) (nothing (approval_of element document)) ∙ approved_none documents rest element
-  where
-    nothing : (found : Option Move) → paths_by_approval found document [] ≡ []
-    nothing None = refl
-    nothing (Some act) = refl
-
 pub no_level : (documents : List ApprovedDoc) (levels : ℕ) (element : ClosedElement) (found : List Path) → levels ≡ 0 → found ≡ found ++ approved_paths (document_paths documents levels) documents element
 no_level documents levels element found e =
     sym (append-nil found) ∙ ap (λ l. found ++ l) (sym (approved_none documents documents element) ∙ ap (λ n. approved_paths (document_paths documents n) documents element) (sym e))
-
--- a document's paths are those of its policy with one level less
-document_paths-some : (documents : List ApprovedDoc) (levels : ℕ) (document : ApprovedDoc) → levels ≢ 0 → document_paths documents levels document ≡ paths_at (document_paths documents (levels - 1)) documents document.closed.elements zero_digest
-unfolding document_paths
-document_paths-some documents zero document h = absurd (h refl)
-document_paths-some documents (suc levels) document h =
-    let e : levels ≡ suc levels - 1 = omega arith in
-    ap (λ n. paths_at (document_paths documents n) documents document.closed.elements zero_digest) e
 
 module _ (documents : List ApprovedDoc) (levels : ℕ) (element : ClosedElement) (found : List Path) where
   approved_more : (i : ℕ) (document : ApprovedDoc) (now next : List Path) → i < length documents → document ≡ get_or documents i document → now ≡ found ++ approved_paths (document_paths documents levels) (take i documents) element → next ≡ now ++ paths_by_approval (approval_of element document) document (document_paths documents levels document) → next ≡ found ++ approved_paths (document_paths documents levels) (take (i + 1) documents) element

@@ -194,7 +194,7 @@ module _ (extents : Option (ApprovedDoc → FullExtent)) (within : ApprovedDoc �
         others (MoreBranches' p name elements q rest) (inl empty) = absurd (omega arith)
         others (MoreBranches' p name elements q rest) (inr m) = inr m
 
-document_agrees : (documents : List ApprovedDoc) → AllByRecursion (λ document. HasBranchCounts document.closed.elements) documents → (levels : ℕ) → Agrees (document_extent documents levels) (document_paths documents levels) documents
+pub document_agrees : (documents : List ApprovedDoc) → AllByRecursion (λ document. HasBranchCounts document.closed.elements) documents → (levels : ℕ) → Agrees (document_extent documents levels) (document_paths documents levels) documents
 unfolding document_paths document_extent
 document_agrees documents counts zero = each documents
   where
@@ -227,23 +227,23 @@ no_long n paths h found =
     omega (arith, low', found.4)
 
 module _ (extent : Extent) (full : FullExtent) (paths : List Path) (capped : IsCapped extent full) (measures : Measures full paths) where
-  pub counted : extent.paths ≡ min (length paths) 4097
-  counted = capped.paths ∙ ap (λ n. min n 4097) (sym measures.count)
+  pub counted : extent.paths ≡ min (length paths) 65537
+  counted = capped.paths ∙ ap (λ n. min n 65537) (sym measures.count)
 
-  pub many : 4096 < extent.paths → 4096 < length paths
+  pub many : 65536 < extent.paths → 65536 < length paths
   many h = let a = capped.paths in let b = measures.count in omega arith
 
-  pub few : extent.paths ≤ 4096 → length paths ≤ 4096
+  pub few : extent.paths ≤ 65536 → length paths ≤ 65536
   few h = let a = capped.paths in let b = measures.count in omega arith
 
-  pub long : extent.paths ≤ 4096 → 512 < extent.moves → Any (λ p. 512 < length p.moves) paths
+  pub long : extent.paths ≤ 65536 → 512 < extent.moves → Any (λ p. 512 < length p.moves) paths
   long h k =
       let a = capped.paths in
       let b = capped.moves (omega arith) in
       let high : 512 + 1 ≤ full.moves = omega arith in
       any_from_long 512 paths (lower (512 + 1) full.moves high paths measures.reached)
 
-  pub short : extent.paths ≤ 4096 → extent.moves ≤ 512 → Any (λ p. 512 < length p.moves) paths → ⊥
+  pub short : extent.paths ≤ 65536 → extent.moves ≤ 512 → Any (λ p. 512 < length p.moves) paths → ⊥
   short h k =
       let a = capped.paths in
       let b = capped.moves (omega arith) in

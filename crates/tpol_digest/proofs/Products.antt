@@ -10,7 +10,7 @@ use Rattle.tpol_digest.specs.Paths.{empty_path, followed_by, product}
 pub same_path : (a b : Path) → a.steps ≡ b.steps → a.moves ≡ b.moves → a.outside ≡ b.outside → a ≡ b
 same_path a b steps moves outside = λ i. record { steps = steps i; moves = moves i; outside = outside i }
 
-or_false : (b : Bool) → (b || false) ≡ b
+pub or_false : (b : Bool) → (b || false) ≡ b
 or_false true = refl
 or_false false = refl
 
@@ -18,11 +18,11 @@ or_assoc : (a b c : Bool) → ((a || b) || c) ≡ (a || (b || c))
 or_assoc true b c = refl
 or_assoc false b c = refl
 
-followed_by_empty : (p : Path) → followed_by p empty_path ≡ p
+pub followed_by_empty : (p : Path) → followed_by p empty_path ≡ p
 followed_by_empty p =
     same_path (followed_by p empty_path) p (append-nil p.steps) (append-nil p.moves) (or_false p.outside)
 
-followed_by_assoc : (a b c : Path) → followed_by (followed_by a b) c ≡ followed_by a (followed_by b c)
+pub followed_by_assoc : (a b c : Path) → followed_by (followed_by a b) c ≡ followed_by a (followed_by b c)
 followed_by_assoc a b c =
     same_path (followed_by (followed_by a b) c) (followed_by a (followed_by b c)) (append_assoc a.steps b.steps c.steps) (append_assoc a.moves b.moves c.moves) (or_assoc a.outside b.outside c.outside)
 

@@ -9,6 +9,7 @@ use Rattle.tpol_tree.specs.declared.path.Move.{Move}
 use Rattle.tpol_tree.specs.declared.path.Path.{Path}
 use Rattle.tpol_tree.specs.declared.path.PathStep.{PathStep}
 use Rattle.tpol_digest.specs.Paths.{empty_path, path_of_move, followed_by, product, between, outside_path}
+use Rattle.tpol_digest.specs.Positions.{path_of_step}
 use Rattle.tpol_digest.specs.Walks.{run_moves, ends_well, first_path, first_way}
 use Rattle.tpol_digest.proofs.Products.{same_path, product_assoc}
 
@@ -82,10 +83,6 @@ module _ {S : Type 0} (step : S → Move → Option S) (test : S → Bool) where
 
 -- ---- the ways of elements, and of what comes behind them, as a walk goes through them: an element, and
 -- then the rest; a branch, and then its OR's move and what comes behind the OR
-
--- one choice alone
-abbrev pub path_of_step : PathStep → Path
-path_of_step step = record { steps = step ∷ []; moves = []; outside = false }
 
 pub product-one : (a : Path) (ways : List Path) → product (a ∷ []) ways ≡ map (followed_by a) ways
 product-one a ways = append-nil (map (followed_by a) ways)

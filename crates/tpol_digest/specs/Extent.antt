@@ -70,7 +70,7 @@ document_extent documents zero = None
 document_extent documents (suc levels) =
     Some (λ document. extent_at (document_extent documents levels) documents document.closed.elements)
 
--- the paths counted to 4,097, and, where there are no more than 4,096, the moves to 513
+-- the paths counted to 65,537, and, where there are no more than 65,536, the moves to 513
 pub record IsCapped (extent : Extent) (full : FullExtent) : Type 0 where
-  pub paths : extent.paths ≡ min full.paths 4097
-  pub moves : full.paths ≤ 4096 → extent.moves ≡ min full.moves 513
+  pub paths : extent.paths ≡ min full.paths 65537
+  pub moves : full.paths ≤ 65536 → extent.moves ≡ min full.moves 513

@@ -1,7 +1,9 @@
 pub mod Digest
 pub mod Extent
 pub mod Inputs
+pub mod Limits
 pub mod Paths
+pub mod Positions
 pub mod Sound
 pub mod Update
 pub mod UpdateBytes

@@ -1,4 +1,4 @@
-ghost use Rattle.std.specs.Prelude.{◌≡◌, ◌<◌, ◌≤◌, ◌↔◌, All, Any, IfOk, IsErrOf, IsTrue, length, min};
+ghost use Rattle.std.specs.Prelude.{◌≡◌, ◌<◌, ◌≤◌, ◌↔◌, All, Any, IfOk, IsErrOf, IsTrue, length};
 ghost use Rattle.tpol_digest.specs.Digest.{digest_of_moves, policy_digest};
 ghost use Rattle.std.specs.List.{list_any};
 ghost use Rattle.tpol_digest.specs.Paths.{is_outside, paths_of, BeginsWithZeroApproval};
@@ -6,14 +6,10 @@ ghost use Rattle.tpol_digest.specs.Sound.{IsSound};
 ghost use Rattle.tpol_digest.specs.WellFormed.{HaveBranchCounts, IsWellFormed};
 
 use crate::TreeFault;
-use crate::counting::extent_of_elements;
-use crate::extent::{MAX_MOVES, MAX_PATHS};
+use crate::limits::{MAX_LEVELS, PathLimit, check_paths, count_paths};
 use crate::listing::paths_of_policy;
 use std::alloc::Global;
 use tpol_tree::{Approvals, Closed};
-
-// How many approvals may lie inside one another.
-const MAX_LEVELS: u8 = 4;
 
 /// All ways through a policy, in document order: earlier choices vary slowest. Each branch of an OR is a
 /// way, and then the OR; each approved document that an AUTHORIZE or AUTHORIZENV accepts is one, and then
@@ -45,23 +41,12 @@ pub fn paths(
     ensures outside_first { IsWellFormed policy.now approvals.now
         → IfOk result (All (λ path. IsTrue path.outside → BeginsWithZeroApproval path.moves)) }
 {
-    let documents = approvals.as_slice();
-    let extent = extent_of_elements(documents, MAX_LEVELS, &policy.elements);
-    if extent.paths > MAX_PATHS {
+    if count_paths(policy, approvals) > 4096 {
         return Err(TreeFault::TooManyPaths);
     }
-    if extent.moves > MAX_MOVES {
+    if let Err(PathLimit::TooLong) = check_paths(policy, approvals) {
         return Err(TreeFault::TooLong);
     }
-    let all = paths_of_policy(alloc, documents, MAX_LEVELS, &policy.elements)?;
+    let all = paths_of_policy(alloc, approvals.as_slice(), MAX_LEVELS, &policy.elements)?;
     Ok(all)
-}
-
-/// The number of ways through a policy, as `paths` lists them, or 4,097 where there are more than 4,096.
-/// It takes no memory.
-pub fn count_paths(policy: &Closed, approvals: &Approvals) -> u64
-    requires branches { HaveBranchCounts policy.now approvals.now }
-    ensures { result ≡ min (length (paths_of policy.now approvals.now)) 4097 }
-{
-    extent_of_elements(approvals.as_slice(), MAX_LEVELS, &policy.elements).paths
 }

@@ -31,7 +31,7 @@ pub fn extent_of_elements(
 
 // The extent of the paths of one element.
 #[cycle(counting)]
-fn extent_of_element(approvals: &[ApprovedDoc], levels: u8, element: &ClosedElement) -> Extent
+pub fn extent_of_element(approvals: &[ApprovedDoc], levels: u8, element: &ClosedElement) -> Extent
     requires counts { ElementHasBranchCounts element.now }
     requires approved { All (λ document. HasBranchCounts document.closed.elements) approvals.now }
     ensures { spec.IsCapped result (spec.extent_at_element (spec.document_extent approvals.now levels) approvals.now element.now) }

@@ -9,7 +9,7 @@ pub struct Extent {
 }
 
 /// The greatest number of paths that are listed.
-pub const MAX_PATHS: u64 = 4096;
+pub const MAX_PATHS: u64 = 65_536;
 
 /// The greatest number of moves of a path that is listed.
 pub const MAX_MOVES: u64 = 512;
@@ -33,7 +33,7 @@ impl Extent {
 
     // The extent of the paths of two parts one after the other.
     pub fn then(self, rest: Extent) -> Extent
-        ensures paths { result.paths ≡ min (self.paths * rest.paths) 4097 }
+        ensures paths { result.paths ≡ min (self.paths * rest.paths) 65537 }
         ensures moves { result.moves ≡ min (self.moves + rest.moves) 513 }
     {
         Extent {
@@ -44,7 +44,7 @@ impl Extent {
 
     // The extent of the paths of either part.
     pub fn or(self, other: Extent) -> Extent
-        ensures paths { result.paths ≡ min (self.paths + other.paths) 4097 }
+        ensures paths { result.paths ≡ min (self.paths + other.paths) 65537 }
         ensures moves { result.moves ≡ max self.moves other.moves }
     {
         Extent {

@@ -9,11 +9,13 @@
 mod all_paths;
 mod approval;
 mod assertion;
+mod at_position;
 mod command_code;
 mod counting;
 mod extent;
 mod fault;
 mod inputs;
+mod limits;
 mod listing;
 mod moves;
 mod path_parts;
@@ -23,9 +25,11 @@ mod tests;
 mod update;
 mod update_bytes;
 
-pub use all_paths::{count_paths, paths};
+pub use all_paths::paths;
 pub use assertion::extend;
+pub use at_position::path_at;
 pub use fault::TreeFault;
 pub use inputs::{inputs_of, inputs_of_facts};
+pub use limits::{PathLimit, check_paths, count_paths};
 pub use moves::{digest_after_move, run_facts, run_path};
 pub use policy::{approve_digest, approve_nv_digest, digest_of, or_digest};

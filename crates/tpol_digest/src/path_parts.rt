@@ -11,7 +11,7 @@ use tpol_tree::{
 };
 
 // The path with no choice and no move.
-fn empty_path(alloc: Global) -> Path
+pub fn empty_path(alloc: Global) -> Path
     ensures { result ≡ spec.empty_path }
 {
     Path {

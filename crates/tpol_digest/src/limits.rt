@@ -1,0 +1,54 @@
+ghost use Rattle.std.specs.Prelude.{◌≡◌, ◌<◌, ◌≤◌, ◌↔◌, Any, IfOk, IsErrOf, length, min};
+ghost use Rattle.tpol_digest.specs.Limits.{AreWithinLimits};
+ghost use Rattle.tpol_digest.specs.Paths.{paths_of};
+ghost use Rattle.tpol_digest.specs.WellFormed.{HaveBranchCounts};
+
+use crate::counting::extent_of_elements;
+use crate::extent::{MAX_MOVES, MAX_PATHS};
+use thiserror::Error;
+use tpol_tree::{Approvals, Closed};
+
+// How many approvals may lie inside one another.
+pub const MAX_LEVELS: u8 = 4;
+
+/// Why the ways through a policy are not walked.
+#[derive(Clone, Copy, Debug, PartialEq, Eq, Error)]
+pub enum PathLimit {
+    /// There are more than 65,536 paths.
+    #[error("there are more than 65,536 paths")]
+    TooManyPaths,
+    /// A path has more than 512 moves.
+    #[error("a path has more than 512 moves")]
+    TooLong,
+}
+
+/// The number of ways through a policy. It takes no memory.
+///
+/// `TooManyPaths` comes for more than 65,536 paths, and `TooLong` for at most 65,536 of which one has more
+/// than 512 moves.
+pub fn check_paths(policy: &Closed, approvals: &Approvals) -> Result<u32, PathLimit>
+    requires branches { HaveBranchCounts policy.now approvals.now }
+    ensures number { IfOk result (λ number. number ≡ length (paths_of policy.now approvals.now)) }
+    ensures within { IfOk result (λ _. AreWithinLimits (paths_of policy.now approvals.now)) }
+    ensures too_many { IsErrOf result PathLimit.TooManyPaths ↔ (65536 < length (paths_of policy.now approvals.now)) }
+    ensures too_long { IsErrOf result PathLimit.TooLong
+        ↔ ((length (paths_of policy.now approvals.now) ≤ 65536)
+        × Any (λ path. 512 < length path.moves) (paths_of policy.now approvals.now)) }
+{
+    let extent = extent_of_elements(approvals.as_slice(), MAX_LEVELS, &policy.elements);
+    if extent.paths > MAX_PATHS {
+        return Err(PathLimit::TooManyPaths);
+    }
+    if extent.moves > MAX_MOVES {
+        return Err(PathLimit::TooLong);
+    }
+    Ok(extent.paths as u32)
+}
+
+/// The number of ways through a policy, or 65,537 where there are more than 65,536. It takes no memory.
+pub fn count_paths(policy: &Closed, approvals: &Approvals) -> u64
+    requires branches { HaveBranchCounts policy.now approvals.now }
+    ensures { result ≡ min (length (paths_of policy.now approvals.now)) 65537 }
+{
+    extent_of_elements(approvals.as_slice(), MAX_LEVELS, &policy.elements).paths
+}
