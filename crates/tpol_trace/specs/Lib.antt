@@ -1,0 +1,3 @@
+pub mod Matching
+pub mod Openings
+pub mod Same

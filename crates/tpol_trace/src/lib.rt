@@ -1,0 +1,13 @@
+//! From digest to branch: by which written path the accepted policy commands of a session lead to a
+//! policy's digest.
+//!
+//! The layers above use `opening`. What stands behind it is the law of `facts_open`: where the facts of a
+//! session give the digest of a policy, they went one of its written paths, or two different strings of one
+//! SHA-256 digest, or one of digest zero, are among what was hashed.
+#![tactic(auto)]
+
+mod answer;
+mod laws;
+
+pub use answer::{Events, Opening};
+pub use laws::facts_open;
