@@ -1,0 +1,4 @@
+use Rattle.tpol_trace.proofs.laws.facts_open.Goals as goal
+
+pub returns : goal.returns
+returns c = ?
