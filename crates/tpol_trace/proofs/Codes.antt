@@ -100,3 +100,8 @@ pub same_hash_approves : (act fact : Move) → update_of act ≡ update_of fact 
 same_hash_approves act fact hashed none =
     none
     ∙ sym (none_of (approved_of fact) (approves_by_code fact ∙ ap (λ (u : Update). approves u.code) (sym hashed) ∙ sym (approves_by_code act) ∙ ap is_some none))
+
+-- updates of the same parts
+pub same_parts : (a b : Update) → a.fresh ≡ b.fresh → a.code ≡ b.code → a.inner ≡ b.inner → a.rest ≡ b.rest → a.policy_ref ≡ b.policy_ref → a ≡ b
+same_parts a b fresh code inner rest second =
+    λ i. record { fresh = fresh i; code = code i; inner = inner i; rest = rest i; policy_ref = second i }

@@ -10,7 +10,7 @@ use Rattle.tpol_tree.specs.declared.path.Move.{Move}
 use Rattle.tpol_digest.specs.Digest.{zero_digest, start_of, head_of, first_string, after_second, after_update, digest_after, digest_of_moves}
 use Rattle.tpol_digest.specs.Inputs.{strings_of}
 use Rattle.tpol_digest.specs.Update.{Update, update_of}
-use Rattle.tpol_trace.proofs.Codes.{IsRegular, hashes_twice, regular}
+use Rattle.tpol_trace.proofs.Codes.{IsRegular, hashes_twice, regular, same_parts}
 use Rattle.tpol_trace.proofs.Strings.{IsSane, IsSameFirst, split_digest, first_in, inner_in, second_in, same_first}
 use Rattle.tpol_trace.proofs.Chains.{HasLast, last_of, digest_of_last, AreHashed, AreHeld, hashed_last}
 
@@ -106,16 +106,12 @@ module _ (In : List ℕ → Type 0) (sane : IsSane In) where
     pub hashed : update_of last ≡ u
     pub start : start_of u.fresh (digest_of_moves front) ≡ start_of u.fresh d
 
-  same_update : (a b : Update) → a.fresh ≡ b.fresh → a.code ≡ b.code → a.inner ≡ b.inner → a.rest ≡ b.rest → a.policy_ref ≡ b.policy_ref → a ≡ b
-  same_update a b fresh code inner rest second =
-      λ i. record { fresh = fresh i; code = code i; inner = inner i; rest = rest i; policy_ref = second i }
-
   ends_with : (moves front : List Move) (last : Move) (u : Update) (d : Digest32) → moves ≡ front ++ last ∷ [] → IsSameFirst (update_of last) u (digest_of_moves front) d → (update_of last).policy_ref ≡ u.policy_ref → EndsWith moves u d
   ends_with moves front last u d is same second = record {
     front = front;
     last = last;
     is = is;
-    hashed = same_update (update_of last) u same.fresh same.code same.inner same.rest second;
+    hashed = same_parts (update_of last) u same.fresh same.code same.inner same.rest second;
     start = ap (λ fresh. start_of fresh (digest_of_moves front)) (sym same.fresh) ∙ same.start;
   }
 

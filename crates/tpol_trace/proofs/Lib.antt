@@ -1,7 +1,10 @@
+pub mod Approvals
 pub mod Chains
 pub mod Codes
 pub mod Elements
 pub mod Halves
 pub mod Inversion
+pub mod Matched
 pub mod Strings
+pub mod Tests
 pub mod Ways
