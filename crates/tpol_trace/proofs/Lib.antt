@@ -1,10 +1,12 @@
 pub mod Approvals
 pub mod Chains
+pub mod Clashes
 pub mod Codes
 pub mod Elements
 pub mod Halves
 pub mod Inversion
 pub mod Matched
+pub mod Opened
 pub mod Strings
 pub mod Tests
 pub mod Ways

@@ -1,3 +1,4 @@
+pub mod Chains
 pub mod Matching
 pub mod Openings
 pub mod Same

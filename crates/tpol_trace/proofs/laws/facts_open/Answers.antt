@@ -1,4 +1,5 @@
+use Rattle.tpol_trace.proofs.Opened as opened
 use Rattle.tpol_trace.proofs.laws.facts_open.Goals as goal
 
 pub returns : goal.returns
-returns c = ?
+returns c = opened.facts_open
