@@ -1,6 +1,6 @@
 -- From the digest after an approval back to the documents that may be entered, or outside.
-use Rattle.std.proofs.Common.{◌≡◌, ℕ, zero, suc, ◌+◌, ◌<◌, Bool, true, false, IsTrue, List, [], ◌∷◌, ◌++◌, Option, Some, None, inl, inr, refl, sym, ap, ◌∙◌, subst, arith}
-use Rattle.std.specs.Prelude.{◌⊎◌, is_some, IfSome}
+use Rattle.std.proofs.Common.{◌≡◌, ℕ, zero, suc, ◌<◌, Bool, true, false, List, [], ◌∷◌, ◌++◌, Option, Some, None, inl, inr, refl, sym, ap, ◌∙◌, subst, arith}
+use Rattle.std.specs.Prelude.{is_some, IfSome}
 use Rattle.std.specs.List.{flat_map, AllByRecursion}
 use Rattle.std.proofs.lemmas.Bool.{false≢true}
 use Rattle.std.proofs.lemmas.Bool.Decides.{not_from_Decides}
@@ -9,21 +9,20 @@ use Rattle.tpol_tree.specs.declared.closed.ClosedElement.{ClosedElement}
 use Rattle.tpol_tree.specs.declared.closed.ClosedElement.TheVariants.{Assert, Or, Authorize, AuthorizeNv}
 use Rattle.tpol_tree.specs.declared.path.ApprovedDoc.{ApprovedDoc}
 use Rattle.tpol_tree.specs.declared.path.Move.{Move}
-use Rattle.tpol_tree.specs.declared.path.Move.TheVariants.{Assert as AssertMove, Or as OrMove, Approve, ApproveNv}
 use Rattle.tpol_tree.specs.declared.path.Path.{Path}
 use Rattle.tpol_tree.specs.declared.path.PathStep.TheVariants.{Document}
-use Rattle.tpol_digest.specs.Digest.{zero_digest, digest_at_element, digest_of_moves}
-use Rattle.tpol_digest.specs.Inputs.{inputs_at, inputs_at_element}
-use Rattle.tpol_digest.specs.Paths.{approval_of, paths_by_approval, approved_paths, outside_path, outside_paths, between, paths_at, paths_at_element, document_paths}
+use Rattle.tpol_digest.specs.Digest.{zero_digest, digest_of_moves}
+use Rattle.tpol_digest.specs.Inputs.{inputs_at}
+use Rattle.tpol_digest.specs.Paths.{approval_of, paths_by_approval, approved_paths, outside_path, outside_paths, paths_at_element, document_paths}
 use Rattle.tpol_digest.specs.Update.{update_of}
 use Rattle.tpol_digest.specs.WellFormed.{IsWellFormedDocument}
 use Rattle.tpol_digest.proofs.Meeting.{by_key_each, by_index_each}
-use Rattle.tpol_trace.specs.Matching.{IsListed, approval_for, is_listed, documents_before}
+use Rattle.tpol_trace.specs.Matching.{IsListed, approval_for, is_listed}
 use Rattle.tpol_trace.specs.Same.{approved_of}
 use Rattle.tpol_trace.proofs.Tests.{listed_Decides}
 use Rattle.tpol_trace.proofs.Strings.{IsSane}
 use Rattle.tpol_trace.proofs.Chains.{AreHeld, held_front, held_last}
-use Rattle.tpol_trace.proofs.Halves.{IsNoHalf, EndsWith, zero_no_half}
+use Rattle.tpol_trace.proofs.Halves.{EndsWith, zero_no_half}
 use Rattle.tpol_trace.proofs.Elements.{move_of_element, meets_approved}
 use Rattle.tpol_trace.proofs.Ways.{IsIn, HasWay, in_left, in_right, widen, behind}
 use Rattle.tpol_trace.proofs.Inversion.{IsApproval, ApprovalsInvert, element_back, invert_at}
@@ -81,6 +80,7 @@ module _ (In : List ℕ → Type 0) (sane : IsSane In) (documents : List Approve
     where
       act : Move
       act = move_of_element element d
+
       in_outside : (e : ClosedElement) → IsApproval e → (p : Path) → IsIn p (outside_path (move_of_element e d) ∷ []) → IsIn p (paths_at_element within documents e d)
       in_outside (Assert assertion) a p h = absurd a
       in_outside (Or branches) a p h = absurd a
@@ -123,10 +123,13 @@ module _ (In : List ℕ → Type 0) (sane : IsSane In) (documents : List Approve
     where
       act : Move
       act = move_of_element element d
+
       within : ApprovedDoc → List Path
       within = document_paths documents (suc level)
+
       b : EndsWith In sane moves (update_of act) d
       b = element_back In sane element d none strings moves held e
+
       approved_left : (x : ClosedElement) → IsApproval x → (p : Path) → IsIn p (approved_paths within documents x) → IsIn p (paths_at_element within documents x zero_digest)
       approved_left (Assert assertion) a p h = absurd a
       approved_left (Or branches) a p h = absurd a
@@ -134,6 +137,7 @@ module _ (In : List ℕ → Type 0) (sane : IsSane In) (documents : List Approve
           in_left p (approved_paths within documents (Authorize key policy_ref)) (outside_paths (Authorize key policy_ref)) h
       approved_left (AuthorizeNv index) a p h =
           in_left p (approved_paths within documents (AuthorizeNv index)) (outside_paths (AuthorizeNv index)) h
+
       by_listed : (listed : Bool) → is_listed documents act b.last ≡ listed → HasWay documents (suc level) (paths_at_element within documents element d) d moves
       by_listed true is =
           let same = move_same element approval d in

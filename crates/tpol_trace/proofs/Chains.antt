@@ -2,7 +2,6 @@
 use Rattle.std.proofs.Common.{◌≡◌, ℕ, List, [], ◌∷◌, ◌++◌, inl, inr, refl, sym, ap, ◌∙◌, subst, append_assoc}
 use Rattle.std.specs.Prelude.{◌⊎◌}
 use Rattle.std.specs.List.{AllByRecursion}
-use Rattle.std.proofs.lemmas.List.{append-nil}
 use Rattle.tpol_base.specs.declared.digest.Digest32.{Digest32}
 use Rattle.tpol_tree.specs.declared.path.Move.{Move}
 use Rattle.tpol_digest.specs.Digest.{zero_digest, digest_after, digest_from, digest_of_moves}
@@ -54,7 +53,7 @@ pub record AreHeld (In : List ℕ → Type 0) (moves : List Move) : Type 0 where
   pub hashed : AreHashed In moves
 
 module _ (In : List ℕ → Type 0) where
-  hashed_front : (xs ys : List Move) → AreHashed In (xs ++ ys) → AreHashed In xs
+  pub hashed_front : (xs ys : List Move) → AreHashed In (xs ++ ys) → AreHashed In xs
   hashed_front xs ys h =
       each_left In (inputs_of_moves zero_digest xs) (inputs_of_moves (digest_of_moves xs) ys) (subst (AllByRecursion In) (inputs-append zero_digest xs ys) h)
 

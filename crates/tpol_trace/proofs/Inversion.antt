@@ -1,6 +1,6 @@
 -- From the digest after elements back to the way that moves went.
-use Rattle.std.proofs.Common.{◌≡◌, ℕ, ◌+◌, Bool, true, false, IsTrue, List, [], ◌∷◌, ◌++◌, map, None, inl, inr, refl, sym, ap, ◌∙◌, subst}
-use Rattle.std.specs.Prelude.{◌⊎◌, ⊤}
+use Rattle.std.proofs.Common.{◌≡◌, ℕ, ◌+◌, Bool, true, false, IsTrue, List, [], ◌∷◌, ◌++◌, map, inl, inr, refl, sym, ◌∙◌, subst}
+use Rattle.std.specs.Prelude.{⊤}
 use Rattle.std.specs.List.{AllByRecursion}
 use Rattle.std.proofs.lemmas.Bool.{false≢true}
 use Rattle.std.proofs.lemmas.List.{append-nil}
@@ -25,10 +25,10 @@ use Rattle.tpol_digest.specs.Update.{update_of, update_of_or}
 use Rattle.tpol_trace.specs.Same.{IsSameMove}
 use Rattle.tpol_trace.proofs.Codes.{regular, assertion_goes_on, same_hash_approves}
 use Rattle.tpol_trace.proofs.Strings.{IsSane, each_left, each_right}
-use Rattle.tpol_trace.proofs.Chains.{AreHashed, AreHeld, held_front, held_last}
+use Rattle.tpol_trace.proofs.Chains.{AreHeld, held_front, held_last}
 use Rattle.tpol_trace.proofs.Halves.{IsNoHalf, EndsWith, after_not_zero, no_half_after, back}
 use Rattle.tpol_trace.proofs.Elements.{move_of_element, digest_of_element, strings_of_element, meets_or}
-use Rattle.tpol_trace.proofs.Ways.{IsIn, IsInside, IsOutside, HasWay, in_left, in_right, widen, follow, behind}
+use Rattle.tpol_trace.proofs.Ways.{HasWay, in_left, in_right, widen, follow, behind}
 
 -- an AUTHORIZE or an AUTHORIZENV
 abbrev pub IsApproval : ClosedElement → Type 0
@@ -37,7 +37,7 @@ IsApproval (Or branches) = ⊥
 IsApproval (Authorize key policy_ref) = ⊤
 IsApproval (AuthorizeNv index) = ⊤
 
-goes_on : (fresh : Bool) (x y : Digest32) → fresh ≡ false → start_of fresh x ≡ start_of fresh y → x ≡ y
+pub goes_on : (fresh : Bool) (x y : Digest32) → fresh ≡ false → start_of fresh x ≡ start_of fresh y → x ≡ y
 goes_on true x y e h = absurd (false≢true (sym e))
 goes_on false x y e h = h
 

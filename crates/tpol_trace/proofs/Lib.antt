@@ -3,10 +3,13 @@ pub mod Chains
 pub mod Clashes
 pub mod Codes
 pub mod Elements
+pub mod Found
 pub mod Halves
 pub mod Inversion
 pub mod Matched
+pub mod Meaning
 pub mod Opened
+pub mod Rows
 pub mod Strings
 pub mod Tests
 pub mod Ways

@@ -1,5 +1,5 @@
 -- A path matches where the test says so.
-use Rattle.std.proofs.Common.{◌≡◌, ℕ, ◌+◌, ◌-◌, ◌<◌, ◌≤◌, Bool, true, false, List, [], ◌∷◌, ◌++◌, length, drop, take, refl, sym, ap, ◌∙◌, subst, arith, not, ◌&&◌}
+use Rattle.std.proofs.Common.{◌≡◌, ℕ, ◌-◌, ◌<◌, Bool, true, false, List, [], ◌∷◌, ◌++◌, length, drop, take, refl, sym, ap, ◌∙◌, arith, not, ◌&&◌}
 use Rattle.std.specs.Prelude.{nat_lt}
 use Rattle.std.specs.Bool.{Decides}
 use Rattle.std.proofs.lemmas.Bool.{false≢true}
@@ -9,7 +9,7 @@ use Rattle.tpol_tree.specs.declared.path.ApprovedDoc.{ApprovedDoc}
 use Rattle.tpol_tree.specs.declared.path.Move.{Move}
 use Rattle.tpol_tree.specs.declared.path.Path.{Path}
 use Rattle.tpol_digest.specs.Update.{update_of}
-use Rattle.tpol_trace.specs.Same.{IsSameMove, AreSame, same_update, are_same}
+use Rattle.tpol_trace.specs.Same.{AreSame, same_update, are_same}
 use Rattle.tpol_trace.specs.Matching.{IsListed, documents_before, MatchesOutside, MatchesBy, Matches, is_listed, matches_approval, matches_last, last_facts, matches_by, matches}
 use Rattle.tpol_trace.proofs.Tests.{and_Decides, Decides-by, update_Decides, same_Decides, listed_Decides}
 

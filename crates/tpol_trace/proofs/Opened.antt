@@ -1,35 +1,31 @@
 -- There is always an opening.
-use Rattle.std.proofs.Common.{◌≡◌, ℕ, ◌+◌, Bool, true, false, IsTrue, List, [], ◌∷◌, ◌++◌, Option, Some, None, inl, inr, refl, sym, ap, ◌∙◌, subst}
-use Rattle.std.specs.Prelude.{◌⊎◌, IsSome, is_some, if◌then◌else◌}
+use Rattle.std.proofs.Common.{◌≡◌, ℕ, ◌+◌, Bool, true, false, List, [], ◌∷◌, ◌++◌, Option, Some, None, inl, inr, refl, sym, ap, ◌∙◌, subst}
+use Rattle.std.specs.Prelude.{IsSome, is_some, if◌then◌else◌}
 use Rattle.std.specs.List.{flat_map, AllByRecursion}
 use Rattle.std.specs.Option.{option_map}
 use Rattle.std.proofs.lemmas.Bool.{false≢true}
 use Rattle.std.proofs.lemmas.List.Elements.{recursion_from_All}
-use Rattle.tpol_base.specs.declared.digest.Digest32.{Digest32}
 use Rattle.tpol_tree.specs.declared.closed.Closed.{Closed}
 use Rattle.tpol_tree.specs.declared.facts.Fact.{Fact}
 use Rattle.tpol_tree.specs.declared.path.ApprovedDoc.{ApprovedDoc}
-use Rattle.tpol_tree.specs.declared.path.Move.{Move}
 use Rattle.tpol_tree.specs.declared.path.Path.{Path}
-use Rattle.tpol_tree.specs.Closed.{ApprovalsLead}
 use Rattle.tpol_digest.specs.Digest.{zero_digest, digest_of_moves, policy_digest}
 use Rattle.tpol_digest.specs.Inputs.{inputs_at, inputs_of_policy, inputs_of_facts}
 use Rattle.tpol_digest.specs.Paths.{paths_of, document_paths}
 use Rattle.tpol_digest.specs.Sound.{IsSound, moves_of_facts}
 use Rattle.tpol_digest.specs.WellFormed.{IsWellFormed, IsWellFormedDocument}
-use Rattle.tpol_digest.specs.Update.{update_of}
 use Rattle.tpol_trace.specs.Chains.{HasNoApproval}
 use Rattle.tpol_trace.specs.Matching.{MatchesOutside, MatchesBy, Matches, matches}
 use Rattle.tpol_trace.specs.Openings.{inputs, events_of, first_index, first_clash, first_zero, broken_opening, zero_opening, opening_by, first_match, opening_of}
 use Rattle.tpol_trace.specs.Same.{AreSame}
 use Rattle.tpol_trace.proofs.Approvals.{IsHeldDocument, approve_at}
-use Rattle.tpol_trace.proofs.Chains.{AreHashed, AreHeld, last_of, HasLast, hashed_last, held_front, digest_of_last}
+use Rattle.tpol_trace.proofs.Chains.{AreHeld, held_front}
 use Rattle.tpol_trace.proofs.Clashes.{sane_strings, each_in, each_by}
-use Rattle.tpol_trace.proofs.Halves.{after_not_zero, zero_no_half}
+use Rattle.tpol_trace.proofs.Halves.{none_of_zero, zero_no_half}
 use Rattle.tpol_trace.proofs.Inversion.{invert_at}
 use Rattle.tpol_trace.proofs.Matched.{matches_Decides}
 use Rattle.tpol_trace.proofs.Strings.{IsSane, each_left, each_right}
-use Rattle.tpol_trace.proofs.Ways.{IsIn, IsInside, IsOutside, HasWay}
+use Rattle.tpol_trace.proofs.Ways.{IsIn, HasWay}
 
 -- no item passes the test
 pub none_of_index : (b : Bool) (later : Option ℕ) → (if b then Some 0 else option_map (λ i. i + 1) later) ≡ None → (b ≡ false) × (later ≡ None)
@@ -44,15 +40,6 @@ none_passes test (y ∷ rest) none x (inl same) =
 none_passes test (y ∷ rest) none x (inr h) =
     none_passes test rest (none_of_index (test y) (first_index test rest) none).1 x h
 
--- moves of digest zero are none
-none_of_zero : (In : List ℕ → Type 0) → IsSane In → (moves : List Move) → AreHeld In moves → digest_of_moves moves ≡ zero_digest → moves ≡ []
-none_of_zero In sane moves held e = by_last (last_of moves)
-  where
-    by_last : (moves ≡ []) ⊎ HasLast moves → moves ≡ []
-    by_last (inl empty) = empty
-    by_last (inr l) =
-        absurd (after_not_zero In sane (update_of l.last) (digest_of_moves l.front) (hashed_last In l.front l.last (subst (AreHashed In) l.is held.hashed)).1 (sym (digest_of_last l.front l.last) ∙ ap digest_of_moves (sym l.is) ∙ e))
-
 module _ (policy : Closed) (approvals : List ApprovedDoc) (facts : List Fact) where
   -- among all strings
   abbrev AmongInputs : List ℕ → Type 0
@@ -61,12 +48,21 @@ module _ (policy : Closed) (approvals : List ApprovedDoc) (facts : List Fact) wh
   -- a way of the facts from the zero digest matches
   way_matches : (In : List ℕ → Type 0) → IsSane In → AreHeld In (moves_of_facts facts) → (paths : List Path) → HasWay approvals 4 paths zero_digest (moves_of_facts facts) → (path : Path) × (IsIn path paths × Matches approvals path (moves_of_facts facts))
   way_matches In sane held paths (inl i) =
-      let none = none_of_zero In sane i.front (held_front In i.front i.rest (subst (AreHeld In) i.split held)) i.reached in
+      let none = none_of_zero In sane i.front (held_front In i.front i.rest (subst (AreHeld In) i.split held)).hashed i.reached in
       let all : moves_of_facts facts ≡ i.rest = i.split ∙ ap (λ l. l ++ i.rest) none in
       (i.path, (i.listed, subst (λ b. MatchesBy b approvals i.path (moves_of_facts facts)) (sym i.inside) (subst (AreSame i.path.moves) (sym all) i.same)))
   way_matches In sane held paths (inr o) =
       let outside : MatchesOutside approvals o.path (moves_of_facts facts) = record {
-        approval = o.approval; rest = o.rest; moves = o.begins; before = o.before; approving = o.approving; after = o.after; split = o.split; hashed = o.hashed; same = o.same; unlisted = o.unlisted;
+        approval = o.approval;
+        rest = o.rest;
+        moves = o.begins;
+        before = o.before;
+        approving = o.approving;
+        after = o.after;
+        split = o.split;
+        hashed = o.hashed;
+        same = o.same;
+        unlisted = o.unlisted;
       } in
       (o.path, (o.listed, subst (λ b. MatchesBy b approvals o.path (moves_of_facts facts)) (sym o.outside) outside))
 

@@ -1,5 +1,5 @@
 -- Where no two of some strings have one digest, and none has the digest zero, equal digests say equal parts.
-use Rattle.std.proofs.Common.{◌≡◌, ℕ, ◌+◌, Bool, true, false, List, [], ◌∷◌, ◌++◌, length, take, drop, Option, Some, None, refl, sym, ap, ◌∙◌, subst, ◌<◌, ◌^◌, append_assoc}
+use Rattle.std.proofs.Common.{◌≡◌, ℕ, List, [], ◌∷◌, ◌++◌, length, take, drop, Option, Some, None, refl, sym, ap, ◌∙◌, subst, ◌<◌, ◌^◌, append_assoc}
 use Rattle.std.specs.Prelude.{is_some}
 use Rattle.std.specs.Int.{from_be_bytes, to_be_bytes, w32}
 use Rattle.std.specs.List.{AllByRecursion}

@@ -1,7 +1,6 @@
 -- The way that moves went, back to a digest: a path of a list, with what stands before its moves.
-use Rattle.std.proofs.Common.{◌≡◌, ℕ, ◌+◌, ◌<◌, ◌≤◌, Bool, true, false, List, [], ◌∷◌, ◌++◌, map, inl, inr, refl, sym, ap, ◌∙◌, subst, append_assoc, arith}
+use Rattle.std.proofs.Common.{◌≡◌, ℕ, ◌<◌, ◌≤◌, true, false, List, [], ◌∷◌, ◌++◌, map, inl, inr, ap, ◌∙◌, subst, append_assoc, arith}
 use Rattle.std.specs.Prelude.{◌⊎◌, ◌||◌}
-use Rattle.std.specs.List.{flat_map}
 use Rattle.tpol_base.specs.declared.digest.Digest32.{Digest32}
 use Rattle.tpol_tree.specs.declared.path.ApprovedDoc.{ApprovedDoc}
 use Rattle.tpol_tree.specs.declared.path.Move.{Move}
@@ -92,10 +91,30 @@ module _ (documents : List ApprovedDoc) (level : ℕ) where
   -- among more paths
   pub widen : (paths more : List Path) (d : Digest32) (moves : List Move) → ((p : Path) → IsIn p paths → IsIn p more) → HasWay documents level paths d moves → HasWay documents level more d moves
   widen paths more d moves f (inl i) = inl (record {
-    path = i.path; listed = f i.path i.listed; inside = i.inside; front = i.front; rest = i.rest; split = i.split; reached = i.reached; same = i.same;
+    path = i.path;
+    listed = f i.path i.listed;
+    inside = i.inside;
+    front = i.front;
+    rest = i.rest;
+    split = i.split;
+    reached = i.reached;
+    same = i.same;
   })
   widen paths more d moves f (inr o) = inr (record {
-    starts = o.starts; path = o.path; listed = f o.path o.listed; outside = o.outside; approval = o.approval; rest = o.rest; begins = o.begins; before = o.before; approving = o.approving; after = o.after; split = o.split; hashed = o.hashed; same = o.same; unlisted = o.unlisted;
+    starts = o.starts;
+    path = o.path;
+    listed = f o.path o.listed;
+    outside = o.outside;
+    approval = o.approval;
+    rest = o.rest;
+    begins = o.begins;
+    before = o.before;
+    approving = o.approving;
+    after = o.after;
+    split = o.split;
+    hashed = o.hashed;
+    same = o.same;
+    unlisted = o.unlisted;
   })
 
   -- one way and then another that is not outside

@@ -1,5 +1,5 @@
 -- Assertions in a row, whole or ended at a half digest; policies without approvals.
-use Rattle.std.specs.Prelude.{◌≡◌, ◌≢◌, ℕ, false, List, [], ◌∷◌, ◌++◌, ◌⊎◌, Any, IsSome, map, Option, Some, None, ⊤}
+use Rattle.std.specs.Prelude.{◌≡◌, ℕ, false, List, [], ◌∷◌, ◌++◌, ◌⊎◌, Any, IsSome, map, Option, Some, None, ⊤}
 use Rattle.std.specs.Option.{option_to_list}
 use Rattle.tpol_base.specs.declared.digest.Digest32.{Digest32}
 use Rattle.tpol_hash.specs.Sha256.{sha256_digest}
@@ -55,3 +55,8 @@ IsSameHalf (Some a) (Some b) =
 abbrev pub AreBroken : List (List ℕ) → Type 0
 AreBroken strings =
     ((i : ℕ) × (j : ℕ) × (a : List ℕ) × (b : List ℕ) × IsClash strings i j a b) ⊎ Any (λ string. sha256_digest string ≡ zero_digest) strings
+
+-- two chains are the same in order, or their strings are broken
+abbrev pub ChainsAgree : List Assertion → Option Assertion → List Assertion → Option Assertion → Type 0
+ChainsAgree xs half ys other =
+    (AreSame (moves_of xs) (moves_of ys) × IsSameHalf half other) ⊎ AreBroken (inputs_of_chain xs half ++ inputs_of_chain ys other)

@@ -10,4 +10,4 @@ mod answer;
 mod laws;
 
 pub use answer::{Events, Opening};
-pub use laws::facts_open;
+pub use laws::{chains_agree, facts_open, facts_open_without_approvals};
