@@ -38,8 +38,8 @@ fn is_by_index(by: &ApprovedBy, index: &Name) -> bool
     }
 }
 
-// Whether the element asks for an approval by whom the document was approved: by the same key with the
-// same policyRef, or by the same index.
+/// Whether the element asks for an approval by whom the document was approved: by the same key with the
+/// same policyRef, or by the same index.
 pub fn accepts(element: &ClosedElement, document: &ApprovedDoc) -> bool
     ensures { result ≡ is_some (spec.approval_of element.now document.now) }
 {

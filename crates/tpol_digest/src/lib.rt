@@ -26,10 +26,14 @@ mod update;
 mod update_bytes;
 
 pub use all_paths::paths;
+pub use approval::accepts;
 pub use assertion::extend;
 pub use at_position::path_at;
 pub use fault::TreeFault;
 pub use inputs::{inputs_of, inputs_of_facts};
 pub use limits::{PathLimit, check_paths, count_paths};
 pub use moves::{digest_after_move, run_facts, run_path};
-pub use policy::{approve_digest, approve_nv_digest, digest_of, or_digest};
+pub use policy::{
+    approve_digest, approve_nv_digest, digest_after_element, digest_of, or_digest,
+    push_branch_digests,
+};

@@ -68,7 +68,7 @@ pub fn digest_after_elements(elements: &ClosedElements, before: Digest32) -> Dig
     }
 }
 
-// The digest after one element.
+/// The digest after one element, where `before` is the digest before it.
 #[cycle(policy)]
 pub fn digest_after_element(element: &ClosedElement, before: Digest32) -> Digest32
     ensures { result ≡ spec.digest_at_element element.now before }
@@ -100,7 +100,7 @@ fn put_branches(hasher: &mut Hasher, branches: &ClosedBranches, before: Digest32
     }
 }
 
-// Adds the digests of all branches, each from the digest before the OR, at the end.
+/// Adds the digests of all branches, each from the digest before the OR, at the end.
 pub fn push_branch_digests(
     digests: &mut Digests,
     branches: &ClosedBranches,
