@@ -1,5 +1,6 @@
 pub mod Digests
 pub mod Documents
+pub mod Erasures
 pub mod Extents
 pub mod Joined
 pub mod Listings
@@ -7,6 +8,7 @@ pub mod Measures
 pub mod Meeting
 pub mod OutsideFirst
 pub mod OutsideSteps
+pub mod PathMoves
 pub mod Positions
 pub mod Products
 pub mod Refusals

@@ -1,6 +1,7 @@
 pub mod Digest
 pub mod Extent
 pub mod Inputs
+pub mod Laws
 pub mod Limits
 pub mod Paths
 pub mod Positions

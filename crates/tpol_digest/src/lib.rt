@@ -15,6 +15,7 @@ mod counting;
 mod extent;
 mod fault;
 mod inputs;
+mod laws;
 mod limits;
 mod listing;
 mod moves;
@@ -31,6 +32,7 @@ pub use assertion::extend;
 pub use at_position::path_at;
 pub use fault::TreeFault;
 pub use inputs::{inputs_of, inputs_of_facts};
+pub use laws::{boxes_are_ignored, paths_have_bounds, paths_have_pcr_digests};
 pub use limits::{PathLimit, check_paths, count_paths};
 pub use moves::{digest_after_move, run_facts, run_path};
 pub use policy::{

@@ -1,0 +1,5 @@
+use Rattle.tpol_digest.proofs.PathMoves as path_moves
+use Rattle.tpol_digest.proofs.laws.paths_have_bounds.Goals as goal
+
+pub returns : goal.returns
+returns c = path_moves.paths_have_bounds
