@@ -1,6 +1,6 @@
 -- Response codes (TPM 2.0 Part 2, TPM_RC), named as there, and what is added to a code for the position of a
 -- handle, a session or a parameter, each counted from 1.
-use Rattle.std.specs.Prelude.{ℕ, ◌+◌, ◌*◌}
+use Rattle.std.specs.Prelude.{ℕ, ◌+◌, ◌-◌, ◌*◌}
 
 -- success
 abbrev pub rc_success : ℕ
@@ -164,6 +164,10 @@ rc_reference_s0 = 0x918
 
 abbrev pub of_handle : ℕ → ℕ
 of_handle n = 0x100 * n
+
+-- the code where handle n refers to an object or a session that is not there
+abbrev pub reference_of_handle : ℕ → ℕ
+reference_of_handle n = rc_reference_h0 + (n - 1)
 
 abbrev pub of_session : ℕ → ℕ
 of_session n = 0x800 + 0x100 * n

@@ -1,6 +1,6 @@
 ghost use Rattle.std.specs.Prelude.{◌≡◌};
 
-use crate::{Digest32, Name, Text};
+use crate::{Digest32, Name, Sequence, Text};
 
 /// A type whose clones are equal to the value that they were made from. A `Sequence` of such items has a
 /// `clone` that is equal to it.
@@ -12,6 +12,22 @@ impl ExactClone for u8 {
     ghost same = { λ _ _ same. same };
 }
 
+impl ExactClone for u16 {
+    ghost same = { λ _ _ same. same };
+}
+
+impl ExactClone for u32 {
+    ghost same = { λ _ _ same. same };
+}
+
+impl ExactClone for u64 {
+    ghost same = { λ _ _ same. same };
+}
+
+impl<A: ExactClone, B: ExactClone> ExactClone for (A, B) {
+    ghost same = { λ x y same. λ i. (A.same x.0 y.0 same.0 i, B.same x.1 y.1 same.1 i) };
+}
+
 impl ExactClone for Digest32 {
     ghost same = { λ _ _ same. same };
 }
@@ -21,5 +37,9 @@ impl ExactClone for Name {
 }
 
 impl ExactClone for Text {
+    ghost same = { λ _ _ same. same };
+}
+
+impl<T: ExactClone> ExactClone for Sequence<T> {
     ghost same = { λ _ _ same. same };
 }

@@ -49,15 +49,7 @@ impl Name {
     pub fn to_bytes(&self, alloc: Global) -> Result<Blob, NoMemory>
         ensures { IfOk result (λ bytes. bytes ≡ name_bytes self.now) }
     {
-        match self {
-            Name::Empty => Ok(Blob::new(alloc)),
-            Name::Handle(handle) => Blob::from_slice(alloc, &handle.to_be_bytes()),
-            Name::Hash(digest) => {
-                let mut bytes = Blob::from_slice(alloc, b"\x00\x0b")?;
-                bytes.extend_from_slice(&digest.bytes)?;
-                Ok(bytes)
-            }
-        }
+        Blob::from_slice(alloc, self.bytes().as_slice())
     }
 }
 

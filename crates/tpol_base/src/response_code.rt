@@ -1,8 +1,8 @@
 //! Response codes (TPM 2.0 Part 2, TPM_RC), by their names there without `TPM_RC_`, and what is added to a
 //! code for the position of a handle, a session or a parameter, each counted from 1.
 
-ghost use Rattle.std.specs.Prelude.{◌≡◌};
-ghost use Rattle.tpol_base.specs.ResponseCode.{of_handle, of_parameter, of_session};
+ghost use Rattle.std.specs.Prelude.{◌≡◌, ◌≤◌};
+ghost use Rattle.tpol_base.specs.ResponseCode.{of_handle, of_parameter, of_session, reference_of_handle};
 
 /// Success.
 pub const SUCCESS: u32 = 0x000;
@@ -131,6 +131,14 @@ pub fn of_handle(n: u8) -> u32
     ensures { result ≡ of_handle n }
 {
     0x100 * n as u32
+}
+
+/// The code where handle `n` refers to an object or a session that is not there.
+pub fn reference_of_handle(n: u8) -> u32
+    requires { 1 ≤ n }
+    ensures { result ≡ reference_of_handle n }
+{
+    REFERENCE_H0 + (n as u32 - 1)
 }
 
 /// What is added to a code for session `n`.
