@@ -1,0 +1,3 @@
+pub mod Entities
+pub mod Goals
+pub mod Grants

@@ -1,0 +1,107 @@
+//! The entities that Names stand for, and the Names of handles.
+
+ghost use Rattle.std.specs.Prelude.{◌≡◌, option_map};
+ghost use Rattle.std.specs.Option.{option_copied};
+ghost use Rattle.tpol_goal.specs.Entities.{entity_in_sight, entity_of_name, hierarchy_of_name, index_in_sight, index_of_name, line_of_name, name_of_handle, object_in_sight, object_of_name};
+
+use tpol_base::Name;
+use tpol_base::handle::{HandleKind, TPM_RH_ENDORSEMENT, TPM_RH_LOCKOUT, TPM_RH_OWNER};
+use tpol_name::{DirEntry, IndexEntry, ObjectEntry, Sight, nv_name_once_written, object_name};
+
+/// The handle of the entity that a Name stands for where a command takes a hierarchy, an object or an index:
+/// the hierarchy whose handle the Name is, else the first line of the directory with the Name; `None` where
+/// there is neither.
+pub fn entity_of_name(directory: &[DirEntry], name: &Name) -> Option<u32>
+    ensures entity { result ≡ entity_of_name directory.now name.now }
+{
+    if let Some(handle) = hierarchy_of_name(name) {
+        return Some(handle);
+    }
+    match line_of_name(directory, name) {
+        Some(entry) => Some(entry.handle),
+        None => None,
+    }
+}
+
+fn line_of_name<'a>(directory: &'a [DirEntry], name: &Name) -> Option<&'a DirEntry>
+    ensures { option_copied result ≡ line_of_name directory.now name.now }
+{
+    directory.iter().find(|entry| entry.name == *name)
+}
+
+/// The first object of the directory with this Name; `None` for the Name of a hierarchy too.
+pub fn object_of_name<'a>(directory: &'a [DirEntry], name: &Name) -> Option<&'a DirEntry>
+    ensures object { option_copied result ≡ object_of_name directory.now name.now }
+{
+    directory.iter().find(|entry| HandleKind::of(entry.handle) == Some(HandleKind::Object)
+        && entry.name == *name)
+}
+
+/// The first index of the directory with this Name, which is that of the written index.
+pub fn index_of_name<'a>(directory: &'a [DirEntry], name: &Name) -> Option<&'a DirEntry>
+    ensures index { option_copied result ≡ index_of_name directory.now name.now }
+{
+    directory.iter().find(|entry| HandleKind::of(entry.handle) == Some(HandleKind::Index)
+        && entry.name == *name)
+}
+
+/// The Name of a handle: that of the first line of the directory with the handle, else the handle's four
+/// bytes.
+pub fn name_of_handle(directory: &[DirEntry], handle: u32) -> Name
+    ensures name { result ≡ name_of_handle directory.now handle }
+{
+    match directory.iter().find(|entry| entry.handle == handle) {
+        Some(entry) => entry.name,
+        None => Name::Handle(handle),
+    }
+}
+
+/// The same as `entity_of_name` for the directory of what a sight shows. No memory is taken.
+pub fn entity_in_sight(sight: &Sight, name: &Name) -> Option<u32>
+    ensures entity { result ≡ entity_in_sight sight.now name.now }
+{
+    if let Some(handle) = hierarchy_of_name(name) {
+        return Some(handle);
+    }
+    if let Some(object) = object_in_sight(sight, name) {
+        return Some(object.handle);
+    }
+    match index_in_sight(sight, name) {
+        Some(index) => Some(index.public.index),
+        None => None,
+    }
+}
+
+/// The first object of a sight with this Name; `None` for the Name of a hierarchy too.
+pub fn object_in_sight<'a>(sight: &'a Sight, name: &Name) -> Option<&'a ObjectEntry>
+    ensures object { option_copied result ≡ object_in_sight sight.now name.now }
+{
+    sight
+        .objects
+        .as_slice()
+        .iter()
+        .find(|object| object_name(&object.public) == *name)
+}
+
+/// The first index of a sight that has this Name once it is written.
+pub fn index_in_sight<'a>(sight: &'a Sight, name: &Name) -> Option<&'a IndexEntry>
+    ensures index { option_copied result ≡ index_in_sight sight.now name.now }
+{
+    sight
+        .indices
+        .as_slice()
+        .iter()
+        .find(|index| nv_name_once_written(&index.public) == *name)
+}
+
+fn hierarchy_of_name(name: &Name) -> Option<u32>
+    ensures { result ≡ hierarchy_of_name name.now }
+{
+    match name {
+        Name::Handle(handle) => match *handle {
+            TPM_RH_OWNER | TPM_RH_ENDORSEMENT | TPM_RH_LOCKOUT => Some(*handle),
+            _ => None,
+        },
+        Name::Empty | Name::Hash(_) => None,
+    }
+}

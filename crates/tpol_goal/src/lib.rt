@@ -1,0 +1,16 @@
+//! What a client may use (`Grants`) and what it wants (`Goal`), and how they meet the entities of a machine:
+//! the entity that a Name stands for, the authority of an index, and the Names of a goal's handles.
+//!
+//! The chooser of a path and the driver of a session cite the same definitions of this crate.
+#![tactic(auto)]
+
+mod entities;
+mod goal;
+mod grants;
+
+pub use entities::{
+    entity_in_sight, entity_of_name, index_in_sight, index_of_name, name_of_handle,
+    object_in_sight, object_of_name,
+};
+pub use goal::Goal;
+pub use grants::{Grants, Secrets};
