@@ -9,18 +9,20 @@ use Rattle.std.specs.Result.{result_err}
 use Rattle.tpol_wire.specs.declared.fault.WireFault.{WireFault}
 use Rattle.tpol_wire.specs.declared.fault.WireFault.TheVariants.{Refused, NoMemory}
 use Rattle.tpol_wire.specs.declared.command.Command.{Command}
-use Rattle.tpol_wire.specs.declared.command_code.CommandCode.{CommandCode}
-use Rattle.tpol_wire.specs.Areas.{authorization, authorization_at}
-use Rattle.tpol_wire.specs.Codes.{number_of_code, code_of_number}
+use Rattle.tpol_base.specs.declared.command_code.CommandCode.{CommandCode}
+use Rattle.tpol_wire.specs.Authorizations.{authorization, authorization_at}
+use Rattle.tpol_base.specs.CommandCode.{number_of_code, code_of_number}
 use Rattle.tpol_wire.specs.Commands.{Fields, spell_values, code_of_command, fields_of, command_of, tag, body, layout, FieldsFit, Spells}
 use Rattle.tpol_wire.specs.Kinds.{limit, number_at}
 use Rattle.tpol_wire.specs.Reading.{values_at, body_at, number_in, known, header_of, reading, wire_refusal}
-use Rattle.tpol_wire.specs.Refusals.{◌>>=◌, Gives, RefusesBy, bad_size, bad_tag, command_size}
+use Rattle.tpol_base.specs.Answers.{◌>>=◌}
+use Rattle.tpol_base.specs.ResponseCode.{of_handle, of_parameter, rc_size, rc_bad_tag, rc_command_size}
+use Rattle.tpol_wire.specs.Answers.{Gives, RefusesBy}
 use Rattle.tpol_wire.specs.Rows.{row}
 use Rattle.tpol_wire.proofs.Takes.{IsBytes, IsBytes-drop, bind_ok, chosen_ok, passed, neither, unnot, ok_is, Takes, Takes-then, IsWide, wide16, wide32, number_takes}
 use Rattle.tpol_wire.proofs.KindLaws.{both}
-use Rattle.tpol_wire.proofs.AreaLaws.{authorization_found, authorization_again, authorization_length}
-use Rattle.tpol_wire.proofs.Rows.{are_sound, values_found, values_again, values_length, greatest_lengths, sound_row, code_again, code_found, code_below, command_again, of_command}
+use Rattle.tpol_wire.proofs.AuthorizationLaws.{authorization_found, authorization_again, authorization_length}
+use Rattle.tpol_wire.proofs.RowLaws.{are_sound, values_found, values_again, values_length, greatest_lengths, sound_row, code_again, code_found, code_below, command_again, of_command}
 use Rattle.tpol_wire.proofs.Header.{header_taken}
 
 -- ---- the header
@@ -29,7 +31,7 @@ known_ok : (o : Option CommandCode) (announced : Bool) (x : CommandCode × Bool)
 known_ok None announced x e = absurd cc
 known_ok (Some code) announced x e = let p : (code, announced) ≡ x = ok_is (code, announced) x e in (ap (λ (y : CommandCode × Bool). Some y.0) p, ap (λ (y : CommandCode × Bool). y.1) p)
 
-tagged_ok : (t : ℕ) (o : Option CommandCode) (x : CommandCode × Bool) (a b : Bool) → eqb t (tag false) ≡ a → eqb t (tag true) ≡ b → cond a (known o false) (cond b (known o true) (Err bad_tag)) ≡ Ok x → (t ≡ tag x.1) × (o ≡ Some x.0)
+tagged_ok : (t : ℕ) (o : Option CommandCode) (x : CommandCode × Bool) (a b : Bool) → eqb t (tag false) ≡ a → eqb t (tag true) ≡ b → cond a (known o false) (cond b (known o true) (Err rc_bad_tag)) ≡ Ok x → (t ≡ tag x.1) × (o ≡ Some x.0)
 tagged_ok t o x true b h k e = let p = known_ok o false x e in (subst (λ (c : Bool). t ≡ tag c) p.1 (eqb-true _ _ h), p.0)
 tagged_ok t o x false true h k e = let p = known_ok o true x e in (subst (λ (c : Bool). t ≡ tag c) p.1 (eqb-true _ _ k), p.0)
 tagged_ok t o x false false h k e = absurd cc
@@ -60,8 +62,8 @@ header_found bytes x fits e =
     let lengths = ltb (length bytes) 10 || ltb 4096 (length bytes) in
     let t = number_in w16 0 bytes in
     let o = code_of_number (number_in w32 6 bytes) in
-    let rest = cond (eqb t (tag false)) (known o false) (cond (eqb t (tag true)) (known o true) (Err bad_tag)) in
-    let p = passed (lengths || not (eqb (number_in w32 2 bytes) (length bytes))) command_size rest x e in
+    let rest = cond (eqb t (tag false)) (known o false) (cond (eqb t (tag true)) (known o true) (Err rc_bad_tag)) in
+    let p = passed (lengths || not (eqb (number_in w32 2 bytes) (length bytes))) rc_command_size rest x e in
     let q = neither lengths (not (eqb (number_in w32 2 bytes) (length bytes))) p.0 in
     let r = neither (ltb (length bytes) 10) (ltb 4096 (length bytes)) q.0 in
     let long : 10 ≤ length bytes = ltb-false _ _ r.0 in
@@ -115,12 +117,12 @@ body_found code tagged bytes x fits e =
     let is = (row code).is_authorized in
     let s = both (are_sound h-kinds) (are_sound p-kinds && leb (greatest_lengths h-kinds + greatest_lengths p-kinds) 3900) (sound_row code) in
     let t = both (are_sound p-kinds) (leb (greatest_lengths h-kinds + greatest_lengths p-kinds) 3900) s.1 in
-    let h = bind_ok (values_at 0x100 h-kinds bytes) (λ handles. authorization_at is tagged handles.1 >>= λ area. values_at 0x140 p-kinds area.1 >>= λ parameters. Ok (command_of code (record { handles = handles.0; area = area.0; parameters = parameters.0 }), parameters.1)) x e in
-    let a = bind_ok (authorization_at is tagged h.0.1) (λ area. values_at 0x140 p-kinds area.1 >>= λ parameters. Ok (command_of code (record { handles = h.0.0; area = area.0; parameters = parameters.0 }), parameters.1)) x h.2 in
-    let p = bind_ok (values_at 0x140 p-kinds a.0.1) (λ parameters. Ok (command_of code (record { handles = h.0.0; area = a.0.0; parameters = parameters.0 }), parameters.1)) x a.2 in
-    let ht = values_found h-kinds 0x100 bytes h.0 s.0 fits h.1 in
+    let h = bind_ok (values_at (of_handle 1) h-kinds bytes) (λ handles. authorization_at is tagged handles.1 >>= λ area. values_at (of_parameter 1) p-kinds area.1 >>= λ parameters. Ok (command_of code (record { handles = handles.0; area = area.0; parameters = parameters.0 }), parameters.1)) x e in
+    let a = bind_ok (authorization_at is tagged h.0.1) (λ area. values_at (of_parameter 1) p-kinds area.1 >>= λ parameters. Ok (command_of code (record { handles = h.0.0; area = area.0; parameters = parameters.0 }), parameters.1)) x h.2 in
+    let p = bind_ok (values_at (of_parameter 1) p-kinds a.0.1) (λ parameters. Ok (command_of code (record { handles = h.0.0; area = a.0.0; parameters = parameters.0 }), parameters.1)) x a.2 in
+    let ht = values_found h-kinds (of_handle 1) bytes h.0 s.0 fits h.1 in
     let at = authorization_found is tagged h.0.1 a.0 ht.0.rest_fits a.1 in
-    let pt = values_found p-kinds 0x140 a.0.1 p.0 t.0 at.0.rest_fits p.1 in
+    let pt = values_found p-kinds (of_parameter 1) a.0.1 p.0 t.0 at.0.rest_fits p.1 in
     let fields : Fields (row code) = record { handles = h.0.0; area = a.0.0; parameters = p.0.0 } in
     let front = Takes-then bytes (spell_values h-kinds h.0.0) h.0.1 (authorization is a.0.0) a.0.1 ht.0 at.0 in
     let all = Takes-then bytes (spell_values h-kinds h.0.0 ++ authorization is a.0.0) a.0.1 (spell_values p-kinds p.0.0) p.0.1 front pt.0 in
@@ -145,9 +147,9 @@ body_again code fields fits =
     let A = authorization is fields.area in
     let P = spell_values p-kinds fields.parameters in
     let regrouped : body code fields ≡ H ++ (A ++ (P ++ [])) = append_assoc H A P ∙ ap (λ (r : List ℕ). H ++ (A ++ r)) (sym (append-nil P)) in
-    let one = values_again h-kinds 0x100 fields.handles (A ++ (P ++ [])) s.0 fits.handles in
+    let one = values_again h-kinds (of_handle 1) fields.handles (A ++ (P ++ [])) s.0 fits.handles in
     let two = authorization_again is fields.area (P ++ []) fits.area in
-    let three = values_again p-kinds 0x140 fields.parameters [] t.0 fits.parameters in
+    let three = values_again p-kinds (of_parameter 1) fields.parameters [] t.0 fits.parameters in
     ap (body_at code is) regrouped ∙ rw (one, two, three) refl
 
 body_length : (code : CommandCode) (fields : Fields (row code)) → FieldsFit code fields → length (body code fields) ≤ 4009
@@ -173,10 +175,10 @@ IsSpelled bytes code fields = (bytes ≡ layout code fields) × FieldsFit code f
 pub command_found : (bytes : List ℕ) (command : Command) → IsBytes bytes → reading bytes ≡ Ok command → Spells bytes command
 unfolding reading
 command_found bytes command fits e =
-    let h = bind_ok (header_of bytes) (λ header. body_at header.0 header.1 (drop 10 bytes) >>= λ found. cond (eqb (length found.1) 0) (Ok found.0) (Err bad_size)) command e in
+    let h = bind_ok (header_of bytes) (λ header. body_at header.0 header.1 (drop 10 bytes) >>= λ found. cond (eqb (length found.1) 0) (Ok found.0) (Err rc_size)) command e in
     let code = h.0.0 in
-    let b = bind_ok (body_at code h.0.1 (drop 10 bytes)) (λ found. cond (eqb (length found.1) 0) (Ok found.0) (Err bad_size)) command h.2 in
-    let g = chosen_ok (eqb (length b.0.1) 0) bad_size (Ok b.0.0) command b.2 in
+    let b = bind_ok (body_at code h.0.1 (drop 10 bytes)) (λ found. cond (eqb (length found.1) 0) (Ok found.0) (Err rc_size)) command h.2 in
+    let g = chosen_ok (eqb (length b.0.1) 0) rc_size (Ok b.0.0) command b.2 in
     let head-found = header_found bytes h.0 fits h.1 in
     let found = body_found code h.0.1 (drop 10 bytes) b.0 head-found.0.rest_fits b.1 in
     let nothing : b.0.1 ≡ [] = nil_from_length b.0.1 (eqb-true _ _ g.0) in

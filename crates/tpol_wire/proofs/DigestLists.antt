@@ -4,7 +4,8 @@ use Rattle.std.proofs.lemmas.List.{append-nil}
 use Rattle.tpol_base.specs.declared.digest.Digest32.{Digest32}
 use Rattle.tpol_wire.specs.declared.fault.WireFault.{WireFault}
 use Rattle.tpol_wire.specs.declared.fault.WireFault.TheVariants.{Refused, NoMemory}
-use Rattle.tpol_wire.specs.Refusals.{◌>>=◌, Fails}
+use Rattle.tpol_base.specs.Answers.{◌>>=◌}
+use Rattle.tpol_wire.specs.Answers.{Fails}
 use Rattle.tpol_wire.specs.Kinds.{listed_digest, digests_at}
 
 -- what was read before, and what is still read

@@ -2,7 +2,7 @@
 use Rattle.std.proofs.Common.{◌≡◌, ◌++◌, ◌∙◌, ℕ, List, refl, sym, ap, append_assoc}
 use Rattle.tpol_wire.specs.declared.command.Command.{Command}
 use Rattle.tpol_wire.specs.declared.command.Command.TheVariants as commands
-use Rattle.tpol_wire.specs.Areas.{authorization}
+use Rattle.tpol_wire.specs.Authorizations.{authorization}
 use Rattle.tpol_wire.specs.Commands.{code_of_command, fields_of, spell_front, spell_value, spell_values}
 use Rattle.tpol_wire.specs.Kinds.{spell}
 use Rattle.tpol_wire.specs.Rows.{row}
@@ -20,35 +20,7 @@ area_of command = authorization (row (code_of_command command)).is_authorized (f
 handles_apart : (command : Command) → handles_of command ≡ handle_at 0 command ++ (handle_at 1 command ++ handle_at 2 command)
 unfolding spell_value spell_values spell
 handles_apart (commands.StartAuthSession tpm_key bind nonce) = refl
-handles_apart (commands.FlushContext session) = refl
-handles_apart (commands.PolicyRestart session) = refl
-handles_apart (commands.PolicyGetDigest session) = refl
-handles_apart (commands.PcrExtend pcr auth digest) = refl
-handles_apart (commands.PcrRead mask) = refl
-handles_apart (commands.VerifySignature key digest signature) = refl
-handles_apart (commands.Unseal object auth) = refl
-handles_apart (commands.Hmac key auth buffer hash) = refl
-handles_apart (commands.NvRead authority index auth size offset) = refl
-handles_apart (commands.NvWrite authority index auth bytes offset) = refl
-handles_apart (commands.NvIncrement authority index auth) = refl
-handles_apart (commands.Duplicate object parent auth) = refl
-handles_apart (commands.PolicyNv authority index session auth operand offset operation) = refl
-handles_apart (commands.PolicyCpHash session digest) = refl
-handles_apart (commands.PolicyNameHash session digest) = refl
-handles_apart (commands.PolicyAuthValue session) = refl
-handles_apart (commands.PolicyPassword session) = refl
-handles_apart (commands.PolicyPhysicalPresence session) = refl
-handles_apart (commands.PolicyCommandCode session code) = refl
-handles_apart (commands.PolicyCounterTimer session operand offset operation) = refl
-handles_apart (commands.PolicyLocality session locality) = refl
-handles_apart (commands.PolicyPcr session given mask) = refl
-handles_apart (commands.PolicyDuplicationSelect session object parent include) = refl
-handles_apart (commands.PolicyNvWritten session written) = refl
-handles_apart (commands.PolicySigned key session nonce cp_hash policy_ref expiration signature) = refl
-handles_apart (commands.PolicySecret entity session auth nonce cp_hash policy_ref expiration) = refl
-handles_apart (commands.PolicyAuthorize session approved policy_ref key ticket) = refl
-handles_apart (commands.PolicyOr session digests) = refl
-handles_apart (commands.PolicyAuthorizeNv authority index session auth) = refl
+handles_apart command = refl
 
 joined : (o a b c d : List ℕ) → (((o ++ a) ++ b) ++ c) ++ d ≡ o ++ ((a ++ (b ++ c)) ++ d)
 joined o a b c d =

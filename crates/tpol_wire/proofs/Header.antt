@@ -6,7 +6,7 @@ use Rattle.std.proofs.lemmas.List.{length-drop}
 use Rattle.std.specs.Int.{w16, w32, from_be_bytes}
 use Rattle.std.proofs.lemmas.Bool.{le-ltb}
 use Rattle.std.proofs.lemmas.List.{drop-drop}
-use Rattle.tpol_wire.specs.Codes.{code_of_number}
+use Rattle.tpol_base.specs.CommandCode.{code_of_number}
 use Rattle.tpol_wire.specs.Commands.{tag}
 use Rattle.tpol_wire.specs.Reading.{header_of, known}
 
@@ -17,14 +17,14 @@ header_is false bytes n long short size tag-is code-is =
     let a : ltb (length bytes) 10 ≡ false = le-ltb (length bytes) 10 long in
     let b : ltb 4096 (length bytes) ≡ false = le-ltb 4096 (length bytes) short in
     let d : eqb (from_be_bytes w32 (take 4 (drop 2 bytes))) (length bytes) ≡ true = eq-eqb _ _ size in
-    let t : from_be_bytes w16 (take 2 bytes) ≡ 0x8001 = tag-is in
+    let t : from_be_bytes w16 (take 2 bytes) ≡ tag false = tag-is in
     let p : n ≡ from_be_bytes w32 (take 4 (drop 6 bytes)) = code-is ∙ ap (λ (l : List ℕ). from_be_bytes w32 (take 4 l)) (drop-drop 4 2 bytes) in
     rw (a, b, d, t, ← p) refl
 header_is true bytes n long short size tag-is code-is =
     let a : ltb (length bytes) 10 ≡ false = le-ltb (length bytes) 10 long in
     let b : ltb 4096 (length bytes) ≡ false = le-ltb 4096 (length bytes) short in
     let d : eqb (from_be_bytes w32 (take 4 (drop 2 bytes))) (length bytes) ≡ true = eq-eqb _ _ size in
-    let t : from_be_bytes w16 (take 2 bytes) ≡ 0x8002 = tag-is in
+    let t : from_be_bytes w16 (take 2 bytes) ≡ tag true = tag-is in
     let p : n ≡ from_be_bytes w32 (take 4 (drop 6 bytes)) = code-is ∙ ap (λ (l : List ℕ). from_be_bytes w32 (take 4 l)) (drop-drop 4 2 bytes) in
     rw (a, b, d, t, ← p) refl
 

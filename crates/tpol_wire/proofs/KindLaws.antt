@@ -1,7 +1,7 @@
 -- Each kind of field: what is read is what is spelled and fits, and what fits is read again from its spelling.
 use Rattle.std.proofs.Common.{◌≡◌, ◌⊎◌, ℕ, ℤ, zero, suc, ◌+◌, ◌*◌, ◌^◌, ◌%◌, ◌/◌, ◌<◌, ◌≤◌, Bool, true, false, cond, eqb, ltb, leb, ◌&&◌, ◌||◌, List, [], ◌∷◌, ◌++◌, length, drop, Option, Some, None, Ok, Err, refl, sym, ap, subst, ◌∙◌, append_assoc, arith, inl, inr, eq-eqb}
-use Rattle.std.specs.Prelude.{find, slice_index, FitsSigned}
-use Rattle.std.specs.Int.{Width, w8, w16, w32, byte_len, from_be_bytes, to_be_bytes, bytes_low_first, cast_signed, cast_unsigned}
+use Rattle.std.specs.Prelude.{find, slice_index, FitsSigned, IsTrue}
+use Rattle.std.specs.Int.{Width, w8, w16, w32, w64, byte_len, from_be_bytes, to_be_bytes, bytes_low_first, cast_signed, cast_unsigned}
 use Rattle.std.specs.List.{flat_map}
 use Rattle.std.proofs.lemmas.Bool.{eqb-true, ltb-true, leb-true, le-leb}
 use Rattle.std.proofs.Math.Facts.{sfits_to_z, Fits-of_z, Fits-of_lt, Fits-lt-pow}
@@ -15,12 +15,15 @@ use Rattle.tpol_base.specs.declared.name.Name.{Name}
 use Rattle.tpol_base.specs.declared.name.Name.TheVariants as names
 use Rattle.tpol_base.specs.Compare.{number_of_compare, comparisons, compare_of_number}
 use Rattle.tpol_base.specs.Digest.{digest_of_bytes}
+use Rattle.tpol_base.specs.Flag.{yes_no}
+use Rattle.tpol_base.specs.Handle.{rh_null, rh_owner}
 use Rattle.tpol_base.specs.Name.{name_bytes, name_of_bytes}
 use Rattle.tpol_base.proofs.Digests.{digest_of_whole, digest_again}
 use Rattle.tpol_wire.specs.declared.ticket.Ticket.{Ticket}
-use Rattle.tpol_wire.specs.Refusals.{◌>>=◌, bad_size, bad_value}
-use Rattle.tpol_wire.specs.Kinds.{Kind, Nothing, Number, Signed, Truth, Operation, Digest, Mask, Sized, Optional, Named, Ticketed, Digests, Behind, ValueOf, sized, truth_byte, optional_bytes, optional_of_bytes, mask_of_bytes, or_refused, spell, NameFits, TicketFits, Fits, limit, number_at, bytes_at, sized_at, is_any_length, is_digest_length, is_optional_length, listed_digest, digests_at, read}
-use Rattle.tpol_wire.proofs.Takes.{IsBytes, bind_ok, chosen_ok, ok_is, Takes, Takes-then, is_narrow, wide, wide8, wide16, wide32, number_takes, number_again, bytes_take, bytes_again, sized_takes, sized_again}
+use Rattle.tpol_base.specs.Answers.{◌>>=◌}
+use Rattle.tpol_base.specs.ResponseCode.{rc_size, rc_value}
+use Rattle.tpol_wire.specs.Kinds.{Kind, Nothing, Number, Signed, Truth, Operation, Digest, Mask, Sized, Optional, Named, Ticketed, TimedTicket, Digests, Behind, Together, ValueOf, sized, optional_bytes, optional_of_bytes, timeout_bytes, timeout_of_bytes, ticket_bytes, goes_with, TimeoutFits, mask_of_bytes, or_refused, spell, NameFits, TicketFits, Fits, limit, number_at, bytes_at, sized_at, is_any_length, is_digest_length, is_optional_length, is_timeout_length, listed_digest, digests_at, ticket_at, timeout_at, read}
+use Rattle.tpol_wire.proofs.Takes.{IsBytes, bind_ok, chosen_ok, ok_is, Takes, Takes-then, is_narrow, wide, wide8, wide16, wide32, wide64, number_takes, number_again, bytes_take, bytes_again, sized_takes, sized_again}
 
 -- ---- look-ups
 
@@ -45,6 +48,10 @@ both true true e = (refl, refl)
 both true false e = absurd cc
 both false b e = absurd cc
 
+pub either : (a b : Bool) → (a || b) ≡ true → (a ≡ true) ⊎ ((a ≡ false) × (b ≡ true))
+either true b e = inl refl
+either false b e = inr (refl, e)
+
 -- ---- comparisons and Names
 
 compare_found : (n : ℕ) (c : Compare) → compare_of_number n ≡ Some c → number_of_compare c ≡ n
@@ -54,31 +61,11 @@ compare_found n c e = eqb-true _ _ (find_passes (λ c. eqb (number_of_compare c)
 compare_again : (c : Compare) → compare_of_number (number_of_compare c) ≡ Some c
 unfolding compare_of_number
 compare_again Eq = refl
-compare_again Neq = refl
-compare_again SignedGt = refl
-compare_again UnsignedGt = refl
-compare_again SignedLt = refl
-compare_again UnsignedLt = refl
-compare_again SignedGe = refl
-compare_again UnsignedGe = refl
-compare_again SignedLe = refl
-compare_again UnsignedLe = refl
-compare_again BitSet = refl
-compare_again BitClear = refl
+compare_again comparison = refl
 
 compare_below : (c : Compare) → number_of_compare c < 2 ^ 16
 compare_below Eq = omega arith
-compare_below Neq = omega arith
-compare_below SignedGt = omega arith
-compare_below UnsignedGt = omega arith
-compare_below SignedLt = omega arith
-compare_below UnsignedLt = omega arith
-compare_below SignedGe = omega arith
-compare_below UnsignedGe = omega arith
-compare_below SignedLe = omega arith
-compare_below UnsignedLe = omega arith
-compare_below BitSet = omega arith
-compare_below BitClear = omega arith
+compare_below comparison = omega arith
 
 two_in_front : (bytes : List ℕ) → 2 ≤ length bytes → slice_index bytes 0 ∷ slice_index bytes 1 ∷ drop 2 bytes ≡ bytes
 two_in_front [] h = absurd (omega arith)
@@ -149,7 +136,7 @@ signed_found position bytes x fits e =
     subst (λ (y : ℤ × List ℕ). Takes bytes (to_be_bytes w32 (cast_unsigned w32 y.0)) y.1 × FitsSigned w32 y.0) (ok_is (cast_signed w32 b.0.0, b.0.1) x b.2)
     (subst (λ (n : ℕ). Takes bytes (to_be_bytes w32 n) b.0.1) (sym back) t.0, sfits_to_z {w = w32} (Fits-of_lt {w = w32} t.1))
 
-truth_back : (n : ℕ) → n < 2 → truth_byte (eqb n 1) ∷ [] ≡ to_be_bytes w8 n
+truth_back : (n : ℕ) → n < 2 → yes_no (eqb n 1) ∷ [] ≡ to_be_bytes w8 n
 truth_back zero lt = refl
 truth_back (suc zero) lt = refl
 truth_back (suc (suc n)) lt = absurd (omega arith)
@@ -157,17 +144,17 @@ truth_back (suc (suc n)) lt = absurd (omega arith)
 truth_found : (position : ℕ) (bytes : List ℕ) (x : Bool × List ℕ) → IsBytes bytes → read position Truth bytes ≡ Ok x → Found Truth bytes x
 unfolding read spell Fits
 truth_found position bytes x fits e =
-    let b = bind_ok (number_at position w8 bytes) (λ n. cond (ltb n.0 2) (Ok (eqb n.0 1, n.1)) (Err (bad_value + position))) x e in
-    let g = chosen_ok (ltb b.0.0 2) (bad_value + position) (Ok (eqb b.0.0 1, b.0.1)) x b.2 in
+    let b = bind_ok (number_at position w8 bytes) (λ n. cond (ltb n.0 2) (Ok (eqb n.0 1, n.1)) (Err (rc_value + position))) x e in
+    let g = chosen_ok (ltb b.0.0 2) (rc_value + position) (Ok (eqb b.0.0 1, b.0.1)) x b.2 in
     let t = number_takes position w8 wide8 bytes b.0.0 b.0.1 fits b.1 in
-    subst (λ (y : Bool × List ℕ). Takes bytes (truth_byte y.0 ∷ []) y.1 × Unit {0}) (ok_is (eqb b.0.0 1, b.0.1) x g.1)
+    subst (λ (y : Bool × List ℕ). Takes bytes (yes_no y.0 ∷ []) y.1 × Unit {0}) (ok_is (eqb b.0.0 1, b.0.1) x g.1)
     (subst (λ (text : List ℕ). Takes bytes text b.0.1) (sym (truth_back b.0.0 (ltb-true _ _ g.0))) t.0, tt)
 
 operation_found : (position : ℕ) (bytes : List ℕ) (x : Compare × List ℕ) → IsBytes bytes → read position Operation bytes ≡ Ok x → Found Operation bytes x
 unfolding read spell Fits
 operation_found position bytes x fits e =
-    let b = bind_ok (number_at position w16 bytes) (λ n. or_refused (compare_of_number n.0) (bad_value + position) n.1) x e in
-    let r = refused_ok (compare_of_number b.0.0) (bad_value + position) b.0.1 x b.2 in
+    let b = bind_ok (number_at position w16 bytes) (λ n. or_refused (compare_of_number n.0) (rc_value + position) n.1) x e in
+    let r = refused_ok (compare_of_number b.0.0) (rc_value + position) b.0.1 x b.2 in
     let t = number_takes position w16 wide16 bytes b.0.0 b.0.1 fits b.1 in
     (subst (λ (rest : List ℕ). Takes bytes (to_be_bytes w16 (number_of_compare x.0)) rest) r.1 (subst (λ (n : ℕ). Takes bytes (to_be_bytes w16 n) b.0.1) (sym (compare_found b.0.0 x.0 r.0)) t.0), tt)
 
@@ -208,10 +195,6 @@ sized_found position most bytes x fits e =
     let t = sized_takes position (λ n. leb n most) bytes x.0 x.1 fits e in
     (t.0, leb-true _ _ t.1)
 
-pub either : (a b : Bool) → (a || b) ≡ true → (a ≡ true) ⊎ ((a ≡ false) × (b ≡ true))
-either true b e = inl refl
-either false b e = inr (refl, e)
-
 optional_back : (bytes : List ℕ) → is_optional_length (length bytes) ≡ true → optional_bytes (optional_of_bytes bytes) ≡ bytes
 optional_back bytes ok =
     elim (either (eqb (length bytes) 0) (eqb (length bytes) 32) ok) [
@@ -230,14 +213,14 @@ optional_found position bytes x fits e =
 named_found : (position : ℕ) (bytes : List ℕ) (x : Name × List ℕ) → IsBytes bytes → read position Named bytes ≡ Ok x → Found Named bytes x
 unfolding read spell Fits
 named_found position bytes x fits e =
-    let b = bind_ok (sized_at position is_any_length bytes) (λ taken. or_refused (name_of_bytes taken.0) (bad_size + position) taken.1) x e in
+    let b = bind_ok (sized_at position is_any_length bytes) (λ taken. or_refused (name_of_bytes taken.0) (rc_size + position) taken.1) x e in
     let t = sized_takes position is_any_length bytes b.0.0 b.0.1 fits b.1 in
-    let r = refused_ok (name_of_bytes b.0.0) (bad_size + position) b.0.1 x b.2 in
+    let r = refused_ok (name_of_bytes b.0.0) (rc_size + position) b.0.1 x b.2 in
     let n = name_found b.0.0 x.0 t.2 r.0 in
     (subst (λ (rest : List ℕ). Takes bytes (sized (name_bytes x.0)) rest) r.1 (subst (λ (text : List ℕ). Takes bytes (sized text) b.0.1) (sym n.0) t.0), n.1)
 
-ticket_found : (position : ℕ) (bytes : List ℕ) (x : Ticket × List ℕ) → IsBytes bytes → read position Ticketed bytes ≡ Ok x → Found Ticketed bytes x
-unfolding read spell Fits
+ticket_found : (position : ℕ) (bytes : List ℕ) (x : Ticket × List ℕ) → IsBytes bytes → ticket_at position bytes ≡ Ok x → Takes bytes (ticket_bytes x.0) x.1 × TicketFits x.0
+unfolding ticket_at
 ticket_found position bytes x fits e =
     let a = bind_ok (number_at position w16 bytes) (λ tag. number_at position w32 tag.1 >>= λ hierarchy. sized_at position (λ n. leb n 64) hierarchy.1 >>= λ digest. Ok (record { tag = tag.0; hierarchy = hierarchy.0; digest = digest.0 }, digest.1)) x e in
     let b = bind_ok (number_at position w32 a.0.1) (λ hierarchy. sized_at position (λ n. leb n 64) hierarchy.1 >>= λ digest. Ok (record { tag = a.0.0; hierarchy = hierarchy.0; digest = digest.0 }, digest.1)) x a.2 in
@@ -248,7 +231,71 @@ ticket_found position bytes x fits e =
     let e01 = Takes-then bytes (to_be_bytes w16 a.0.0) a.0.1 (to_be_bytes w32 b.0.0) b.0.1 t0.0 t1.0 in
     let e02 = Takes-then bytes (to_be_bytes w16 a.0.0 ++ to_be_bytes w32 b.0.0) b.0.1 (sized c.0.0) c.0.1 e01 t2.0 in
     let made : Ticket × List ℕ = (record { tag = a.0.0; hierarchy = b.0.0; digest = c.0.0 }, c.0.1) in
-    subst (λ (y : Ticket × List ℕ). Takes bytes (to_be_bytes w16 y.0.tag ++ to_be_bytes w32 y.0.hierarchy ++ sized y.0.digest) y.1 × TicketFits y.0) (ok_is made x c.2) (e02, record { tag = t0.1; hierarchy = t1.1; digest = leb-true _ _ t2.1 })
+    subst (λ (y : Ticket × List ℕ). Takes bytes (ticket_bytes y.0) y.1 × TicketFits y.0) (ok_is made x c.2) (e02, record { tag = t0.1; hierarchy = t1.1; digest = leb-true _ _ t2.1 })
+
+ticket_again : (position : ℕ) (ticket : Ticket) (rest : List ℕ) → TicketFits ticket → ticket_at position (ticket_bytes ticket ++ rest) ≡ Ok (ticket, rest)
+unfolding ticket_at
+ticket_again position v rest fits =
+    let regrouped : ticket_bytes v ++ rest ≡ to_be_bytes w16 v.tag ++ (to_be_bytes w32 v.hierarchy ++ (sized v.digest ++ rest)) = simp append_assoc in
+    let short = fits.digest in
+    let one = number_again position w16 wide16 v.tag (to_be_bytes w32 v.hierarchy ++ (sized v.digest ++ rest)) fits.tag in
+    let two = number_again position w32 wide32 v.hierarchy (sized v.digest ++ rest) fits.hierarchy in
+    let three = sized_again position (λ n. leb n 64) v.digest rest (omega arith) (le-leb _ _ fits.digest) in
+    ap (ticket_at position) regrouped ∙ rw (one, two, three) refl
+
+-- ---- tickets with a deadline
+
+timeout_back : (bytes : List ℕ) → IsBytes bytes → is_timeout_length (length bytes) ≡ true → (timeout_bytes (timeout_of_bytes bytes) ≡ bytes) × TimeoutFits (timeout_of_bytes bytes)
+timeout_back bytes fits ok =
+    elim (either (eqb (length bytes) 0) (eqb (length bytes) 8) ok) [
+      | inl p ↦ rw p (sym (nil_from_length bytes (eqb-true _ _ p)), tt)
+      | inr q ↦ rw q.0 (wide64.back bytes (eqb-true _ _ q.1) fits, wide64.below bytes fits)
+    ]
+
+timeout_found : (position : ℕ) (bytes : List ℕ) (x : Option ℕ × List ℕ) → IsBytes bytes → timeout_at position bytes ≡ Ok x → Takes bytes (sized (timeout_bytes x.0)) x.1 × TimeoutFits x.0
+unfolding timeout_at
+timeout_found position bytes x fits e =
+    let b = bind_ok (sized_at position is_timeout_length bytes) (λ taken. Ok (timeout_of_bytes taken.0, taken.1)) x e in
+    let t = sized_takes position is_timeout_length bytes b.0.0 b.0.1 fits b.1 in
+    let back = timeout_back b.0.0 t.2 t.1 in
+    subst (λ (y : Option ℕ × List ℕ). Takes bytes (sized (timeout_bytes y.0)) y.1 × TimeoutFits y.0) (ok_is (timeout_of_bytes b.0.0, b.0.1) x b.2)
+    (subst (λ (text : List ℕ). Takes bytes (sized text) b.0.1) (sym back.0) t.0, back.1)
+
+timeout_again : (position : ℕ) (timeout : Option ℕ) (rest : List ℕ) → TimeoutFits timeout → timeout_at position (sized (timeout_bytes timeout) ++ rest) ≡ Ok (timeout, rest)
+unfolding timeout_at
+timeout_again position None rest fits =
+    let taken : sized_at position is_timeout_length (sized [] ++ rest) ≡ Ok ([], rest) = sized_again position is_timeout_length [] rest (omega arith) refl in
+    rw taken refl
+timeout_again position (Some deadline) rest fits =
+    let taken : sized_at position is_timeout_length (sized (to_be_bytes w64 deadline) ++ rest) ≡ Ok (to_be_bytes w64 deadline, rest) = sized_again position is_timeout_length (to_be_bytes w64 deadline) rest (omega arith) refl in
+    rw (taken, wide64.again deadline fits) refl
+
+abbrev Timed : Type 0
+Timed = (Option ℕ × Ticket) × List ℕ
+
+timed_ticket_found : (position tag : ℕ) (bytes : List ℕ) (x : Timed) → IsBytes bytes → read position (TimedTicket tag) bytes ≡ Ok x → Found (TimedTicket tag) bytes x
+unfolding read spell Fits
+timed_ticket_found position tag bytes x fits e =
+    let a = bind_ok (timeout_at position bytes) (λ timeout. ticket_at position timeout.1 >>= λ ticket. cond (eqb ticket.0.tag tag && goes_with timeout.0 ticket.0) (Ok ((timeout.0, ticket.0), ticket.1)) (Err (rc_value + position))) x e in
+    let b = bind_ok (ticket_at position a.0.1) (λ ticket. cond (eqb ticket.0.tag tag && goes_with a.0.0 ticket.0) (Ok ((a.0.0, ticket.0), ticket.1)) (Err (rc_value + position))) x a.2 in
+    let made : Timed = ((a.0.0, b.0.0), b.0.1) in
+    let g = chosen_ok (eqb b.0.0.tag tag && goes_with a.0.0 b.0.0) (rc_value + position) (Ok made) x b.2 in
+    let t0 = timeout_found position bytes a.0 fits a.1 in
+    let t1 = ticket_found position a.0.1 b.0 t0.0.rest_fits b.1 in
+    let joined = Takes-then bytes (sized (timeout_bytes a.0.0)) a.0.1 (ticket_bytes b.0.0) b.0.1 t0.0 t1.0 in
+    subst (λ (y : Timed). Takes bytes (sized (timeout_bytes y.0.0) ++ ticket_bytes y.0.1) y.1 × (TimeoutFits y.0.0 × TicketFits y.0.1 × IsTrue (eqb y.0.1.tag tag && goes_with y.0.0 y.0.1))) (ok_is made x g.1) (joined, (t0.1, t1.1, g.0))
+
+timed_ticket_again : (position tag : ℕ) (v : Option ℕ × Ticket) (rest : List ℕ) → Fits (TimedTicket tag) v → read position (TimedTicket tag) (spell (TimedTicket tag) v ++ rest) ≡ Ok (v, rest)
+unfolding read spell Fits
+timed_ticket_again position tag v rest fits =
+    let regrouped : (sized (timeout_bytes v.0) ++ ticket_bytes v.1) ++ rest ≡ sized (timeout_bytes v.0) ++ (ticket_bytes v.1 ++ rest) = append_assoc (sized (timeout_bytes v.0)) (ticket_bytes v.1) rest in
+    let one = timeout_again position v.0 (ticket_bytes v.1 ++ rest) fits.0 in
+    let two = ticket_again position v.1 rest fits.1 in
+    ap (read position (TimedTicket tag)) regrouped ∙ rw (one, two, fits.2) refl
+
+timeout_length : (timeout : Option ℕ) → length (timeout_bytes timeout) ≤ 8
+timeout_length None = omega arith
+timeout_length (Some deadline) = omega arith
 
 -- ---- lists of digests
 
@@ -293,8 +340,8 @@ digests_again position (d ∷ digests) rest =
 list_found : (position least most : ℕ) (bytes : List ℕ) (x : List Digest32 × List ℕ) → IsBytes bytes → read position (Digests least most) bytes ≡ Ok x → Found (Digests least most) bytes x
 unfolding read spell Fits
 list_found position least most bytes x fits e =
-    let b = bind_ok (number_at position w32 bytes) (λ n. cond (leb least n.0 && leb n.0 most) (digests_at position n.0 n.1) (Err (bad_size + position))) x e in
-    let g = chosen_ok (leb least b.0.0 && leb b.0.0 most) (bad_size + position) (digests_at position b.0.0 b.0.1) x b.2 in
+    let b = bind_ok (number_at position w32 bytes) (λ n. cond (leb least n.0 && leb n.0 most) (digests_at position n.0 n.1) (Err (rc_size + position))) x e in
+    let g = chosen_ok (leb least b.0.0 && leb b.0.0 most) (rc_size + position) (digests_at position b.0.0 b.0.1) x b.2 in
     let bounds = both (leb least b.0.0) (leb b.0.0 most) g.0 in
     let t = number_takes position w32 wide32 bytes b.0.0 b.0.1 fits b.1 in
     let l = digests_found position b.0.0 b.0.1 x t.0.rest_fits g.1 in
@@ -319,8 +366,10 @@ is_sound (Sized most) = ltb most (2 ^ 16)
 is_sound Optional = true
 is_sound Named = true
 is_sound Ticketed = true
+is_sound (TimedTicket tag) = true
 is_sound (Digests least most) = ltb most (2 ^ 32)
 is_sound (Behind w n code kind) = is_narrow w && (ltb n (limit w) && is_sound kind)
+is_sound (Together first second) = is_sound first && is_sound second
 
 pub kind_found : (kind : Kind) (position : ℕ) (bytes : List ℕ) (x : ValueOf kind × List ℕ) → is_sound kind ≡ true → IsBytes bytes → read position kind bytes ≡ Ok x → Takes bytes (spell kind x.0) x.1 × Fits kind x.0
 unfolding read spell Fits
@@ -336,6 +385,7 @@ kind_found (Sized most) position bytes x sound fits e = sized_found position mos
 kind_found Optional position bytes x sound fits e = optional_found position bytes x fits e
 kind_found Named position bytes x sound fits e = named_found position bytes x fits e
 kind_found Ticketed position bytes x sound fits e = ticket_found position bytes x fits e
+kind_found (TimedTicket tag) position bytes x sound fits e = timed_ticket_found position tag bytes x fits e
 kind_found (Digests least most) position bytes x sound fits e = list_found position least most bytes x fits e
 kind_found (Behind w n code kind) position bytes x sound fits e =
     let s = both (is_narrow w) (ltb n (limit w) && is_sound kind) sound in
@@ -346,6 +396,15 @@ kind_found (Behind w n code kind) position bytes x sound fits e =
     let inner = kind_found kind position b.0.1 x inner-sound t.0.rest_fits g.1 in
     let joined = Takes-then bytes (to_be_bytes w b.0.0) b.0.1 (spell kind x.0) x.1 t.0 inner.0 in
     (subst (λ (k : ℕ). Takes bytes (to_be_bytes w k ++ spell kind x.0) x.1) (eqb-true _ _ g.0) joined, inner.1)
+kind_found (Together first second) position bytes x sound fits e =
+    let s = both (is_sound first) (is_sound second) sound in
+    let a = bind_ok (read position first bytes) (λ a. read position second a.1 >>= λ b. Ok ((a.0, b.0), b.1)) x e in
+    let b = bind_ok (read position second a.0.1) (λ b. Ok ((a.0.0, b.0), b.1)) x a.2 in
+    let one = kind_found first position bytes a.0 s.0 fits a.1 in
+    let two = kind_found second position a.0.1 b.0 s.1 one.0.rest_fits b.1 in
+    let joined = Takes-then bytes (spell first a.0.0) a.0.1 (spell second b.0.0) b.0.1 one.0 two.0 in
+    let made : (ValueOf first × ValueOf second) × List ℕ = ((a.0.0, b.0.0), b.0.1) in
+    subst (λ (y : (ValueOf first × ValueOf second) × List ℕ). Takes bytes (spell first y.0.0 ++ spell second y.0.1) y.1 × (Fits first y.0.0 × Fits second y.0.1)) (ok_is made x b.2) (joined, (one.1, two.1))
 
 pub kind_again : (kind : Kind) (position : ℕ) (v : ValueOf kind) (rest : List ℕ) → is_sound kind ≡ true → Fits kind v → read position kind (spell kind v ++ rest) ≡ Ok (v, rest)
 unfolding read spell Fits
@@ -379,13 +438,8 @@ kind_again Optional position (Some d) rest sound fits =
 kind_again Named position v rest sound fits =
     let taken = sized_again position is_any_length (name_bytes v) rest (omega (arith, name_length v)) refl in
     rw (taken, name_again v fits) refl
-kind_again Ticketed position v rest sound fits =
-    let regrouped : (to_be_bytes w16 v.tag ++ to_be_bytes w32 v.hierarchy ++ sized v.digest) ++ rest ≡ to_be_bytes w16 v.tag ++ (to_be_bytes w32 v.hierarchy ++ (sized v.digest ++ rest)) = simp append_assoc in
-    let short = fits.digest in
-    let one = number_again position w16 wide16 v.tag (to_be_bytes w32 v.hierarchy ++ (sized v.digest ++ rest)) fits.tag in
-    let two = number_again position w32 wide32 v.hierarchy (sized v.digest ++ rest) fits.hierarchy in
-    let three = sized_again position (λ n. leb n 64) v.digest rest (omega arith) (le-leb _ _ fits.digest) in
-    ap (read position Ticketed) regrouped ∙ rw (one, two, three) refl
+kind_again Ticketed position v rest sound fits = ticket_again position v rest fits
+kind_again (TimedTicket tag) position v rest sound fits = timed_ticket_again position tag v rest fits
 kind_again (Digests least most) position v rest sound fits =
     let room : most < 2 ^ 32 = ltb-true _ _ sound in
     let low : leb least (length v) ≡ true = le-leb _ _ fits.0 in
@@ -401,6 +455,12 @@ kind_again (Behind w n code kind) position v rest sound fits =
     let one = number_again position w (wide w s.0) n (spell kind v ++ rest) (ltb-true _ _ t.0) in
     let same : eqb n n ≡ true = eq-eqb n n refl in
     ap (read position (Behind w n code kind)) regrouped ∙ rw (one, same, kind_again kind position v rest t.1 fits) refl
+kind_again (Together first second) position v rest sound fits =
+    let s = both (is_sound first) (is_sound second) sound in
+    let regrouped : (spell first v.0 ++ spell second v.1) ++ rest ≡ spell first v.0 ++ (spell second v.1 ++ rest) = append_assoc (spell first v.0) (spell second v.1) rest in
+    let one = kind_again first position v.0 (spell second v.1 ++ rest) s.0 fits.0 in
+    let two = kind_again second position v.1 rest s.1 fits.1 in
+    ap (read position (Together first second)) regrouped ∙ rw (one, two) refl
 
 -- ---- lengths
 
@@ -417,8 +477,10 @@ greatest_length (Sized most) = 2 + most
 greatest_length Optional = 34
 greatest_length Named = 36
 greatest_length Ticketed = 72
+greatest_length (TimedTicket tag) = 82
 greatest_length (Digests least most) = 4 + 34 * most
 greatest_length (Behind w n code kind) = byte_len w + greatest_length kind
+greatest_length (Together first second) = greatest_length first + greatest_length second
 
 length-listed : (digests : List Digest32) → length (flat_map listed digests) ≡ 34 * length digests
 length-listed [] = refl
@@ -443,6 +505,11 @@ kind_length Optional None sound fits = omega arith
 kind_length Optional (Some d) sound fits = omega (arith, d.whole)
 kind_length Named v sound fits = omega (arith, name_length v)
 kind_length Ticketed v sound fits = let short = fits.digest in omega arith
+kind_length (TimedTicket tag) v sound fits =
+    let short = fits.1.digest in
+    let time = timeout_length v.0 in
+    let l = length-append (sized (timeout_bytes v.0)) (ticket_bytes v.1) in
+    omega arith
 kind_length (Digests least most) v sound fits =
     let bound = fits.1 in
     let len = length-listed v in
@@ -453,4 +520,10 @@ kind_length (Behind w n code kind) v sound fits =
     let len = (wide w s.0).len n in
     let inner = kind_length kind v t.1 fits in
     let l = length-append (to_be_bytes w n) (spell kind v) in
+    omega arith
+kind_length (Together first second) v sound fits =
+    let s = both (is_sound first) (is_sound second) sound in
+    let one = kind_length first v.0 s.0 fits.0 in
+    let two = kind_length second v.1 s.1 fits.1 in
+    let l = length-append (spell first v.0) (spell second v.1) in
     omega arith

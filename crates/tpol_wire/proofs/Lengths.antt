@@ -2,8 +2,8 @@
 use Rattle.std.proofs.Common.{◌≡◌, ℕ, ◌+◌, ◌%◌, ◌/◌, ◌^◌, List, [], ◌++◌, length, ap, ◌∙◌, refl, arith}
 use Rattle.std.specs.Int.{w16, w32, to_be_bytes}
 use Rattle.tpol_wire.specs.declared.command.Command.{Command}
-use Rattle.tpol_wire.specs.declared.command_code.CommandCode.{CommandCode}
-use Rattle.tpol_wire.specs.Codes.{number_of_code}
+use Rattle.tpol_base.specs.declared.command_code.CommandCode.{CommandCode}
+use Rattle.tpol_base.specs.CommandCode.{number_of_code}
 use Rattle.tpol_wire.specs.Commands.{code_of_command, spelling, spell_front, spell_parameters, tag}
 use Rattle.tpol_wire.specs.Rows.{row}
 

@@ -3,8 +3,9 @@ use Rattle.std.proofs.Common.{◌≡◌, ℕ, ◌+◌, ◌^◌, ◌<◌, ◌≤�
 use Rattle.std.specs.Int.{Width, w8, w16, w32, w64, w128, byte_len, from_be_bytes, to_be_bytes}
 use Rattle.std.proofs.lemmas.Bool.{cases_lt, ltb-false, le-ltb}
 use Rattle.std.proofs.lemmas.List.{take_at, drop_at, take-append-drop, length-append, length-take, get_or-drop, get_or-take, get_or_past}
-use Rattle.std.proofs.lemmas.Nat.{be_bytes_2, be_bytes_4, from_be_bytes-to_be_bytes_2, from_be_bytes-to_be_bytes_4}
-use Rattle.tpol_wire.specs.Refusals.{◌>>=◌, insufficient, bad_size}
+use Rattle.std.proofs.lemmas.Nat.{be_bytes_2, be_bytes_4, be_bytes_8, from_be_bytes-to_be_bytes_2, from_be_bytes-to_be_bytes_4, from_be_bytes-to_be_bytes_8}
+use Rattle.tpol_base.specs.Answers.{◌>>=◌}
+use Rattle.tpol_base.specs.ResponseCode.{rc_insufficient, rc_size}
 use Rattle.tpol_wire.specs.Kinds.{sized, limit, number_at, bytes_at, sized_at}
 
 abbrev pub IsBytes : List ℕ → Type 0
@@ -75,7 +76,7 @@ abbrev pub is_narrow : Width → Bool
 is_narrow w8 = true
 is_narrow w16 = true
 is_narrow w32 = true
-is_narrow w64 = false
+is_narrow w64 = true
 is_narrow w128 = false
 
 byte_back : (bytes : List ℕ) → length bytes ≡ 1 → IsBytes bytes → to_be_bytes w8 (from_be_bytes w8 bytes) ≡ bytes
@@ -107,16 +108,24 @@ wide32 = record {
   below = λ bytes fits. omega (arith, fits 0, fits 1, fits 2, fits 3);
 }
 
+pub wide64 : IsWide w64
+wide64 = record {
+  len = λ n. refl;
+  back = λ bytes len fits. be_bytes_8 bytes _ len fits refl;
+  again = λ n lt. from_be_bytes-to_be_bytes_8 n lt;
+  below = λ bytes fits. omega (arith, fits 0, fits 1, fits 2, fits 3, fits 4, fits 5, fits 6, fits 7);
+}
+
 pub wide : (w : Width) → is_narrow w ≡ true → IsWide w
 wide w8 h = wide8
 wide w16 h = wide16
 wide w32 h = wide32
-wide w64 h = absurd cc
+wide w64 h = wide64
 wide w128 h = absurd cc
 
 pub number_takes : (position : ℕ) (w : Width) (wide : IsWide w) (bytes : List ℕ) (n : ℕ) (rest : List ℕ) → IsBytes bytes → number_at position w bytes ≡ Ok (n, rest) → Takes bytes (to_be_bytes w n) rest × (n < limit w)
 number_takes position w wide bytes n rest fits e =
-    let g = guard_ok (ltb (length bytes) (byte_len w)) (insufficient + position) (from_be_bytes w (take (byte_len w) bytes), drop (byte_len w) bytes) (n, rest) e in
+    let g = guard_ok (ltb (length bytes) (byte_len w)) (rc_insufficient + position) (from_be_bytes w (take (byte_len w) bytes), drop (byte_len w) bytes) (n, rest) e in
     let long : byte_len w ≤ length bytes = ltb-false _ _ g.0 in
     let n-is : from_be_bytes w (take (byte_len w) bytes) ≡ n = ap (λ (p : ℕ × List ℕ). p.0) g.1 in
     let rest-is : drop (byte_len w) bytes ≡ rest = ap (λ (p : ℕ × List ℕ). p.1) g.1 in
@@ -133,7 +142,7 @@ number_again position w wide n rest lt =
 
 pub bytes_take : (position n : ℕ) (bytes text rest : List ℕ) → IsBytes bytes → bytes_at position n bytes ≡ Ok (text, rest) → Takes bytes text rest × (length text ≡ n) × IsBytes text
 bytes_take position n bytes text rest fits e =
-    let g = guard_ok (ltb (length bytes) n) (insufficient + position) (take n bytes, drop n bytes) (text, rest) e in
+    let g = guard_ok (ltb (length bytes) n) (rc_insufficient + position) (take n bytes, drop n bytes) (text, rest) e in
     let long : n ≤ length bytes = ltb-false _ _ g.0 in
     let text-is : take n bytes ≡ text = ap (λ (p : List ℕ × List ℕ). p.0) g.1 in
     let rest-is : drop n bytes ≡ rest = ap (λ (p : List ℕ × List ℕ). p.1) g.1 in
@@ -147,10 +156,10 @@ bytes_again position n text rest len =
 pub sized_takes : (position : ℕ) (test : ℕ → Bool) (bytes text rest : List ℕ) → IsBytes bytes → sized_at position test bytes ≡ Ok (text, rest) → Takes bytes (sized text) rest × (test (length text) ≡ true) × IsBytes text × (length text < 2 ^ 16)
 unfolding sized_at
 sized_takes position test bytes text rest fits e =
-    let b = bind_ok (number_at position w16 bytes) (λ n. cond (test n.0) (bytes_at position n.0 n.1) (Err (bad_size + position))) (text, rest) e in
+    let b = bind_ok (number_at position w16 bytes) (λ n. cond (test n.0) (bytes_at position n.0 n.1) (Err (rc_size + position))) (text, rest) e in
     let n = b.0 in
     let t = number_takes position w16 wide16 bytes n.0 n.1 fits b.1 in
-    let g = chosen_ok (test n.0) (bad_size + position) (bytes_at position n.0 n.1) (text, rest) b.2 in
+    let g = chosen_ok (test n.0) (rc_size + position) (bytes_at position n.0 n.1) (text, rest) b.2 in
     let second = bytes_take position n.0 n.1 text rest t.0.rest_fits g.1 in
     let both = Takes-then bytes (to_be_bytes w16 n.0) n.1 text rest t.0 second.0 in
     let len : length text ≡ n.0 = second.1 in

@@ -1,12 +1,13 @@
 -- The fields of commands in their rows, and what bytes spell a command.
 use Rattle.std.specs.Prelude.{◌≡◌, ◌+◌, ℕ, zero, suc, Bool, true, false, List, [], ◌∷◌, ◌++◌, length}
 use Rattle.std.specs.Int.{w16, w32, to_be_bytes}
+use Rattle.tpol_base.specs.Constants.{st_no_sessions, st_sessions}
 use Rattle.tpol_wire.specs.declared.command.Command.{Command}
 use Rattle.tpol_wire.specs.declared.command.Command.TheVariants as commands
-use Rattle.tpol_wire.specs.declared.command_code.CommandCode.{CommandCode}
-use Rattle.tpol_wire.specs.declared.command_code.CommandCode.TheVariants as codes
-use Rattle.tpol_wire.specs.Areas.{AreaOf, authorization, AuthorizationFits}
-use Rattle.tpol_wire.specs.Codes.{number_of_code}
+use Rattle.tpol_base.specs.declared.command_code.CommandCode.{CommandCode}
+use Rattle.tpol_base.specs.declared.command_code.CommandCode.TheVariants as codes
+use Rattle.tpol_wire.specs.Authorizations.{AreaOf, authorization, AuthorizationFits}
+use Rattle.tpol_base.specs.CommandCode.{number_of_code}
 use Rattle.tpol_wire.specs.Kinds.{Kind, ValueOf, spell, Fits}
 use Rattle.tpol_wire.specs.Rows.{Row, row}
 
@@ -40,6 +41,8 @@ ValuesFit (kind ∷ kinds) values = Fits kind values.0 × ValuesFit kinds values
 abbrev pub code_of_command : Command → CommandCode
 code_of_command (commands.StartAuthSession tpm_key bind nonce) = codes.StartAuthSession
 code_of_command (commands.FlushContext session) = codes.FlushContext
+code_of_command (commands.ContextSave session) = codes.ContextSave
+code_of_command (commands.ContextLoad sequence session digest) = codes.ContextLoad
 code_of_command (commands.PolicyRestart session) = codes.PolicyRestart
 code_of_command (commands.PolicyGetDigest session) = codes.PolicyGetDigest
 code_of_command (commands.PcrExtend pcr auth digest) = codes.PcrExtend
@@ -65,6 +68,7 @@ code_of_command (commands.PolicyDuplicationSelect session object parent include)
 code_of_command (commands.PolicyNvWritten session written) = codes.PolicyNvWritten
 code_of_command (commands.PolicySigned key session nonce cp_hash policy_ref expiration signature) = codes.PolicySigned
 code_of_command (commands.PolicySecret entity session auth nonce cp_hash policy_ref expiration) = codes.PolicySecret
+code_of_command (commands.PolicyTicket session timeout cp_hash policy_ref key ticket) = codes.PolicyTicket
 code_of_command (commands.PolicyAuthorize session approved policy_ref key ticket) = codes.PolicyAuthorize
 code_of_command (commands.PolicyOr session digests) = codes.PolicyOr
 code_of_command (commands.PolicyAuthorizeNv authority index session auth) = codes.PolicyAuthorizeNv
@@ -73,6 +77,8 @@ code_of_command (commands.PolicyAuthorizeNv authority index session auth) = code
 abbrev pub fields_of : (command : Command) → Fields (row (code_of_command command))
 fields_of (commands.StartAuthSession tpm_key bind nonce) = record { handles = (tpm_key, (bind, tt)); area = tt; parameters = (nonce, (tt, (tt, (tt, (tt, tt))))) }
 fields_of (commands.FlushContext session) = record { handles = tt; area = tt; parameters = (session, tt) }
+fields_of (commands.ContextSave session) = record { handles = (session, tt); area = tt; parameters = tt }
+fields_of (commands.ContextLoad sequence session digest) = record { handles = tt; area = tt; parameters = ((sequence, (session, digest)), tt) }
 fields_of (commands.PolicyRestart session) = record { handles = (session, tt); area = tt; parameters = tt }
 fields_of (commands.PolicyGetDigest session) = record { handles = (session, tt); area = tt; parameters = tt }
 fields_of (commands.PcrExtend pcr auth digest) = record { handles = (pcr, tt); area = auth; parameters = (digest, tt) }
@@ -98,6 +104,7 @@ fields_of (commands.PolicyDuplicationSelect session object parent include) = rec
 fields_of (commands.PolicyNvWritten session written) = record { handles = (session, tt); area = tt; parameters = (written, tt) }
 fields_of (commands.PolicySigned key session nonce cp_hash policy_ref expiration signature) = record { handles = (key, (session, tt)); area = tt; parameters = (nonce, (cp_hash, (policy_ref, (expiration, (signature, tt))))) }
 fields_of (commands.PolicySecret entity session auth nonce cp_hash policy_ref expiration) = record { handles = (entity, (session, tt)); area = auth; parameters = (nonce, (cp_hash, (policy_ref, (expiration, tt)))) }
+fields_of (commands.PolicyTicket session timeout cp_hash policy_ref key ticket) = record { handles = (session, tt); area = tt; parameters = (timeout, (cp_hash, (policy_ref, (key, (ticket, tt))))) }
 fields_of (commands.PolicyAuthorize session approved policy_ref key ticket) = record { handles = (session, tt); area = tt; parameters = (approved, (policy_ref, (key, (ticket, tt)))) }
 fields_of (commands.PolicyOr session digests) = record { handles = (session, tt); area = tt; parameters = (digests, tt) }
 fields_of (commands.PolicyAuthorizeNv authority index session auth) = record { handles = (authority, (index, (session, tt))); area = auth; parameters = tt }
@@ -106,6 +113,8 @@ fields_of (commands.PolicyAuthorizeNv authority index session auth) = record { h
 abbrev pub command_of : (code : CommandCode) → Fields (row code) → Command
 command_of codes.StartAuthSession fields = commands.StartAuthSession fields.handles.0 fields.handles.1.0 fields.parameters.0
 command_of codes.FlushContext fields = commands.FlushContext fields.parameters.0
+command_of codes.ContextSave fields = commands.ContextSave fields.handles.0
+command_of codes.ContextLoad fields = commands.ContextLoad fields.parameters.0.0 fields.parameters.0.1.0 fields.parameters.0.1.1
 command_of codes.PolicyRestart fields = commands.PolicyRestart fields.handles.0
 command_of codes.PolicyGetDigest fields = commands.PolicyGetDigest fields.handles.0
 command_of codes.PcrExtend fields = commands.PcrExtend fields.handles.0 fields.area fields.parameters.0
@@ -131,6 +140,7 @@ command_of codes.PolicyDuplicationSelect fields = commands.PolicyDuplicationSele
 command_of codes.PolicyNvWritten fields = commands.PolicyNvWritten fields.handles.0 fields.parameters.0
 command_of codes.PolicySigned fields = commands.PolicySigned fields.handles.0 fields.handles.1.0 fields.parameters.0 fields.parameters.1.0 fields.parameters.1.1.0 fields.parameters.1.1.1.0 fields.parameters.1.1.1.1.0
 command_of codes.PolicySecret fields = commands.PolicySecret fields.handles.0 fields.handles.1.0 fields.area fields.parameters.0 fields.parameters.1.0 fields.parameters.1.1.0 fields.parameters.1.1.1.0
+command_of codes.PolicyTicket fields = commands.PolicyTicket fields.handles.0 fields.parameters.0 fields.parameters.1.0 fields.parameters.1.1.0 fields.parameters.1.1.1.0 fields.parameters.1.1.1.1.0
 command_of codes.PolicyAuthorize fields = commands.PolicyAuthorize fields.handles.0 fields.parameters.0 fields.parameters.1.0 fields.parameters.1.1.0 fields.parameters.1.1.1.0
 command_of codes.PolicyOr fields = commands.PolicyOr fields.handles.0 fields.parameters.0
 command_of codes.PolicyAuthorizeNv fields = commands.PolicyAuthorizeNv fields.handles.0 fields.handles.1.0 fields.handles.1.1.0 fields.area
@@ -139,8 +149,8 @@ command_of codes.PolicyAuthorizeNv fields = commands.PolicyAuthorizeNv fields.ha
 
 -- the tag of a command with an authorization, and of one without
 abbrev pub tag : Bool → ℕ
-tag true = 0x8002
-tag false = 0x8001
+tag true = st_sessions
+tag false = st_no_sessions
 
 -- handles, authorization and parameters
 abbrev pub body : (code : CommandCode) → Fields (row code) → List ℕ
@@ -166,25 +176,6 @@ spelling command = layout (code_of_command command) (fields_of command)
 -- the bytes of the parameters of a command
 abbrev pub spell_parameters : Command → List ℕ
 spell_parameters command = spell_values (row (code_of_command command)).parameters (fields_of command).parameters
-
--- a policy command other than PolicySigned and PolicySecret
-abbrev pub is_other_policy : CommandCode → Bool
-is_other_policy codes.StartAuthSession = false
-is_other_policy codes.FlushContext = false
-is_other_policy codes.PolicyRestart = false
-is_other_policy codes.PolicyGetDigest = false
-is_other_policy codes.PcrExtend = false
-is_other_policy codes.PcrRead = false
-is_other_policy codes.VerifySignature = false
-is_other_policy codes.Unseal = false
-is_other_policy codes.Hmac = false
-is_other_policy codes.NvRead = false
-is_other_policy codes.NvWrite = false
-is_other_policy codes.NvIncrement = false
-is_other_policy codes.Duplicate = false
-is_other_policy codes.PolicySigned = false
-is_other_policy codes.PolicySecret = false
-is_other_policy code = true
 
 -- the bytes of its handles and its authorization
 abbrev pub spell_front : Command → List ℕ

@@ -1,12 +1,10 @@
-pub mod Areas
-pub mod Codes
+pub mod Answers
+pub mod Authorizations
 pub mod Commands
-pub mod Handles
+pub mod HandleTypes
 pub mod Kinds
 pub mod Reading
-pub mod Refusals
 pub mod Replies
 pub mod ReplyReading
-pub mod ReplyWriting
 pub mod Rows
 pub mod Spellings

@@ -1,14 +1,17 @@
--- How bytes are read as a command, and the first rule that they break.
+-- How bytes are read as a command, and the first rule that they break; how the fields of a reply are read.
 use Rattle.std.specs.Prelude.{◌+◌, ◌==◌, ◌||◌, not, ℕ, Bool, true, false, List, [], ◌∷◌, length, take, drop, nat_lt, Option, Some, None, Result, Ok, Err, if◌then◌else◌}
 use Rattle.std.specs.Result.{result_err}
 use Rattle.std.specs.Int.{Width, w16, w32, byte_len, from_be_bytes}
 use Rattle.tpol_wire.specs.declared.command.Command.{Command}
-use Rattle.tpol_wire.specs.declared.command_code.CommandCode.{CommandCode}
-use Rattle.tpol_wire.specs.Areas.{authorization_at}
-use Rattle.tpol_wire.specs.Codes.{code_of_number}
+use Rattle.tpol_wire.specs.declared.reply.Reply.{Reply}
+use Rattle.tpol_base.specs.declared.command_code.CommandCode.{CommandCode}
+use Rattle.tpol_wire.specs.Authorizations.{authorization_at}
+use Rattle.tpol_base.specs.CommandCode.{code_of_number}
 use Rattle.tpol_wire.specs.Commands.{Values, command_of, tag}
 use Rattle.tpol_wire.specs.Kinds.{Kind, read}
-use Rattle.tpol_wire.specs.Refusals.{◌>>=◌, bad_size, bad_tag, command_code, command_size}
+use Rattle.tpol_base.specs.Answers.{◌>>=◌}
+use Rattle.tpol_base.specs.ResponseCode.{of_handle, of_parameter, rc_size, rc_bad_tag, rc_command_code, rc_command_size}
+use Rattle.tpol_wire.specs.Replies.{reply_of}
 use Rattle.tpol_wire.specs.Rows.{row}
 
 -- fields one after the other; the position of each is 0x100 more than that of the one before
@@ -22,10 +25,16 @@ values_at position (kind ∷ kinds) bytes = do
 -- what stands behind the header of a command: handles, the authorization where the tag says that there is one, parameters
 unfoldable pub body_at : CommandCode → Bool → List ℕ → Result (Command × List ℕ) ℕ
 body_at code tagged bytes = do
-  handles ← values_at 0x100 (row code).handles bytes
+  handles ← values_at (of_handle 1) (row code).handles bytes
   area ← authorization_at (row code).is_authorized tagged handles.1
-  parameters ← values_at 0x140 (row code).parameters area.1
+  parameters ← values_at (of_parameter 1) (row code).parameters area.1
   Ok (command_of code (record { handles = handles.0; area = area.0; parameters = parameters.0 }), parameters.1)
+
+-- the fields of a reply
+unfoldable pub reply_at : CommandCode → List ℕ → Result (Reply × List ℕ) ℕ
+reply_at code bytes = do
+  values ← values_at (of_parameter 1) (row code).reply bytes
+  Ok (reply_of code values.0, values.1)
 
 -- the number at a place
 abbrev pub number_in : Width → ℕ → List ℕ → ℕ
@@ -33,22 +42,22 @@ number_in w place bytes = from_be_bytes w (take (byte_len w) (drop place bytes))
 
 -- the code of a command of the table
 abbrev pub known : Option CommandCode → Bool → Result (CommandCode × Bool) ℕ
-known None tagged = Err command_code
+known None tagged = Err rc_command_code
 known (Some code) tagged = Ok (code, tagged)
 
 -- the command's code, and whether the tag says that there is an authorization
 unfoldable pub header_of : List ℕ → Result (CommandCode × Bool) ℕ
 header_of bytes =
-    if nat_lt (length bytes) 10 || nat_lt 4096 (length bytes) || not (number_in w32 2 bytes == length bytes) then Err command_size else (
+    if nat_lt (length bytes) 10 || nat_lt 4096 (length bytes) || not (number_in w32 2 bytes == length bytes) then Err rc_command_size else (
     if number_in w16 0 bytes == tag false then known (code_of_number (number_in w32 6 bytes)) false else (
-    if number_in w16 0 bytes == tag true then known (code_of_number (number_in w32 6 bytes)) true else Err bad_tag))
+    if number_in w16 0 bytes == tag true then known (code_of_number (number_in w32 6 bytes)) true else Err rc_bad_tag))
 
 -- the command that bytes spell, or the code of the first rule that they break
 unfoldable pub reading : List ℕ → Result Command ℕ
 reading bytes = do
   header ← header_of bytes
   found ← body_at header.0 header.1 (drop 10 bytes)
-  if length found.1 == 0 then Ok found.0 else Err bad_size
+  if length found.1 == 0 then Ok found.0 else Err rc_size
 
 -- the code of the first rule that is broken
 abbrev pub wire_refusal : List ℕ → Option ℕ

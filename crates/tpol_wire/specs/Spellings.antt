@@ -2,7 +2,7 @@
 use Rattle.std.specs.Prelude.{◌≡◌, ℕ, List, [], ◌++◌, true, Option, Some, None, Result, OnOk}
 use Rattle.std.specs.Int.{w32, to_be_bytes}
 use Rattle.tpol_wire.specs.declared.auth_area.AuthArea.{AuthArea}
-use Rattle.tpol_wire.specs.Areas.{authorization}
+use Rattle.tpol_wire.specs.Authorizations.{authorization}
 use Rattle.tpol_base.specs.declared.no_memory.NoMemory.{NoMemory}
 
 -- unless memory runs out, these bytes were added at the end

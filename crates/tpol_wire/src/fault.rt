@@ -1,4 +1,5 @@
 ghost use Rattle.std.specs.Prelude.{◌≡◌};
+ghost use Rattle.tpol_wire.specs.declared.fault.ReplyFault.TheVariants.{NoMemory as ReplyNoMemory};
 ghost use Rattle.tpol_wire.specs.declared.fault.WireFault.TheVariants.{NoMemory as WireNoMemory};
 
 use std::alloc::{AllocError, AllocFailed};
@@ -44,4 +45,12 @@ pub enum ReplyFault {
     Malformed,
     /// Memory ran out.
     NoMemory,
+}
+
+impl From<NoMemory> for ReplyFault {
+    ghost from_gives = { λ _ e. e ≡ ReplyNoMemory };
+
+    fn from(_: NoMemory) -> ReplyFault {
+        ReplyFault::NoMemory
+    }
 }

@@ -3,26 +3,20 @@
 //! crate, and the driver does the opposite.
 #![tactic(auto)]
 
-mod areas;
 mod auth_area;
-mod codes;
+mod authorization;
 mod command;
-mod command_code;
-mod constants;
+mod commands;
 mod fault;
 mod fields;
-mod handle_kind;
-mod indices;
+mod handle_type;
 mod laws;
-mod objects;
-mod pcrs;
-mod policies;
 mod reading;
 mod reply;
 mod reply_reading;
 mod reply_writing;
-mod sessions;
 mod spelling;
+mod table;
 mod ticket;
 mod writing;
 
@@ -33,7 +27,7 @@ pub use laws::one_spelling;
 pub use reading::read_command;
 pub use reply::Reply;
 pub use reply_reading::read_reply;
-pub use reply_writing::write_reply;
+pub use reply_writing::{fields_of, write_reply};
 pub use ticket::Ticket;
 pub use writing::{code_of, parameters_of, write_command};
 

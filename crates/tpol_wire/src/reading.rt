@@ -1,20 +1,27 @@
 //! Bytes as a command.
 
 ghost use Rattle.std.specs.Prelude.{◌≡◌, IfOk, OnOk, Ok, drop, length, List, ℕ};
+ghost use Rattle.tpol_base.specs.CommandCode.{code_of_number};
+ghost use Rattle.tpol_wire.specs.Answers.{Gives, Reads, RefusesBy};
 ghost use Rattle.tpol_wire.specs.Commands.{Spells};
 ghost use Rattle.tpol_wire.specs.declared.command.Command.{Command as CommandOf};
 ghost use Rattle.tpol_wire.specs.Reading.{body_at, header_of, known as known_code, reading, wire_refusal};
-ghost use Rattle.tpol_wire.specs.Codes.{code_of_number};
-ghost use Rattle.tpol_wire.specs.Refusals.{Gives, Reads, RefusesBy};
 
 use crate::command::Command;
-use crate::command_code::CommandCode;
-use crate::constants::{TPM_ST_NO_SESSIONS, TPM_ST_SESSIONS};
+use crate::commands::{
+    context_load, context_save, duplicate, flush_context, hmac, nv_increment, nv_read, nv_write,
+    pcr_extend, pcr_read, policy_auth_value, policy_authorize, policy_authorize_nv,
+    policy_command_code, policy_counter_timer, policy_cp_hash, policy_duplication_select,
+    policy_get_digest, policy_locality, policy_name_hash, policy_nv, policy_nv_written, policy_or,
+    policy_password, policy_pcr, policy_physical_presence, policy_restart, policy_secret,
+    policy_signed, policy_ticket, start_auth_session, unseal, verify_signature,
+};
 use crate::fault::WireFault;
 use crate::fields::refused;
-use crate::{codes, indices, objects, pcrs, policies, sessions};
 use std::alloc::Global;
-use tpol_base::Cursor;
+use tpol_base::constants::{TPM_ST_NO_SESSIONS, TPM_ST_SESSIONS};
+use tpol_base::response_code::{BAD_TAG, COMMAND_CODE, COMMAND_SIZE, SIZE};
+use tpol_base::{CommandCode, Cursor};
 
 /// The longest command.
 const MOST: usize = 4096;
@@ -27,24 +34,24 @@ fn header(cursor: &mut Cursor) -> Result<(CommandCode, bool), WireFault>
 {
     let length = cursor.left();
     if length > MOST {
-        return Err(refused(codes::COMMAND_SIZE));
+        return Err(refused(COMMAND_SIZE));
     }
     let Some(tag) = cursor.u16() else {
-        return Err(refused(codes::COMMAND_SIZE));
+        return Err(refused(COMMAND_SIZE));
     };
     let Some(size) = cursor.u32() else {
-        return Err(refused(codes::COMMAND_SIZE));
+        return Err(refused(COMMAND_SIZE));
     };
     let Some(code) = cursor.u32() else {
-        return Err(refused(codes::COMMAND_SIZE));
+        return Err(refused(COMMAND_SIZE));
     };
     if size as usize != length {
-        return Err(refused(codes::COMMAND_SIZE));
+        return Err(refused(COMMAND_SIZE));
     }
     match tag {
         TPM_ST_NO_SESSIONS => known(code, false),
         TPM_ST_SESSIONS => known(code, true),
-        _ => Err(refused(codes::BAD_TAG)),
+        _ => Err(refused(BAD_TAG)),
     }
 }
 
@@ -54,7 +61,7 @@ fn known(code: u32, tagged: bool) -> Result<(CommandCode, bool), WireFault>
 {
     match CommandCode::from_number(code) {
         Some(code) => Ok((code, tagged)),
-        None => Err(refused(codes::COMMAND_CODE)),
+        None => Err(refused(COMMAND_CODE)),
     }
 }
 
@@ -68,36 +75,39 @@ fn body(
     ensures { Reads result (body_at code tagged cursor.old) cursor.new }
 {
     match code {
-        CommandCode::StartAuthSession => sessions::start_auth_session(tagged, cursor),
-        CommandCode::FlushContext => sessions::flush_context(tagged, cursor),
-        CommandCode::PolicyRestart => sessions::policy_restart(tagged, cursor),
-        CommandCode::PolicyGetDigest => sessions::policy_get_digest(tagged, cursor),
-        CommandCode::VerifySignature => objects::verify_signature(tagged, cursor),
-        CommandCode::Unseal => objects::unseal(alloc, tagged, cursor),
-        CommandCode::Hmac => objects::hmac(alloc, tagged, cursor),
-        CommandCode::Duplicate => objects::duplicate(alloc, tagged, cursor),
-        CommandCode::PcrExtend => pcrs::pcr_extend(alloc, tagged, cursor),
-        CommandCode::PcrRead => pcrs::pcr_read(tagged, cursor),
-        CommandCode::NvRead => indices::nv_read(alloc, tagged, cursor),
-        CommandCode::NvWrite => indices::nv_write(alloc, tagged, cursor),
-        CommandCode::NvIncrement => indices::nv_increment(alloc, tagged, cursor),
-        CommandCode::PolicyNv => policies::policy_nv(alloc, tagged, cursor),
-        CommandCode::PolicyCpHash => policies::policy_cp_hash(tagged, cursor),
-        CommandCode::PolicyNameHash => policies::policy_name_hash(tagged, cursor),
-        CommandCode::PolicyAuthValue => policies::policy_auth_value(tagged, cursor),
-        CommandCode::PolicyPassword => policies::policy_password(tagged, cursor),
-        CommandCode::PolicyPhysicalPresence => policies::policy_physical_presence(tagged, cursor),
-        CommandCode::PolicyCommandCode => policies::policy_command_code(tagged, cursor),
-        CommandCode::PolicyCounterTimer => policies::policy_counter_timer(alloc, tagged, cursor),
-        CommandCode::PolicyLocality => policies::policy_locality(tagged, cursor),
-        CommandCode::PolicyPcr => policies::policy_pcr(tagged, cursor),
-        CommandCode::PolicyDuplicationSelect => policies::policy_duplication_select(tagged, cursor),
-        CommandCode::PolicyNvWritten => policies::policy_nv_written(tagged, cursor),
-        CommandCode::PolicySigned => policies::policy_signed(alloc, tagged, cursor),
-        CommandCode::PolicySecret => policies::policy_secret(alloc, tagged, cursor),
-        CommandCode::PolicyAuthorize => policies::policy_authorize(alloc, tagged, cursor),
-        CommandCode::PolicyOr => policies::policy_or(alloc, tagged, cursor),
-        CommandCode::PolicyAuthorizeNv => policies::policy_authorize_nv(alloc, tagged, cursor),
+        CommandCode::StartAuthSession => start_auth_session::read(tagged, cursor),
+        CommandCode::ContextSave => context_save::read(tagged, cursor),
+        CommandCode::ContextLoad => context_load::read(tagged, cursor),
+        CommandCode::FlushContext => flush_context::read(tagged, cursor),
+        CommandCode::PolicyRestart => policy_restart::read(tagged, cursor),
+        CommandCode::PolicyGetDigest => policy_get_digest::read(tagged, cursor),
+        CommandCode::PcrExtend => pcr_extend::read(alloc, tagged, cursor),
+        CommandCode::PcrRead => pcr_read::read(tagged, cursor),
+        CommandCode::VerifySignature => verify_signature::read(tagged, cursor),
+        CommandCode::Unseal => unseal::read(alloc, tagged, cursor),
+        CommandCode::Hmac => hmac::read(alloc, tagged, cursor),
+        CommandCode::NvRead => nv_read::read(alloc, tagged, cursor),
+        CommandCode::NvWrite => nv_write::read(alloc, tagged, cursor),
+        CommandCode::NvIncrement => nv_increment::read(alloc, tagged, cursor),
+        CommandCode::Duplicate => duplicate::read(alloc, tagged, cursor),
+        CommandCode::PolicyNv => policy_nv::read(alloc, tagged, cursor),
+        CommandCode::PolicyCpHash => policy_cp_hash::read(tagged, cursor),
+        CommandCode::PolicyNameHash => policy_name_hash::read(tagged, cursor),
+        CommandCode::PolicyAuthValue => policy_auth_value::read(tagged, cursor),
+        CommandCode::PolicyPassword => policy_password::read(tagged, cursor),
+        CommandCode::PolicyPhysicalPresence => policy_physical_presence::read(tagged, cursor),
+        CommandCode::PolicyCommandCode => policy_command_code::read(tagged, cursor),
+        CommandCode::PolicyCounterTimer => policy_counter_timer::read(alloc, tagged, cursor),
+        CommandCode::PolicyLocality => policy_locality::read(tagged, cursor),
+        CommandCode::PolicyPcr => policy_pcr::read(tagged, cursor),
+        CommandCode::PolicyDuplicationSelect => policy_duplication_select::read(tagged, cursor),
+        CommandCode::PolicyNvWritten => policy_nv_written::read(tagged, cursor),
+        CommandCode::PolicySigned => policy_signed::read(alloc, tagged, cursor),
+        CommandCode::PolicySecret => policy_secret::read(alloc, tagged, cursor),
+        CommandCode::PolicyTicket => policy_ticket::read(alloc, tagged, cursor),
+        CommandCode::PolicyAuthorize => policy_authorize::read(alloc, tagged, cursor),
+        CommandCode::PolicyOr => policy_or::read(alloc, tagged, cursor),
+        CommandCode::PolicyAuthorizeNv => policy_authorize_nv::read(alloc, tagged, cursor),
     }
 }
 
@@ -109,7 +119,7 @@ fn whole(alloc: Global, bytes: &[u8]) -> Result<Command, WireFault>
     let (code, tagged) = header(&mut cursor)?;
     let command = body(alloc, code, tagged, &mut cursor)?;
     if cursor.left() != 0 {
-        return Err(refused(codes::SIZE));
+        return Err(refused(SIZE));
     }
     Ok(command)
 }
@@ -126,6 +136,8 @@ fn whole(alloc: Global, bytes: &[u8]) -> Result<Command, WireFault>
 /// 7. each parameter is there and within its bounds;
 /// 8. no bytes are left over.
 pub fn read_command(alloc: Global, bytes: &[u8]) -> Result<Command, WireFault>
+    // The answer is a function of the bytes.
+    ensures reading { Gives result (reading bytes.now) }
     // The bytes spell the command,
     ensures found { IfOk result (λ command. Spells bytes.now command) }
     // and no other; a command that they spell is read, unless memory runs out.

@@ -2,19 +2,20 @@
 #![tactic(auto, unfolding(crate::specs::Kinds::spell))]
 
 ghost use Rattle.std.specs.Prelude.{◌≡◌, ◌++◌, ◌∷◌, [], OnOk, List, ℕ, length, true};
-ghost use Rattle.std.specs.Int.{w16, w32, to_be_bytes};
+ghost use Rattle.std.specs.Int.{w16, w32, w64, to_be_bytes};
 ghost use Rattle.std.specs.List.{flat_map};
-ghost use Rattle.tpol_wire.specs.Areas.{authorization, spell_tail};
-ghost use Rattle.tpol_wire.specs.Kinds.{spell, sized as sized_bytes, Signed, Truth, Operation, Digest, Mask, Sized, Optional, Named, Ticketed, Digests};
-ghost use Rattle.tpol_wire.specs.Rows.{byte as byte_kind, short as short_kind, long as long_kind, sized_digest as sized_digest_kind, one_digest as one_digest_kind, selection as selection_kind, signature as signature_kind};
+ghost use Rattle.tpol_wire.specs.Authorizations.{authorization, spell_tail};
+ghost use Rattle.tpol_wire.specs.Kinds.{spell, sized as sized_bytes, ticket_bytes, timeout_bytes, Signed, Truth, Operation, Digest, Mask, Sized, Optional, Named, Ticketed, Digests};
+ghost use Rattle.tpol_wire.specs.Rows.{byte as byte_kind, short as short_kind, long as long_kind, sized_digest as sized_digest_kind, one_digest as one_digest_kind, selection as selection_kind, signature as signature_kind, timeout as timeout_kind, context as context_kind};
 ghost use Rattle.tpol_wire.specs.Spellings.{Appends};
 
 use crate::auth_area::AuthArea;
-use crate::constants::{TPM_ALG_HMAC, TPM_ALG_SHA256};
 use crate::ticket::Ticket;
 use byteorder::{BigEndian, ByteOrder};
 use std::alloc::Global;
-use tpol_base::{Blob, Compare, Digest32, Digests, Name, NoMemory};
+use tpol_base::constants::{TPM_ALG_HMAC, TPM_ALG_SHA256};
+use tpol_base::handle::TPM_RH_NULL;
+use tpol_base::{Blob, Compare, Digest32, Digests, Name, NoMemory, pcr, yes_no};
 
 /// A number of two bytes.
 pub(crate) fn number16(out: &mut Blob, number: u16) -> Result<(), NoMemory>
@@ -31,6 +32,15 @@ pub(crate) fn number32(out: &mut Blob, number: u32) -> Result<(), NoMemory>
 {
     let mut bytes = [0; 4];
     BigEndian::write_u32(&mut bytes, number);
+    out.extend_from_slice(&bytes)
+}
+
+/// A number of eight bytes.
+fn number64(out: &mut Blob, number: u64) -> Result<(), NoMemory>
+    ensures { Appends result out.old out.new (to_be_bytes w64 number) }
+{
+    let mut bytes = [0; 8];
+    BigEndian::write_u64(&mut bytes, number);
     out.extend_from_slice(&bytes)
 }
 
@@ -74,7 +84,7 @@ pub(crate) fn signed(out: &mut Blob, number: i32) -> Result<(), NoMemory>
 pub(crate) fn truth(out: &mut Blob, truth: bool) -> Result<(), NoMemory>
     ensures { Appends result out.old out.new (spell Truth truth) }
 {
-    out.push(u8::from(truth))
+    out.push(yes_no(truth))
 }
 
 /// The number of a comparison.
@@ -106,18 +116,7 @@ pub(crate) fn optional(out: &mut Blob, given: &Option<Digest32>) -> Result<(), N
 pub(crate) fn name(out: &mut Blob, name: &Name) -> Result<(), NoMemory>
     ensures { Appends result out.old out.new (spell Named name.now) }
 {
-    match name {
-        Name::Empty => number16(out, 0),
-        Name::Handle(handle) => {
-            number16(out, 4)?;
-            number32(out, *handle)
-        }
-        Name::Hash(digest) => {
-            number16(out, 34)?;
-            number16(out, TPM_ALG_SHA256)?;
-            out.extend_from_slice(&digest.bytes)
-        }
-    }
+    sized(out, name.bytes().as_slice())
 }
 
 /// A ticket.
@@ -127,6 +126,44 @@ pub(crate) fn ticket(out: &mut Blob, ticket: &Ticket) -> Result<(), NoMemory>
     number16(out, ticket.tag)?;
     number32(out, ticket.hierarchy)?;
     sized(out, ticket.digest.as_slice())
+}
+
+/// A deadline.
+pub(crate) fn timeout(out: &mut Blob, deadline: u64) -> Result<(), NoMemory>
+    ensures { Appends result out.old out.new (spell timeout_kind deadline) }
+{
+    number16(out, 8)?;
+    number64(out, deadline)
+}
+
+/// A deadline or none, and the ticket that goes with it.
+pub(crate) fn timed_ticket(
+    out: &mut Blob,
+    deadline: Option<u64>,
+    given: &Ticket,
+) -> Result<(), NoMemory>
+    ensures { Appends result out.old out.new (sized_bytes (timeout_bytes deadline) ++ ticket_bytes given.now) }
+{
+    match deadline {
+        None => number16(out, 0)?,
+        Some(deadline) => timeout(out, deadline)?,
+    }
+    ticket(out, given)
+}
+
+/// The context of a session.
+pub(crate) fn context(
+    out: &mut Blob,
+    sequence: u64,
+    session: u32,
+    digest: &Digest32,
+) -> Result<(), NoMemory>
+    ensures { Appends result out.old out.new (spell context_kind (sequence, (session, digest.now))) }
+{
+    number64(out, sequence)?;
+    number32(out, session)?;
+    number32(out, TPM_RH_NULL)?;
+    sized_digest(out, digest)
 }
 
 /// One digest behind its count and its algorithm (TPML_DIGEST_VALUES).
@@ -142,15 +179,7 @@ pub(crate) fn digest_values(out: &mut Blob, digest: &Digest32) -> Result<(), NoM
 pub(crate) fn selection(out: &mut Blob, mask: u32) -> Result<(), NoMemory>
     ensures { Appends result out.old out.new (spell selection_kind mask) }
 {
-    number32(out, 1)?;
-    number16(out, TPM_ALG_SHA256)?;
-    let bytes = [
-        3,
-        (mask % 256) as u8,
-        (mask / 256 % 256) as u8,
-        (mask / 65536 % 256) as u8,
-    ];
-    out.extend_from_slice(&bytes)
+    out.extend_from_slice(&pcr::selection(mask))
 }
 
 /// An HMAC with SHA-256.

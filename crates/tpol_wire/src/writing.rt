@@ -1,18 +1,24 @@
 //! Commands as bytes.
 
-ghost use Rattle.std.specs.Prelude.{◌≡◌, IfOk, List, ℕ, [], option_copied, true};
-ghost use Rattle.tpol_wire.specs.Areas.{authorization};
-ghost use Rattle.tpol_wire.specs.Codes.{number_of_code};
-ghost use Rattle.tpol_wire.specs.Commands.{code_of_command, FitsCommand, fields_of, is_other_policy, spelling as spelled, Spells, spell_front, spell_parameters, spell_value, spell_values, tag};
+ghost use Rattle.std.specs.Prelude.{◌≡◌, IfOk, List, ℕ, option_copied, true, false};
+ghost use Rattle.tpol_base.specs.CommandCode.{number_of_code};
+ghost use Rattle.tpol_wire.specs.Authorizations.{authorization};
+ghost use Rattle.tpol_wire.specs.Commands.{code_of_command, FitsCommand, fields_of, spelling as spelled, Spells, spell_front, spell_parameters, spell_value, spell_values, tag};
 ghost use Rattle.tpol_wire.specs.Rows.{row};
 ghost use Rattle.tpol_wire.specs.Spellings.{Appends, spell_handle, spell_optional_area};
 
 use crate::auth_area::AuthArea;
 use crate::command::Command;
-use crate::command_code::CommandCode;
-use crate::{indices, objects, pcrs, policies, sessions, spelling};
+use crate::commands::{
+    context_load, duplicate, flush_context, hmac, nv_read, nv_write, pcr_extend, pcr_read,
+    policy_authorize, policy_command_code, policy_counter_timer, policy_cp_hash,
+    policy_duplication_select, policy_locality, policy_name_hash, policy_nv, policy_nv_written,
+    policy_or, policy_pcr, policy_secret, policy_signed, policy_ticket, start_auth_session,
+    verify_signature,
+};
+use crate::{spelling, table};
 use std::alloc::Global;
-use tpol_base::{Blob, NoMemory};
+use tpol_base::{Blob, CommandCode, NoMemory};
 
 /// Which command it is.
 fn command_code(command: &Command) -> CommandCode
@@ -20,6 +26,8 @@ fn command_code(command: &Command) -> CommandCode
 {
     match command {
         Command::StartAuthSession { .. } => CommandCode::StartAuthSession,
+        Command::ContextSave { .. } => CommandCode::ContextSave,
+        Command::ContextLoad { .. } => CommandCode::ContextLoad,
         Command::FlushContext { .. } => CommandCode::FlushContext,
         Command::PolicyRestart { .. } => CommandCode::PolicyRestart,
         Command::PolicyGetDigest { .. } => CommandCode::PolicyGetDigest,
@@ -46,6 +54,7 @@ fn command_code(command: &Command) -> CommandCode
         Command::PolicyNvWritten { .. } => CommandCode::PolicyNvWritten,
         Command::PolicySigned { .. } => CommandCode::PolicySigned,
         Command::PolicySecret { .. } => CommandCode::PolicySecret,
+        Command::PolicyTicket { .. } => CommandCode::PolicyTicket,
         Command::PolicyAuthorize { .. } => CommandCode::PolicyAuthorize,
         Command::PolicyOr { .. } => CommandCode::PolicyOr,
         Command::PolicyAuthorizeNv { .. } => CommandCode::PolicyAuthorizeNv,
@@ -65,7 +74,8 @@ fn first_handle(command: &Command) -> Option<u32>
     ensures { spell_handle result ≡ spell_value 0 (row (code_of_command command.now)).handles (fields_of command.now).handles }
 {
     match command {
-        Command::FlushContext { .. } | Command::PcrRead { .. } => None,
+        Command::FlushContext { .. } | Command::ContextLoad { .. } | Command::PcrRead { .. } =>
+            None,
         Command::StartAuthSession { tpm_key, .. } => Some(*tpm_key),
         Command::PcrExtend { pcr, .. } => Some(*pcr),
         Command::PolicySecret { entity, .. } => Some(*entity),
@@ -78,7 +88,8 @@ fn first_handle(command: &Command) -> Option<u32>
         | Command::NvIncrement { authority, .. }
         | Command::PolicyNv { authority, .. }
         | Command::PolicyAuthorizeNv { authority, .. } => Some(*authority),
-        Command::PolicyRestart { session }
+        Command::ContextSave { session }
+        | Command::PolicyRestart { session }
         | Command::PolicyGetDigest { session }
         | Command::PolicyCpHash { session, .. }
         | Command::PolicyNameHash { session, .. }
@@ -91,6 +102,7 @@ fn first_handle(command: &Command) -> Option<u32>
         | Command::PolicyPcr { session, .. }
         | Command::PolicyDuplicationSelect { session, .. }
         | Command::PolicyNvWritten { session, .. }
+        | Command::PolicyTicket { session, .. }
         | Command::PolicyAuthorize { session, .. }
         | Command::PolicyOr { session, .. } => Some(*session),
     }
@@ -172,37 +184,82 @@ fn front(alloc: Global, out: &mut Blob, command: &Command) -> Result<(), NoMemor
     }
 }
 
-/// No parameters.
-#[tactic(auto, unfolding(crate::specs::Commands::spell_values))]
-fn nothing(out: &mut Blob) -> Result<(), NoMemory>
-    ensures { Appends result out.old out.new (spell_values [] tt) }
-{
-    let _ = out;
-    Ok(())
-}
-
 /// The parameters of a command.
 fn parameters(out: &mut Blob, command: &Command) -> Result<(), NoMemory>
     ensures { Appends result out.old out.new (spell_parameters command.now) }
 {
+    if table::is_authorized(command_code(command)) {
+        authorized_parameters(out, command)
+    } else {
+        plain_parameters(out, command)
+    }
+}
+
+/// The parameters of a command with an authorization.
+fn authorized_parameters(out: &mut Blob, command: &Command) -> Result<(), NoMemory>
+    requires { (row (code_of_command command.now)).is_authorized ≡ true }
+    ensures { Appends result out.old out.new (spell_parameters command.now) }
+{
     match command {
-        Command::PolicyRestart { .. }
-        | Command::PolicyGetDigest { .. }
-        | Command::Unseal { .. }
-        | Command::NvIncrement { .. } => nothing(out),
-        Command::StartAuthSession { nonce, .. } => sessions::write_start_auth_session(out, nonce),
-        Command::FlushContext { session } => sessions::write_flush_context(out, *session),
-        Command::PcrExtend { digest, .. } => pcrs::write_pcr_extend(out, digest),
-        Command::PcrRead { mask } => pcrs::write_pcr_read(out, *mask),
+        Command::PcrExtend { digest, .. } => pcr_extend::write(out, digest),
+        Command::Hmac { buffer, hash, .. } => hmac::write(out, buffer, *hash),
+        Command::NvRead { size, offset, .. } => nv_read::write(out, *size, *offset),
+        Command::NvWrite { bytes, offset, .. } => nv_write::write(out, bytes, *offset),
+        Command::Duplicate { .. } => duplicate::write(out),
+        Command::PolicyNv {
+            operand,
+            offset,
+            operation,
+            ..
+        } => policy_nv::write(out, operand, *offset, *operation),
+        Command::PolicySecret {
+            nonce,
+            cp_hash,
+            policy_ref,
+            expiration,
+            ..
+        } => policy_secret::write(out, nonce, cp_hash, policy_ref, expiration),
+        _ => Ok(()),
+    }
+}
+
+/// The parameters of a command without an authorization.
+fn plain_parameters(out: &mut Blob, command: &Command) -> Result<(), NoMemory>
+    requires { (row (code_of_command command.now)).is_authorized ≡ false }
+    ensures { Appends result out.old out.new (spell_parameters command.now) }
+{
+    match command {
+        Command::StartAuthSession { nonce, .. } => start_auth_session::write(out, nonce),
+        Command::ContextLoad {
+            sequence,
+            session,
+            digest,
+        } => context_load::write(out, *sequence, *session, digest),
+        Command::FlushContext { session } => flush_context::write(out, *session),
+        Command::PcrRead { mask } => pcr_read::write(out, *mask),
         Command::VerifySignature {
             digest,
             signature,
             ..
-        } => objects::write_verify_signature(out, digest, signature),
-        Command::Hmac { buffer, hash, .. } => objects::write_hmac(out, buffer, *hash),
-        Command::NvRead { size, offset, .. } => indices::write_nv_read(out, *size, *offset),
-        Command::NvWrite { bytes, offset, .. } => indices::write_nv_write(out, bytes, *offset),
-        Command::Duplicate { .. } => objects::write_duplicate(out),
+        } => verify_signature::write(out, digest, signature),
+        Command::PolicyCpHash { digest, .. } => policy_cp_hash::write(out, digest),
+        Command::PolicyNameHash { digest, .. } => policy_name_hash::write(out, digest),
+        Command::PolicyCommandCode { code, .. } => policy_command_code::write(out, *code),
+        Command::PolicyCounterTimer {
+            operand,
+            offset,
+            operation,
+            ..
+        } => policy_counter_timer::write(out, operand, *offset, *operation),
+        Command::PolicyLocality { locality, .. } => policy_locality::write(out, *locality),
+        Command::PolicyPcr { given, mask, .. } => policy_pcr::write(out, given, *mask),
+        Command::PolicyDuplicationSelect {
+            object,
+            parent,
+            include,
+            ..
+        } => policy_duplication_select::write(out, object, parent, *include),
+        Command::PolicyNvWritten { written, .. } => policy_nv_written::write(out, *written),
         Command::PolicySigned {
             nonce,
             cp_hash,
@@ -210,58 +267,24 @@ fn parameters(out: &mut Blob, command: &Command) -> Result<(), NoMemory>
             expiration,
             signature,
             ..
-        } => policies::write_policy_signed(out, nonce, cp_hash, policy_ref, expiration, signature),
-        Command::PolicySecret {
-            nonce,
+        } => policy_signed::write(out, nonce, cp_hash, policy_ref, expiration, signature),
+        Command::PolicyTicket {
+            timeout,
             cp_hash,
             policy_ref,
-            expiration,
+            key,
+            ticket,
             ..
-        } => policies::write_policy_secret(out, nonce, cp_hash, policy_ref, expiration),
-        _ => policy_parameters(out, command),
-    }
-}
-
-/// The parameters of a policy command other than PolicySigned and PolicySecret.
-fn policy_parameters(out: &mut Blob, command: &Command) -> Result<(), NoMemory>
-    requires { is_other_policy (code_of_command command.now) ≡ true }
-    ensures { Appends result out.old out.new (spell_parameters command.now) }
-{
-    match command {
-        Command::PolicyNv {
-            operand,
-            offset,
-            operation,
-            ..
-        }
-        | Command::PolicyCounterTimer {
-            operand,
-            offset,
-            operation,
-            ..
-        } => policies::write_comparison(out, operand, *offset, *operation),
-        Command::PolicyCpHash { digest, .. } | Command::PolicyNameHash { digest, .. } => {
-            policies::write_digest(out, digest)
-        }
-        Command::PolicyCommandCode { code, .. } => policies::write_policy_command_code(out, *code),
-        Command::PolicyLocality { locality, .. } => policies::write_policy_locality(out, *locality),
-        Command::PolicyPcr { given, mask, .. } => policies::write_policy_pcr(out, given, *mask),
-        Command::PolicyDuplicationSelect {
-            object,
-            parent,
-            include,
-            ..
-        } => policies::write_policy_duplication_select(out, object, parent, *include),
-        Command::PolicyNvWritten { written, .. } => policies::write_nv_written(out, *written),
+        } => policy_ticket::write(out, *timeout, cp_hash, policy_ref, key, ticket),
         Command::PolicyAuthorize {
             approved,
             policy_ref,
             key,
             ticket,
             ..
-        } => policies::write_policy_authorize(out, approved, policy_ref, key, ticket),
-        Command::PolicyOr { digests, .. } => policies::write_policy_or(out, digests),
-        _ => nothing(out),
+        } => policy_authorize::write(out, approved, policy_ref, key, ticket),
+        Command::PolicyOr { digests, .. } => policy_or::write(out, digests),
+        _ => Ok(()),
     }
 }
 
@@ -284,7 +307,7 @@ pub fn write_command(alloc: Global, command: &Command) -> Result<Blob, NoMemory>
     parameters(&mut body, command)?;
     let code = command_code(command);
     let mut out = Blob::new(alloc);
-    spelling::number16(&mut out, code.tag())?;
+    spelling::number16(&mut out, table::tag_of(code))?;
     // The remainder keeps the sum within a usize; of the sum the last four bytes are written.
     spelling::length32(&mut out, 10 + body.len() % 0x1_0000_0000)?;
     spelling::number32(&mut out, code.number())?;

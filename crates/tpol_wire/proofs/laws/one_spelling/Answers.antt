@@ -2,7 +2,7 @@ use Rattle.std.proofs.Common.{sym, ap, ◌∙◌}
 use Rattle.std.specs.Result.{result_err}
 use Rattle.tpol_wire.proofs.Takes.{ok_is}
 use Rattle.tpol_wire.proofs.CommandLaws.{command_read}
-use Rattle.tpol_wire.proofs.ReplyLaws.{reply_read}
+use Rattle.tpol_wire.proofs.ReplyLaws.{reply_read, some_is}
 use Rattle.tpol_wire.proofs.laws.one_spelling.Goals as goal
 
 pub returns-clause-one_text : goal.returns-clause-one_text
@@ -19,5 +19,5 @@ returns-clause-one_reply_text c = λ code other a b reply auth p q. p.whole ∙ 
 
 pub returns-clause-one_reply : goal.returns-clause-one_reply
 returns-clause-one_reply c = λ code bytes reply other auth area p q.
-    let same = ok_is (reply, auth) (other, area) (sym (reply_read code bytes reply auth p) ∙ reply_read code bytes other area q) in
+    let same = some_is (reply, auth) (other, area) (sym (reply_read code bytes reply auth p) ∙ reply_read code bytes other area q) in
     (ap (λ x. x.0) same, ap (λ x. x.1) same)

@@ -5,8 +5,8 @@ use Rattle.tpol_wire.proofs.ReplyWriting.{served_written, reply_spelled}
 use Rattle.tpol_wire.proofs.reply_writing.write_reply.Goals as goal
 
 is_spelled : (c : goal.After-drop-body-inside) → IfOk c.layout.result (λ bytes. bytes ≡ spell_reply c.args.reply.now (option_copied c.args.auth))
-is_spelled c = served_written (parts_of c.args.reply.now) (option_copied c.args.auth) c.in-Ok.command c.tag.result c.as_slice.result.now c.layout.result
-    c.in-Ok.ensures c.tag.ensures (c.as_slice.ensures ∙ c.in_ok-body-in-Ok.ensures) c.layout.ensures
+is_spelled c = served_written (parts_of c.args.reply.now) (option_copied c.args.auth) c.in-Ok.command c.tag_of.result c.as_slice.result.now c.layout.result
+    c.in-Ok.ensures c.tag_of.ensures (c.as_slice.ensures ∙ c.in_ok-body-in-Ok.ensures) c.layout.ensures
 
 pub returns-in_ok-body-in-Ok-clause-spelling : goal.returns-in_ok-body-in-Ok-clause-spelling
 returns-in_ok-body-in-Ok-clause-spelling c = is_spelled c

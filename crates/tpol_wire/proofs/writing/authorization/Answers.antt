@@ -1,6 +1,6 @@
 use Rattle.std.proofs.Common.{ℕ, List, ap, sym, ⊎_elim}
 use Rattle.tpol_wire.specs.declared.command.Command.{Command}
-use Rattle.tpol_wire.specs.Areas.{authorization}
+use Rattle.tpol_wire.specs.Authorizations.{authorization}
 use Rattle.tpol_wire.specs.Commands.{code_of_command, fields_of}
 use Rattle.tpol_wire.specs.Rows.{row}
 use Rattle.tpol_wire.proofs.writing.authorization.Goals as goal

@@ -42,9 +42,10 @@ returns-in-NvRead c = sym (
     ⊎_elim (λ x. ap first x.6) (
     λ x. ap first x.3)))) c.in-NvRead.is)
 
-pub returns-in-PolicyRestart : goal.returns-in-PolicyRestart
+pub returns-in-ContextSave : goal.returns-in-ContextSave
 unfolding spell_value spell
-returns-in-PolicyRestart c = sym (
+returns-in-ContextSave c = sym (
+    ⊎_elim (λ x. ap first x) (
     ⊎_elim (λ x. ap first x) (
     ⊎_elim (λ x. ap first x) (
     ⊎_elim (λ x. ap first x.1) (
@@ -58,5 +59,6 @@ returns-in-PolicyRestart c = sym (
     ⊎_elim (λ x. ap first x.2) (
     ⊎_elim (λ x. ap first x.3) (
     ⊎_elim (λ x. ap first x.1) (
+    ⊎_elim (λ x. ap first x.5) (
     ⊎_elim (λ x. ap first x.4) (
-    λ x. ap first x.1)))))))))))))) c.in-PolicyRestart.is)
+    λ x. ap first x.1)))))))))))))))) c.in-ContextSave.is)

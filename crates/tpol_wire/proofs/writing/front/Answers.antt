@@ -1,6 +1,6 @@
 use Rattle.std.proofs.Common.{◌≡◌, ◌++◌, ◌∙◌, true, [], sym, subst, append-nil}
 use Rattle.std.specs.Prelude.{OnOk}
-use Rattle.tpol_wire.specs.Areas.{authorization}
+use Rattle.tpol_wire.specs.Authorizations.{authorization}
 use Rattle.tpol_wire.specs.Commands.{spell_front}
 use Rattle.tpol_wire.specs.Spellings.{spell_handle}
 use Rattle.tpol_wire.proofs.Fronts.{front_written}

@@ -1,0 +1,119 @@
+//! Readers of authorizations (TPM 2.0 Part 2, TPMS_AUTH_COMMAND and TPMS_AUTH_RESPONSE).
+#![tactic(auto, unfolding(crate::specs::Authorizations::tail_of, crate::specs::Authorizations::area_of, crate::specs::Authorizations::sized_area, crate::specs::Authorizations::judged, crate::specs::Authorizations::area_at, crate::specs::Kinds::sized_at))]
+
+ghost use Rattle.std.specs.Prelude.{◌≡◌, ◌==◌, ◌||◌, length, Bool, true, false};
+ghost use Rattle.tpol_wire.specs.Answers.{Finds, FindsFront, FindsSlice, Gives, Judges, Reads};
+ghost use Rattle.tpol_wire.specs.Authorizations.{area_at, area_of, area_with, is_auth_session, judged, no_area, sized_area, tail_of};
+ghost use Rattle.tpol_wire.specs.Kinds.{is_any_length, sized_at};
+
+use crate::auth_area::AuthArea;
+use crate::fault::WireFault;
+use crate::fields::refused;
+use crate::handle_type::HandleType;
+use std::alloc::Global;
+use tpol_base::handle::TPM_RS_PW;
+use tpol_base::response_code::{
+    ATTRIBUTES, AUTH_CONTEXT, AUTH_MISSING, AUTHSIZE, NONCE, SIZE, VALUE, of_session,
+};
+use tpol_base::{Blob, Cursor};
+
+/// The end of an area, lent: all of it.
+#[derive(Drop)]
+pub(crate) struct Tail<'a> {
+    pub(crate) nonce: &'a [u8],
+    pub(crate) attributes: u8,
+    pub(crate) hmac: &'a [u8],
+}
+
+/// A 2B of any length, lent.
+fn any_buffer<'a>(cursor: &mut Cursor<'a>) -> Option<&'a [u8]>
+    ensures { FindsSlice result (sized_at 0 is_any_length cursor.old) cursor.new }
+{
+    let length = cursor.u16()?;
+    cursor.take(usize::from(length))
+}
+
+/// Exactly one nonce, attributes and hmac, with nothing behind.
+pub(crate) fn read_tail<'a>(cursor: &mut Cursor<'a>) -> Option<Tail<'a>>
+    ensures { Finds (λ tail. (tail.nonce.now, tail.attributes, tail.hmac.now)) result (tail_of cursor.old) }
+{
+    let nonce = any_buffer(cursor)?;
+    let attributes = cursor.u8()?;
+    let hmac = any_buffer(cursor)?;
+    if cursor.left() != 0 {
+        return None;
+    }
+    Some(Tail {
+        nonce,
+        attributes,
+        hmac,
+    })
+}
+
+/// Exactly one area, with nothing behind.
+fn parts<'a>(bytes: &'a [u8]) -> Option<(u32, Tail<'a>)>
+    ensures { Finds (λ found. area_with found.0 found.1.nonce.now found.1.attributes found.1.hmac.now) result (area_of bytes.now) }
+{
+    let mut cursor = Cursor::new(bytes);
+    let session = cursor.u32()?;
+    let tail = read_tail(&mut cursor)?;
+    Some((session, tail))
+}
+
+/// A size, and exactly one area of that size.
+fn sized_parts<'a>(cursor: &mut Cursor<'a>) -> Option<(u32, Tail<'a>)>
+    ensures { FindsFront (λ found. area_with found.0 found.1.nonce.now found.1.attributes found.1.hmac.now) result (sized_area cursor.old) cursor.new }
+{
+    let size = cursor.u32()?;
+    let area = cursor.take(size as usize)?;
+    parts(area)
+}
+
+/// The first rule that an area breaks.
+fn judge(session: u32, tail: &Tail) -> Result<(), WireFault>
+    ensures { let area = area_with session tail.now.nonce.now tail.now.attributes tail.now.hmac.now in
+        Judges result (judged area) area }
+{
+    if tail.nonce.len() > 32 || tail.hmac.len() > 64 {
+        return Err(refused(SIZE + of_session(1)));
+    }
+    if session != TPM_RS_PW && !HandleType::PolicySession.has(session) {
+        return Err(refused(VALUE + of_session(1)));
+    }
+    if tail.attributes > 1 {
+        return Err(refused(ATTRIBUTES + of_session(1)));
+    }
+    if session == TPM_RS_PW && !tail.nonce.is_empty() {
+        return Err(refused(NONCE + of_session(1)));
+    }
+    Ok(())
+}
+
+/// The authorization of a command that takes one; `tagged` says whether the tag announces it.
+pub(crate) fn read(alloc: Global, tagged: bool, cursor: &mut Cursor) -> Result<AuthArea, WireFault>
+    ensures { Reads result (area_at tagged cursor.old) cursor.new }
+{
+    if !tagged {
+        return Err(refused(AUTH_MISSING));
+    }
+    let Some((session, tail)) = sized_parts(cursor) else {
+        return Err(refused(AUTHSIZE));
+    };
+    judge(session, &tail)?;
+    Ok(AuthArea {
+        session,
+        nonce: Blob::from_slice(alloc, tail.nonce)?,
+        attributes: tail.attributes,
+        hmac: Blob::from_slice(alloc, tail.hmac)?,
+    })
+}
+
+/// A command that takes no authorization: the tag announces none.
+pub(crate) fn none(tagged: bool) -> Result<(), WireFault>
+    ensures { Gives result (no_area tagged) }
+{
+    if tagged {
+        return Err(refused(AUTH_CONTEXT));
+    }
+    Ok(())
+}

@@ -1,0 +1,35 @@
+//! The commands, each in a file of its own under its standard name: handles, parameters and reply (TPM 2.0 Part 3).
+
+pub(crate) mod context_load;
+pub(crate) mod context_save;
+pub(crate) mod duplicate;
+pub(crate) mod flush_context;
+pub(crate) mod hmac;
+pub(crate) mod nv_increment;
+pub(crate) mod nv_read;
+pub(crate) mod nv_write;
+pub(crate) mod pcr_extend;
+pub(crate) mod pcr_read;
+pub(crate) mod policy_auth_value;
+pub(crate) mod policy_authorize;
+pub(crate) mod policy_authorize_nv;
+pub(crate) mod policy_command_code;
+pub(crate) mod policy_counter_timer;
+pub(crate) mod policy_cp_hash;
+pub(crate) mod policy_duplication_select;
+pub(crate) mod policy_get_digest;
+pub(crate) mod policy_locality;
+pub(crate) mod policy_name_hash;
+pub(crate) mod policy_nv;
+pub(crate) mod policy_nv_written;
+pub(crate) mod policy_or;
+pub(crate) mod policy_password;
+pub(crate) mod policy_pcr;
+pub(crate) mod policy_physical_presence;
+pub(crate) mod policy_restart;
+pub(crate) mod policy_secret;
+pub(crate) mod policy_signed;
+pub(crate) mod policy_ticket;
+pub(crate) mod start_auth_session;
+pub(crate) mod unseal;
+pub(crate) mod verify_signature;

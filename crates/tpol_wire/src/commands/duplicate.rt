@@ -1,0 +1,64 @@
+//! TPM2_Duplicate (TPM 2.0 Part 3).
+#![tactic(auto, unfolding(crate::specs::Reading::body_at, crate::specs::Reading::values_at))]
+
+ghost use Rattle.tpol_wire.specs.Answers.{Reads};
+ghost use Rattle.tpol_wire.specs.Commands.{spell_values};
+ghost use Rattle.tpol_wire.specs.Reading.{body_at, reply_at};
+ghost use Rattle.tpol_wire.specs.Rows.{row};
+ghost use Rattle.tpol_wire.specs.Spellings.{Appends};
+
+use crate::command::Command;
+use crate::fault::WireFault;
+use crate::handle_type::HandleType;
+use crate::reply::Reply;
+use crate::{authorization, fields, spelling};
+use std::alloc::Global;
+use tpol_base::constants::TPM_ALG_NULL;
+use tpol_base::response_code::VALUE;
+use tpol_base::{Blob, CommandCode, Cursor, NoMemory};
+
+/// The command.
+pub(crate) fn read(alloc: Global, tagged: bool, cursor: &mut Cursor) -> Result<Command, WireFault>
+    ensures { Reads result (body_at CommandCode.Duplicate tagged cursor.old) cursor.new }
+{
+    let object = fields::handle(cursor, 1, HandleType::Object)?;
+    let parent = fields::handle(cursor, 2, HandleType::Parent)?;
+    let auth = authorization::read(alloc, tagged, cursor)?;
+    fields::empty(cursor, 1)?;
+    fields::fixed(cursor, 2, TPM_ALG_NULL, VALUE)?;
+    Ok(Command::Duplicate {
+        object,
+        parent,
+        auth,
+    })
+}
+
+/// The parameters.
+#[tactic(auto, unfolding(crate::specs::Commands::spell_values, crate::specs::Kinds::spell))]
+pub(crate) fn write(out: &mut Blob) -> Result<(), NoMemory>
+    ensures { Appends result out.old out.new (spell_values (row CommandCode.Duplicate).parameters (tt, (tt, tt))) }
+{
+    spelling::number16(out, 0)?;
+    spelling::number16(out, TPM_ALG_NULL)
+}
+
+/// The reply.
+#[tactic(auto, unfolding(crate::specs::Reading::reply_at, crate::specs::Reading::values_at))]
+pub(crate) fn read_reply(alloc: Global, cursor: &mut Cursor) -> Result<Reply, WireFault>
+    ensures { Reads result (reply_at CommandCode.Duplicate cursor.old) cursor.new }
+{
+    fields::empty(cursor, 1)?;
+    let bytes = fields::copied_buffer(alloc, cursor, 2, 1024)?;
+    fields::empty(cursor, 3)?;
+    Ok(Reply::Duplicate { bytes })
+}
+
+/// The fields of the reply.
+#[tactic(auto, unfolding(crate::specs::Commands::spell_values, crate::specs::Kinds::spell))]
+pub(crate) fn write_reply(out: &mut Blob, bytes: &Blob) -> Result<(), NoMemory>
+    ensures { Appends result out.old out.new (spell_values (row CommandCode.Duplicate).reply (tt, (bytes.now, (tt, tt)))) }
+{
+    spelling::number16(out, 0)?;
+    spelling::sized(out, bytes.as_slice())?;
+    spelling::number16(out, 0)
+}

@@ -1,0 +1,31 @@
+//! TPM2_FlushContext (TPM 2.0 Part 3).
+#![tactic(auto, unfolding(crate::specs::Reading::body_at, crate::specs::Reading::values_at))]
+
+ghost use Rattle.tpol_wire.specs.Answers.{Reads};
+ghost use Rattle.tpol_wire.specs.Commands.{spell_values};
+ghost use Rattle.tpol_wire.specs.Reading.{body_at};
+ghost use Rattle.tpol_wire.specs.Rows.{row};
+ghost use Rattle.tpol_wire.specs.Spellings.{Appends};
+
+use crate::command::Command;
+use crate::fault::WireFault;
+use crate::handle_type::HandleType;
+use crate::{authorization, fields, spelling};
+use tpol_base::{Blob, CommandCode, Cursor, NoMemory};
+
+/// The command.
+pub(crate) fn read(tagged: bool, cursor: &mut Cursor) -> Result<Command, WireFault>
+    ensures { Reads result (body_at CommandCode.FlushContext tagged cursor.old) cursor.new }
+{
+    authorization::none(tagged)?;
+    let session = fields::handle_parameter(cursor, 1, HandleType::PolicySession)?;
+    Ok(Command::FlushContext { session })
+}
+
+/// The parameters.
+#[tactic(auto, unfolding(crate::specs::Commands::spell_values, crate::specs::Kinds::spell))]
+pub(crate) fn write(out: &mut Blob, session: u32) -> Result<(), NoMemory>
+    ensures { Appends result out.old out.new (spell_values (row CommandCode.FlushContext).parameters (session, tt)) }
+{
+    spelling::number32(out, session)
+}

@@ -1,0 +1,58 @@
+//! TPM2_HMAC (TPM 2.0 Part 3).
+#![tactic(auto, unfolding(crate::specs::Reading::body_at, crate::specs::Reading::values_at))]
+
+ghost use Rattle.tpol_wire.specs.Answers.{Reads};
+ghost use Rattle.tpol_wire.specs.Commands.{spell_values};
+ghost use Rattle.tpol_wire.specs.Reading.{body_at, reply_at};
+ghost use Rattle.tpol_wire.specs.Rows.{row};
+ghost use Rattle.tpol_wire.specs.Spellings.{Appends};
+
+use crate::command::Command;
+use crate::fault::WireFault;
+use crate::handle_type::HandleType;
+use crate::reply::Reply;
+use crate::{authorization, fields, spelling};
+use std::alloc::Global;
+use tpol_base::{Blob, CommandCode, Cursor, Digest32, NoMemory};
+
+/// The command.
+pub(crate) fn read(alloc: Global, tagged: bool, cursor: &mut Cursor) -> Result<Command, WireFault>
+    ensures { Reads result (body_at CommandCode.Hmac tagged cursor.old) cursor.new }
+{
+    let key = fields::handle(cursor, 1, HandleType::Object)?;
+    let auth = authorization::read(alloc, tagged, cursor)?;
+    let buffer = fields::copied_buffer(alloc, cursor, 1, 1024)?;
+    let hash = fields::hash(cursor, 2)?;
+    Ok(Command::Hmac {
+        key,
+        auth,
+        buffer,
+        hash,
+    })
+}
+
+/// The parameters.
+#[tactic(auto, unfolding(crate::specs::Commands::spell_values, crate::specs::Kinds::spell))]
+pub(crate) fn write(out: &mut Blob, buffer: &Blob, hash: u16) -> Result<(), NoMemory>
+    ensures { Appends result out.old out.new (spell_values (row CommandCode.Hmac).parameters (buffer.now, (hash, tt))) }
+{
+    spelling::sized(out, buffer.as_slice())?;
+    spelling::number16(out, hash)
+}
+
+/// The reply.
+#[tactic(auto, unfolding(crate::specs::Reading::reply_at, crate::specs::Reading::values_at))]
+pub(crate) fn read_reply(cursor: &mut Cursor) -> Result<Reply, WireFault>
+    ensures { Reads result (reply_at CommandCode.Hmac cursor.old) cursor.new }
+{
+    let digest = fields::sized_digest(cursor, 1)?;
+    Ok(Reply::Hmac { digest })
+}
+
+/// The fields of the reply.
+#[tactic(auto, unfolding(crate::specs::Commands::spell_values, crate::specs::Kinds::spell))]
+pub(crate) fn write_reply(out: &mut Blob, digest: &Digest32) -> Result<(), NoMemory>
+    ensures { Appends result out.old out.new (spell_values (row CommandCode.Hmac).reply (digest.now, tt)) }
+{
+    spelling::sized_digest(out, digest)
+}

@@ -1,0 +1,26 @@
+//! TPM2_NV_Increment (TPM 2.0 Part 3).
+#![tactic(auto, unfolding(crate::specs::Reading::body_at, crate::specs::Reading::values_at))]
+
+ghost use Rattle.tpol_wire.specs.Answers.{Reads};
+ghost use Rattle.tpol_wire.specs.Reading.{body_at};
+
+use crate::command::Command;
+use crate::fault::WireFault;
+use crate::handle_type::HandleType;
+use crate::{authorization, fields};
+use std::alloc::Global;
+use tpol_base::{CommandCode, Cursor};
+
+/// The command.
+pub(crate) fn read(alloc: Global, tagged: bool, cursor: &mut Cursor) -> Result<Command, WireFault>
+    ensures { Reads result (body_at CommandCode.NvIncrement tagged cursor.old) cursor.new }
+{
+    let authority = fields::handle(cursor, 1, HandleType::Authority)?;
+    let index = fields::handle(cursor, 2, HandleType::Index)?;
+    let auth = authorization::read(alloc, tagged, cursor)?;
+    Ok(Command::NvIncrement {
+        authority,
+        index,
+        auth,
+    })
+}

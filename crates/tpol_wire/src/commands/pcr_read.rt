@@ -1,0 +1,62 @@
+//! TPM2_PCR_Read (TPM 2.0 Part 3).
+#![tactic(auto, unfolding(crate::specs::Reading::body_at, crate::specs::Reading::values_at))]
+
+ghost use Rattle.tpol_wire.specs.Answers.{Reads};
+ghost use Rattle.tpol_wire.specs.Commands.{spell_values};
+ghost use Rattle.tpol_wire.specs.Reading.{body_at, reply_at};
+ghost use Rattle.tpol_wire.specs.Rows.{row};
+ghost use Rattle.tpol_wire.specs.Spellings.{Appends};
+
+use crate::command::Command;
+use crate::fault::WireFault;
+use crate::reply::Reply;
+use crate::{authorization, fields, spelling};
+use std::alloc::Global;
+use tpol_base::{Blob, CommandCode, Cursor, Digests, NoMemory};
+
+/// The command.
+pub(crate) fn read(tagged: bool, cursor: &mut Cursor) -> Result<Command, WireFault>
+    ensures { Reads result (body_at CommandCode.PcrRead tagged cursor.old) cursor.new }
+{
+    authorization::none(tagged)?;
+    let mask = fields::selection(cursor, 1)?;
+    Ok(Command::PcrRead { mask })
+}
+
+/// The parameters.
+#[tactic(auto, unfolding(crate::specs::Commands::spell_values, crate::specs::Kinds::spell))]
+pub(crate) fn write(out: &mut Blob, mask: u32) -> Result<(), NoMemory>
+    ensures { Appends result out.old out.new (spell_values (row CommandCode.PcrRead).parameters (mask, tt)) }
+{
+    spelling::selection(out, mask)
+}
+
+/// The reply.
+#[tactic(auto, unfolding(crate::specs::Reading::reply_at, crate::specs::Reading::values_at))]
+pub(crate) fn read_reply(alloc: Global, cursor: &mut Cursor) -> Result<Reply, WireFault>
+    ensures { Reads result (reply_at CommandCode.PcrRead cursor.old) cursor.new }
+{
+    let counter = fields::number32(cursor, 1)?;
+    let mask = fields::selection(cursor, 2)?;
+    let digests = fields::digests(alloc, cursor, 3, 0, 8)?;
+    Ok(Reply::PcrRead {
+        counter,
+        mask,
+        digests,
+    })
+}
+
+/// The fields of the reply.
+#[tactic(auto, unfolding(crate::specs::Commands::spell_values, crate::specs::Kinds::spell))]
+pub(crate) fn write_reply(
+    out: &mut Blob,
+    counter: u32,
+    mask: u32,
+    digests: &Digests,
+) -> Result<(), NoMemory>
+    ensures { Appends result out.old out.new (spell_values (row CommandCode.PcrRead).reply (counter, (mask, (digests.now, tt)))) }
+{
+    spelling::number32(out, counter)?;
+    spelling::selection(out, mask)?;
+    spelling::digests(out, digests)
+}

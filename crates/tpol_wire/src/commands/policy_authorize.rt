@@ -1,0 +1,52 @@
+//! TPM2_PolicyAuthorize (TPM 2.0 Part 3).
+#![tactic(auto, unfolding(crate::specs::Reading::body_at, crate::specs::Reading::values_at))]
+
+ghost use Rattle.tpol_wire.specs.Answers.{Reads};
+ghost use Rattle.tpol_wire.specs.Commands.{spell_values};
+ghost use Rattle.tpol_wire.specs.Reading.{body_at};
+ghost use Rattle.tpol_wire.specs.Rows.{row};
+ghost use Rattle.tpol_wire.specs.Spellings.{Appends};
+
+use crate::command::Command;
+use crate::fault::WireFault;
+use crate::handle_type::HandleType;
+use crate::ticket::Ticket;
+use crate::{authorization, fields, spelling};
+use std::alloc::Global;
+use tpol_base::{Blob, CommandCode, Cursor, Digest32, Name, NoMemory};
+
+/// The command.
+pub(crate) fn read(alloc: Global, tagged: bool, cursor: &mut Cursor) -> Result<Command, WireFault>
+    ensures { Reads result (body_at CommandCode.PolicyAuthorize tagged cursor.old) cursor.new }
+{
+    let session = fields::handle(cursor, 1, HandleType::PolicySession)?;
+    authorization::none(tagged)?;
+    let approved = fields::sized_digest(cursor, 1)?;
+    let policy_ref = fields::copied_buffer(alloc, cursor, 2, 64)?;
+    let key = fields::name(cursor, 3)?;
+    let ticket = fields::ticket(alloc, cursor, 4)?;
+    Ok(Command::PolicyAuthorize {
+        session,
+        approved,
+        policy_ref,
+        key,
+        ticket,
+    })
+}
+
+/// The parameters.
+#[tactic(auto, unfolding(crate::specs::Commands::spell_values, crate::specs::Kinds::spell))]
+pub(crate) fn write(
+    out: &mut Blob,
+    approved: &Digest32,
+    policy_ref: &Blob,
+    key: &Name,
+    ticket: &Ticket,
+) -> Result<(), NoMemory>
+    ensures { Appends result out.old out.new (spell_values (row CommandCode.PolicyAuthorize).parameters (approved.now, (policy_ref.now, (key.now, (ticket.now, tt))))) }
+{
+    spelling::sized_digest(out, approved)?;
+    spelling::sized(out, policy_ref.as_slice())?;
+    spelling::name(out, key)?;
+    spelling::ticket(out, ticket)
+}

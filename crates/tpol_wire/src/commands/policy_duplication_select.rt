@@ -1,0 +1,46 @@
+//! TPM2_PolicyDuplicationSelect (TPM 2.0 Part 3).
+#![tactic(auto, unfolding(crate::specs::Reading::body_at, crate::specs::Reading::values_at))]
+
+ghost use Rattle.tpol_wire.specs.Answers.{Reads};
+ghost use Rattle.tpol_wire.specs.Commands.{spell_values};
+ghost use Rattle.tpol_wire.specs.Reading.{body_at};
+ghost use Rattle.tpol_wire.specs.Rows.{row};
+ghost use Rattle.tpol_wire.specs.Spellings.{Appends};
+
+use crate::command::Command;
+use crate::fault::WireFault;
+use crate::handle_type::HandleType;
+use crate::{authorization, fields, spelling};
+use tpol_base::{Blob, CommandCode, Cursor, Name, NoMemory};
+
+/// The command.
+pub(crate) fn read(tagged: bool, cursor: &mut Cursor) -> Result<Command, WireFault>
+    ensures { Reads result (body_at CommandCode.PolicyDuplicationSelect tagged cursor.old) cursor.new }
+{
+    let session = fields::handle(cursor, 1, HandleType::PolicySession)?;
+    authorization::none(tagged)?;
+    let object = fields::name(cursor, 1)?;
+    let parent = fields::name(cursor, 2)?;
+    let include = fields::truth(cursor, 3)?;
+    Ok(Command::PolicyDuplicationSelect {
+        session,
+        object,
+        parent,
+        include,
+    })
+}
+
+/// The parameters.
+#[tactic(auto, unfolding(crate::specs::Commands::spell_values, crate::specs::Kinds::spell))]
+pub(crate) fn write(
+    out: &mut Blob,
+    object: &Name,
+    parent: &Name,
+    include: bool,
+) -> Result<(), NoMemory>
+    ensures { Appends result out.old out.new (spell_values (row CommandCode.PolicyDuplicationSelect).parameters (object.now, (parent.now, (include, tt)))) }
+{
+    spelling::name(out, object)?;
+    spelling::name(out, parent)?;
+    spelling::truth(out, include)
+}

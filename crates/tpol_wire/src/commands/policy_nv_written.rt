@@ -1,0 +1,32 @@
+//! TPM2_PolicyNvWritten (TPM 2.0 Part 3).
+#![tactic(auto, unfolding(crate::specs::Reading::body_at, crate::specs::Reading::values_at))]
+
+ghost use Rattle.tpol_wire.specs.Answers.{Reads};
+ghost use Rattle.tpol_wire.specs.Commands.{spell_values};
+ghost use Rattle.tpol_wire.specs.Reading.{body_at};
+ghost use Rattle.tpol_wire.specs.Rows.{row};
+ghost use Rattle.tpol_wire.specs.Spellings.{Appends};
+
+use crate::command::Command;
+use crate::fault::WireFault;
+use crate::handle_type::HandleType;
+use crate::{authorization, fields, spelling};
+use tpol_base::{Blob, CommandCode, Cursor, NoMemory};
+
+/// The command.
+pub(crate) fn read(tagged: bool, cursor: &mut Cursor) -> Result<Command, WireFault>
+    ensures { Reads result (body_at CommandCode.PolicyNvWritten tagged cursor.old) cursor.new }
+{
+    let session = fields::handle(cursor, 1, HandleType::PolicySession)?;
+    authorization::none(tagged)?;
+    let written = fields::truth(cursor, 1)?;
+    Ok(Command::PolicyNvWritten { session, written })
+}
+
+/// The parameters.
+#[tactic(auto, unfolding(crate::specs::Commands::spell_values, crate::specs::Kinds::spell))]
+pub(crate) fn write(out: &mut Blob, written: bool) -> Result<(), NoMemory>
+    ensures { Appends result out.old out.new (spell_values (row CommandCode.PolicyNvWritten).parameters (written, tt)) }
+{
+    spelling::truth(out, written)
+}

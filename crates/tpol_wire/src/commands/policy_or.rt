@@ -1,0 +1,33 @@
+//! TPM2_PolicyOR (TPM 2.0 Part 3).
+#![tactic(auto, unfolding(crate::specs::Reading::body_at, crate::specs::Reading::values_at))]
+
+ghost use Rattle.tpol_wire.specs.Answers.{Reads};
+ghost use Rattle.tpol_wire.specs.Commands.{spell_values};
+ghost use Rattle.tpol_wire.specs.Reading.{body_at};
+ghost use Rattle.tpol_wire.specs.Rows.{row};
+ghost use Rattle.tpol_wire.specs.Spellings.{Appends};
+
+use crate::command::Command;
+use crate::fault::WireFault;
+use crate::handle_type::HandleType;
+use crate::{authorization, fields, spelling};
+use std::alloc::Global;
+use tpol_base::{Blob, CommandCode, Cursor, Digests, NoMemory};
+
+/// The command.
+pub(crate) fn read(alloc: Global, tagged: bool, cursor: &mut Cursor) -> Result<Command, WireFault>
+    ensures { Reads result (body_at CommandCode.PolicyOr tagged cursor.old) cursor.new }
+{
+    let session = fields::handle(cursor, 1, HandleType::PolicySession)?;
+    authorization::none(tagged)?;
+    let digests = fields::digests(alloc, cursor, 1, 2, 8)?;
+    Ok(Command::PolicyOr { session, digests })
+}
+
+/// The parameters.
+#[tactic(auto, unfolding(crate::specs::Commands::spell_values, crate::specs::Kinds::spell))]
+pub(crate) fn write(out: &mut Blob, digests: &Digests) -> Result<(), NoMemory>
+    ensures { Appends result out.old out.new (spell_values (row CommandCode.PolicyOr).parameters (digests.now, tt)) }
+{
+    spelling::digests(out, digests)
+}

@@ -1,0 +1,81 @@
+//! TPM2_PolicySigned (TPM 2.0 Part 3).
+#![tactic(auto, unfolding(crate::specs::Reading::body_at, crate::specs::Reading::values_at))]
+
+ghost use Rattle.tpol_wire.specs.Answers.{Reads};
+ghost use Rattle.tpol_wire.specs.Commands.{spell_values};
+ghost use Rattle.tpol_wire.specs.Reading.{body_at, reply_at};
+ghost use Rattle.tpol_wire.specs.Rows.{row};
+ghost use Rattle.tpol_wire.specs.Spellings.{Appends};
+
+use crate::command::Command;
+use crate::fault::WireFault;
+use crate::handle_type::HandleType;
+use crate::reply::Reply;
+use crate::ticket::Ticket;
+use crate::{authorization, fields, spelling};
+use std::alloc::Global;
+use tpol_base::constants::TPM_ST_AUTH_SIGNED;
+use tpol_base::{Blob, CommandCode, Cursor, Digest32, NoMemory};
+
+/// The command.
+pub(crate) fn read(alloc: Global, tagged: bool, cursor: &mut Cursor) -> Result<Command, WireFault>
+    ensures { Reads result (body_at CommandCode.PolicySigned tagged cursor.old) cursor.new }
+{
+    let key = fields::handle(cursor, 1, HandleType::Object)?;
+    let session = fields::handle(cursor, 2, HandleType::PolicySession)?;
+    authorization::none(tagged)?;
+    let nonce = fields::copied_buffer(alloc, cursor, 1, 32)?;
+    let cp_hash = fields::optional(cursor, 2)?;
+    let policy_ref = fields::copied_buffer(alloc, cursor, 3, 64)?;
+    let expiration = fields::signed(cursor, 4)?;
+    let signature = fields::signature(cursor, 5)?;
+    Ok(Command::PolicySigned {
+        key,
+        session,
+        nonce,
+        cp_hash,
+        policy_ref,
+        expiration,
+        signature,
+    })
+}
+
+/// The parameters.
+#[tactic(auto, unfolding(crate::specs::Commands::spell_values, crate::specs::Kinds::spell))]
+pub(crate) fn write(
+    out: &mut Blob,
+    nonce: &Blob,
+    cp_hash: &Option<Digest32>,
+    policy_ref: &Blob,
+    expiration: &i32,
+    signature: &Digest32,
+) -> Result<(), NoMemory>
+    ensures { Appends result out.old out.new (spell_values (row CommandCode.PolicySigned).parameters (nonce.now, (cp_hash.now, (policy_ref.now, (expiration.now, (signature.now, tt)))))) }
+{
+    spelling::sized(out, nonce.as_slice())?;
+    spelling::optional(out, cp_hash)?;
+    spelling::sized(out, policy_ref.as_slice())?;
+    spelling::signed(out, *expiration)?;
+    spelling::signature(out, signature)
+}
+
+/// The reply.
+#[tactic(auto, unfolding(crate::specs::Reading::reply_at, crate::specs::Reading::values_at))]
+pub(crate) fn read_reply(alloc: Global, cursor: &mut Cursor) -> Result<Reply, WireFault>
+    ensures { Reads result (reply_at CommandCode.PolicySigned cursor.old) cursor.new }
+{
+    let (timeout, ticket) = fields::timed_ticket(alloc, cursor, 1, TPM_ST_AUTH_SIGNED)?;
+    Ok(Reply::PolicySigned { timeout, ticket })
+}
+
+/// The fields of the reply.
+#[tactic(auto, unfolding(crate::specs::Commands::spell_values, crate::specs::Kinds::spell))]
+pub(crate) fn write_reply(
+    out: &mut Blob,
+    timeout: Option<u64>,
+    ticket: &Ticket,
+) -> Result<(), NoMemory>
+    ensures { Appends result out.old out.new (spell_values (row CommandCode.PolicySigned).reply ((timeout, ticket.now), tt)) }
+{
+    spelling::timed_ticket(out, timeout, ticket)
+}

@@ -1,0 +1,67 @@
+//! TPM2_StartAuthSession (TPM 2.0 Part 3).
+#![tactic(auto, unfolding(crate::specs::Reading::body_at, crate::specs::Reading::values_at))]
+
+ghost use Rattle.tpol_wire.specs.Answers.{Reads};
+ghost use Rattle.tpol_wire.specs.Commands.{spell_values};
+ghost use Rattle.tpol_wire.specs.Reading.{body_at, reply_at};
+ghost use Rattle.tpol_wire.specs.Rows.{row};
+ghost use Rattle.tpol_wire.specs.Spellings.{Appends};
+
+use crate::command::Command;
+use crate::fault::WireFault;
+use crate::handle_type::HandleType;
+use crate::reply::Reply;
+use crate::{authorization, fields, spelling};
+use tpol_base::constants::{TPM_ALG_NULL, TPM_ALG_SHA256, TPM_SE_POLICY};
+use tpol_base::response_code::{HASH, VALUE};
+use tpol_base::{Blob, CommandCode, Cursor, Digest32, NoMemory};
+
+/// The command.
+pub(crate) fn read(tagged: bool, cursor: &mut Cursor) -> Result<Command, WireFault>
+    ensures { Reads result (body_at CommandCode.StartAuthSession tagged cursor.old) cursor.new }
+{
+    let tpm_key = fields::handle(cursor, 1, HandleType::Null)?;
+    let bind = fields::handle(cursor, 2, HandleType::Null)?;
+    authorization::none(tagged)?;
+    let nonce = fields::sized_digest(cursor, 1)?;
+    fields::empty(cursor, 2)?;
+    fields::fixed_byte(cursor, 3, TPM_SE_POLICY, VALUE)?;
+    fields::fixed(cursor, 4, TPM_ALG_NULL, VALUE)?;
+    fields::fixed(cursor, 5, TPM_ALG_SHA256, HASH)?;
+    Ok(Command::StartAuthSession {
+        tpm_key,
+        bind,
+        nonce,
+    })
+}
+
+/// The parameters.
+#[tactic(auto, unfolding(crate::specs::Commands::spell_values, crate::specs::Kinds::spell))]
+pub(crate) fn write(out: &mut Blob, nonce: &Digest32) -> Result<(), NoMemory>
+    ensures { Appends result out.old out.new (spell_values (row CommandCode.StartAuthSession).parameters (nonce.now, (tt, (tt, (tt, (tt, tt)))))) }
+{
+    spelling::sized_digest(out, nonce)?;
+    spelling::number16(out, 0)?;
+    spelling::byte(out, TPM_SE_POLICY)?;
+    spelling::number16(out, TPM_ALG_NULL)?;
+    spelling::number16(out, TPM_ALG_SHA256)
+}
+
+/// The reply.
+#[tactic(auto, unfolding(crate::specs::Reading::reply_at, crate::specs::Reading::values_at))]
+pub(crate) fn read_reply(cursor: &mut Cursor) -> Result<Reply, WireFault>
+    ensures { Reads result (reply_at CommandCode.StartAuthSession cursor.old) cursor.new }
+{
+    let session = fields::handle_parameter(cursor, 1, HandleType::PolicySession)?;
+    let nonce = fields::sized_digest(cursor, 2)?;
+    Ok(Reply::StartAuthSession { session, nonce })
+}
+
+/// The fields of the reply.
+#[tactic(auto, unfolding(crate::specs::Commands::spell_values, crate::specs::Kinds::spell))]
+pub(crate) fn write_reply(out: &mut Blob, session: u32, nonce: &Digest32) -> Result<(), NoMemory>
+    ensures { Appends result out.old out.new (spell_values (row CommandCode.StartAuthSession).reply (session, (nonce.now, tt))) }
+{
+    spelling::number32(out, session)?;
+    spelling::sized_digest(out, nonce)
+}

@@ -1,0 +1,58 @@
+//! TPM2_VerifySignature (TPM 2.0 Part 3).
+#![tactic(auto, unfolding(crate::specs::Reading::body_at, crate::specs::Reading::values_at))]
+
+ghost use Rattle.tpol_wire.specs.Answers.{Reads};
+ghost use Rattle.tpol_wire.specs.Commands.{spell_values};
+ghost use Rattle.tpol_wire.specs.Reading.{body_at, reply_at};
+ghost use Rattle.tpol_wire.specs.Rows.{row};
+ghost use Rattle.tpol_wire.specs.Spellings.{Appends};
+
+use crate::command::Command;
+use crate::fault::WireFault;
+use crate::handle_type::HandleType;
+use crate::reply::Reply;
+use crate::ticket::Ticket;
+use crate::{authorization, fields, spelling};
+use std::alloc::Global;
+use tpol_base::{Blob, CommandCode, Cursor, Digest32, NoMemory};
+
+/// The command.
+pub(crate) fn read(tagged: bool, cursor: &mut Cursor) -> Result<Command, WireFault>
+    ensures { Reads result (body_at CommandCode.VerifySignature tagged cursor.old) cursor.new }
+{
+    let key = fields::handle(cursor, 1, HandleType::Object)?;
+    authorization::none(tagged)?;
+    let digest = fields::sized_digest(cursor, 1)?;
+    let signature = fields::signature(cursor, 2)?;
+    Ok(Command::VerifySignature {
+        key,
+        digest,
+        signature,
+    })
+}
+
+/// The parameters.
+#[tactic(auto, unfolding(crate::specs::Commands::spell_values, crate::specs::Kinds::spell))]
+pub(crate) fn write(out: &mut Blob, digest: &Digest32, signature: &Digest32) -> Result<(), NoMemory>
+    ensures { Appends result out.old out.new (spell_values (row CommandCode.VerifySignature).parameters (digest.now, (signature.now, tt))) }
+{
+    spelling::sized_digest(out, digest)?;
+    spelling::signature(out, signature)
+}
+
+/// The reply.
+#[tactic(auto, unfolding(crate::specs::Reading::reply_at, crate::specs::Reading::values_at))]
+pub(crate) fn read_reply(alloc: Global, cursor: &mut Cursor) -> Result<Reply, WireFault>
+    ensures { Reads result (reply_at CommandCode.VerifySignature cursor.old) cursor.new }
+{
+    let ticket = fields::ticket(alloc, cursor, 1)?;
+    Ok(Reply::VerifySignature { ticket })
+}
+
+/// The fields of the reply.
+#[tactic(auto, unfolding(crate::specs::Commands::spell_values, crate::specs::Kinds::spell))]
+pub(crate) fn write_reply(out: &mut Blob, ticket: &Ticket) -> Result<(), NoMemory>
+    ensures { Appends result out.old out.new (spell_values (row CommandCode.VerifySignature).reply (ticket.now, tt)) }
+{
+    spelling::ticket(out, ticket)
+}
