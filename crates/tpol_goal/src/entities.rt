@@ -2,6 +2,8 @@
 
 ghost use Rattle.std.specs.Prelude.{◌≡◌, option_map};
 ghost use Rattle.std.specs.Option.{option_copied};
+ghost use Rattle.tpol_name.specs.Directories.{line_of_index, line_of_object, lines_of};
+ghost use Rattle.tpol_name.specs.Setups.{IsSight};
 ghost use Rattle.tpol_goal.specs.Entities.{entity_in_sight, entity_of_name, hierarchy_of_name, index_in_sight, index_of_name, line_of_name, name_of_handle, object_in_sight, object_of_name};
 
 use tpol_base::Name;
@@ -59,22 +61,47 @@ pub fn name_of_handle(directory: &[DirEntry], handle: u32) -> Name
 /// The same as `entity_of_name` for the directory of what a sight shows. No memory is taken.
 pub fn entity_in_sight(sight: &Sight, name: &Name) -> Option<u32>
     ensures entity { result ≡ entity_in_sight sight.now name.now }
+    ensures directory { result ≡ entity_of_name (lines_of sight.now.objects sight.now.indices) name.now }
+{
+    find_entity(sight, name)
+}
+
+/// The first object of a sight with this Name; `None` for the Name of a hierarchy too. It is that of the
+/// directory.
+pub fn object_in_sight<'a>(sight: &'a Sight, name: &Name) -> Option<&'a ObjectEntry>
+    ensures object { option_copied result ≡ object_in_sight sight.now name.now }
+    ensures directory { IsSight sight.now → option_map line_of_object (option_copied result)
+        ≡ object_of_name (lines_of sight.now.objects sight.now.indices) name.now }
+{
+    find_object(sight, name)
+}
+
+/// The first index of a sight that has this Name once it is written. It is that of the directory.
+pub fn index_in_sight<'a>(sight: &'a Sight, name: &Name) -> Option<&'a IndexEntry>
+    ensures index { option_copied result ≡ index_in_sight sight.now name.now }
+    ensures directory { IsSight sight.now → option_map line_of_index (option_copied result)
+        ≡ index_of_name (lines_of sight.now.objects sight.now.indices) name.now }
+{
+    find_index(sight, name)
+}
+
+fn find_entity(sight: &Sight, name: &Name) -> Option<u32>
+    ensures { result ≡ entity_in_sight sight.now name.now }
 {
     if let Some(handle) = hierarchy_of_name(name) {
         return Some(handle);
     }
-    if let Some(object) = object_in_sight(sight, name) {
+    if let Some(object) = find_object(sight, name) {
         return Some(object.handle);
     }
-    match index_in_sight(sight, name) {
+    match find_index(sight, name) {
         Some(index) => Some(index.public.index),
         None => None,
     }
 }
 
-/// The first object of a sight with this Name; `None` for the Name of a hierarchy too.
-pub fn object_in_sight<'a>(sight: &'a Sight, name: &Name) -> Option<&'a ObjectEntry>
-    ensures object { option_copied result ≡ object_in_sight sight.now name.now }
+fn find_object<'a>(sight: &'a Sight, name: &Name) -> Option<&'a ObjectEntry>
+    ensures { option_copied result ≡ object_in_sight sight.now name.now }
 {
     sight
         .objects
@@ -83,9 +110,8 @@ pub fn object_in_sight<'a>(sight: &'a Sight, name: &Name) -> Option<&'a ObjectEn
         .find(|object| object_name(&object.public) == *name)
 }
 
-/// The first index of a sight that has this Name once it is written.
-pub fn index_in_sight<'a>(sight: &'a Sight, name: &Name) -> Option<&'a IndexEntry>
-    ensures index { option_copied result ≡ index_in_sight sight.now name.now }
+fn find_index<'a>(sight: &'a Sight, name: &Name) -> Option<&'a IndexEntry>
+    ensures { option_copied result ≡ index_in_sight sight.now name.now }
 {
     sight
         .indices

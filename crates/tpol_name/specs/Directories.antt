@@ -1,4 +1,4 @@
--- The directory of a setup.
+-- Directories of entities.
 use Rattle.std.specs.Prelude.{List, ◌++◌, map}
 use Rattle.tpol_name.specs.declared.entries.DirEntry.{DirEntry}
 use Rattle.tpol_name.specs.declared.entries.IndexEntry.{IndexEntry}
@@ -25,5 +25,9 @@ line_of_index entry = record {
 }
 
 -- the objects and then the indices, in order
+abbrev pub lines_of : List ObjectEntry → List IndexEntry → List DirEntry
+lines_of objects indices = map line_of_object objects ++ map line_of_index indices
+
+-- the directory of a setup
 abbrev pub directory_of : Setup → List DirEntry
-directory_of setup = map line_of_object setup.objects ++ map line_of_index setup.indices
+directory_of setup = lines_of setup.objects setup.indices
