@@ -1,0 +1,4 @@
+pub mod Keeping
+pub mod Least
+pub mod Slots
+pub mod Tables
