@@ -1,3 +1,5 @@
+//! The checks at the use of a policy session.
+
 /// The checks that a TPM makes when a policy session is used, in their order
 /// (TPM 2.0 Part 1, "Policy Session Use").
 #[derive(Clone, Copy, Debug, PartialEq, Eq)]

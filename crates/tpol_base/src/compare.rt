@@ -1,3 +1,5 @@
+//! The comparisons of PolicyNV and PolicyCounterTimer.
+
 ghost use Rattle.std.specs.Prelude.{◌≡◌, map};
 ghost use Rattle.tpol_base.specs.Compare.{compare_of_number, name_of_compare, names_of_comparisons, number_of_compare};
 

@@ -1,3 +1,5 @@
+//! Reading numbers and bytes from the front of a slice.
+
 ghost use Rattle.std.specs.Prelude.{◌≡◌, ◌<◌, ◌↔◌, length, take, drop, IsNone, IfSome, IfNone, Option};
 ghost use Rattle.std.specs.Int.{from_be_bytes, w8, w16, w32, w64};
 ghost use Rattle.tpol_base.specs.Cursor.{NumberTaken};

@@ -1,3 +1,5 @@
+//! SHA-256 digests as values.
+
 ghost use Rattle.std.specs.Prelude.{◌≡◌, length};
 
 /// A SHA-256 digest: 32 bytes.

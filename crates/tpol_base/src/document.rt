@@ -1,3 +1,5 @@
+//! Documents by name.
+
 use crate::{Blob, Text};
 
 /// A document of a shelf: its name and its bytes.

@@ -1,3 +1,5 @@
+//! Types whose clones are equal to what they were made from.
+
 ghost use Rattle.std.specs.Prelude.{◌≡◌};
 
 use crate::{Digest32, Name, Sequence, Text};

@@ -1,3 +1,5 @@
+//! Objects of the outside that fail where they are told to.
+
 ghost use Rattle.std.specs.Prelude.{◌≡◌, ◌≤◌, ◌<◌, ◌+◌, length, IsTrue, IsFalse, IsErr, IsErrOf, IfSome, IfOk, OnOk, OnErr, MatchResult};
 ghost use Rattle.std.specs.Bool.{OnTrue, OnFalse};
 ghost use Rattle.std.specs.Io.{ReadsAtMost};

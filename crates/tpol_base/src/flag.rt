@@ -1,3 +1,5 @@
+//! Truth values as bytes.
+
 ghost use Rattle.std.specs.Prelude.{◌≡◌};
 ghost use Rattle.tpol_base.specs.Flag.{yes_no};
 

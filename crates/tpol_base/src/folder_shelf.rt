@@ -1,3 +1,5 @@
+//! A folder of the file system as a shelf.
+
 ghost use Rattle.std.specs.Prelude.{None, ◌≡◌, ◌≤◌, ◌↔◌};
 ghost use Rattle.std.specs.IoError.{error_kind};
 ghost use Rattle.std.specs.String.{string_bytes};

@@ -1,3 +1,5 @@
+//! A shelf in memory.
+
 ghost use Rattle.std.specs.Prelude.{◌≡◌, [], Some, position, find, take, map, OnOk, OnErr, IfOk};
 ghost use Rattle.std.specs.Option.{option_copied};
 ghost use Rattle.tpol_base.specs.Documents.{is_named, most_handed_out, put_document};

@@ -1,3 +1,5 @@
+//! A sink in memory.
+
 ghost use Rattle.std.specs.Prelude.{◌≡◌, Some, [], Option, List, ℕ, option_map};
 
 use crate::{Failed, Sink};

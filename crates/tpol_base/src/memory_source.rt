@@ -1,3 +1,5 @@
+//! A source in memory.
+
 ghost use Rattle.std.specs.Prelude.{◌≡◌, Some, length, min, take};
 
 use crate::{Failed, Source};

@@ -1,3 +1,5 @@
+//! Names of entities and their bytes.
+
 ghost use Rattle.std.specs.Prelude.{◌≡◌, ◌≤◌, ◌∷◌, IfSome, IfNone, IfOk, length};
 ghost use Rattle.tpol_base.specs.Name.{name_bytes, name_of_bytes};
 ghost use Rattle.tpol_base.specs.declared.name.Name.{Name as EntityName};

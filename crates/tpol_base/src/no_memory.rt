@@ -1,3 +1,5 @@
+//! Want of memory.
+
 use std::alloc::{AllocError, AllocFailed};
 
 /// Memory ran out. It is the one answer of fapipol that no clause ties to a cause.

@@ -1,3 +1,5 @@
+//! Names of policies.
+
 ghost use Rattle.std.specs.Prelude.{◌≡◌};
 ghost use Rattle.std.specs.List.{list_all};
 ghost use Rattle.tpol_base.specs.PolicyName.{is_policy_name, is_name_byte, without_folder};

@@ -1,3 +1,5 @@
+//! A writer of std as a sink.
+
 ghost use Rattle.std.specs.Prelude.{◌≡◌, None};
 ghost use Rattle.tpol_base.specs.Adapters as adapters;
 ghost use Rattle.tpol_base.specs.Adapters.{sink_faults};

@@ -1,3 +1,5 @@
+//! A reader of std as a source.
+
 ghost use Rattle.std.specs.Prelude.{◌≡◌};
 ghost use Rattle.tpol_base.specs.Adapters as adapters;
 ghost use Rattle.tpol_base.specs.Adapters.{source_faults};

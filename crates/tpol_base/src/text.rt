@@ -1,3 +1,5 @@
+//! Texts.
+
 ghost use Rattle.std.specs.Prelude.{◌≡◌, ◌++◌, [], length, IfOk, OnOk, OnErr};
 ghost use Rattle.std.specs.String.{string_bytes};
 

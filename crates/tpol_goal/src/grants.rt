@@ -1,3 +1,5 @@
+//! The values and keys that a client may use.
+
 ghost use Rattle.std.specs.Prelude.{◌≡◌, option_map};
 ghost use Rattle.tpol_goal.specs.Grants.{authority, granted, is_granted, secret_of};
 

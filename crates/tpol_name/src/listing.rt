@@ -1,3 +1,5 @@
+//! The directory of a machine's entities.
+
 ghost use Rattle.std.specs.Prelude.{◌≡◌, ◌++◌, IfOk, OnOk, map};
 ghost use Rattle.tpol_name.specs.Directories.{directory_of, line_of_index, line_of_object};
 

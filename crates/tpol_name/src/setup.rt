@@ -1,3 +1,5 @@
+//! What a machine starts from.
+
 use crate::{Indices, Objects};
 use tpol_base::{Blob, Digest32, Digests};
 

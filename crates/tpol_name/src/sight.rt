@@ -1,3 +1,5 @@
+//! What a machine shows.
+
 ghost use Rattle.std.specs.Prelude.{◌≡◌, IfOk};
 ghost use Rattle.tpol_name.specs.Setups.{IsSetup, IsSight, first_sight};
 

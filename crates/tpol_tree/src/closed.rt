@@ -1,3 +1,5 @@
+//! Closed policies: every Name, digest and argument is given.
+
 ghost use Rattle.std.specs.Prelude.{◌≡◌, IfOk};
 ghost use Rattle.std.proofs.Common.{rules};
 

@@ -1,3 +1,5 @@
+//! What a session keeps of its policy commands.
+
 ghost use Rattle.std.specs.Prelude.{◌≡◌, ◌∷◌, ◌++◌, ◌<◌, ◌≤◌, [], length, IfOk, IsTrue, ◌↔◌};
 
 use crate::Move;

@@ -1,3 +1,5 @@
+//! Ways through a policy, and approved documents.
+
 ghost use Rattle.std.specs.Prelude.{◌≡◌, IfOk};
 ghost use Rattle.std.proofs.Common.{rules};
 ghost use Rattle.tpol_tree.specs.ClosedErased.{erased_document};

@@ -1,3 +1,5 @@
+//! Policies as they are written.
+
 use crate::{ApprovalWishes, EntityWish, IndexWish, KeyWish, NamesWish, ParentWish, PcrWish};
 use tpol_base::{Blob, Compare, Digest32, Name, Text};
 

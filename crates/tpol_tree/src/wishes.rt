@@ -1,3 +1,5 @@
+//! What a written policy names: PCRs, keys, indices, entities, parents and Names.
+
 use crate::{Names, PcrValues};
 use tpol_base::{Blob, Digest32, Name, Text, Texts};
 
