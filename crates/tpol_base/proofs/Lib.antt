@@ -1,1 +1,2 @@
 pub mod Digests
+mod Worked

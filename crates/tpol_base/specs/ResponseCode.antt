@@ -24,7 +24,7 @@ rc_auth_missing = 0x125
 abbrev pub rc_policy : ℕ
 rc_policy = 0x126
 
--- the PCRs cannot be changed any more
+-- a check of PCRs failed
 abbrev pub rc_pcr : ℕ
 rc_pcr = 0x127
 
@@ -52,7 +52,7 @@ rc_authsize = 0x144
 abbrev pub rc_auth_context : ℕ
 rc_auth_context = 0x145
 
--- the access goes past the end of an index, or its count past the last number
+-- an access past the end of an index, or a count past the last number
 abbrev pub rc_nv_range : ℕ
 rc_nv_range = 0x146
 

@@ -120,7 +120,7 @@ fn copy_names(alloc: Global, documents: &[Document]) -> Result<Texts, NoMemory>
 {
     let mut names = Texts::new(alloc);
     for document in documents {
-        names.push(document.name.try_clone(alloc)?)?;
+        names.push(document.name.clone()?)?;
     }
     Ok(names)
 }

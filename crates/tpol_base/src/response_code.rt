@@ -21,7 +21,7 @@ pub const AUTH_MISSING: u32 = 0x125;
 /// A comparison of the policy does not hold.
 pub const POLICY: u32 = 0x126;
 
-/// The PCRs cannot be changed any more.
+/// A check of PCRs failed.
 pub const PCR: u32 = 0x127;
 
 /// A PCR changed after PolicyPCR.
@@ -42,7 +42,7 @@ pub const AUTHSIZE: u32 = 0x144;
 /// The command takes no authorization.
 pub const AUTH_CONTEXT: u32 = 0x145;
 
-/// The access goes past the end of an index, or its count past the last number.
+/// An access past the end of an index, or a count past the last number.
 pub const NV_RANGE: u32 = 0x146;
 
 /// The entity does not authorize this access to the index.
