@@ -1,13 +1,14 @@
 //! The command that a client wants.
 
 ghost use Rattle.std.specs.Prelude.{◌≡◌, ◌++◌, ℕ, List, map, option_map};
+ghost use Rattle.std.proofs.Common.{rules};
 ghost use Rattle.std.specs.List.{flat_map};
 ghost use Rattle.tpol_base.specs.Name.{name_bytes};
 ghost use Rattle.tpol_hash.specs.Messages.{Holds};
 ghost use Rattle.tpol_goal.specs.Goals.{code_of_goal, entity_of_goal, names_of_goal, second_handle};
 
 use crate::name_of_handle;
-use tpol_base::{Blob, CommandCode};
+use tpol_base::{Blob, CommandCode, ExactClone};
 use tpol_hash::Hasher;
 use tpol_name::DirEntry;
 
@@ -45,6 +46,10 @@ pub enum Goal {
         object: u32,
         parent: u32,
     },
+}
+
+impl ExactClone for Goal {
+    ghost same = { Prim.search rules };
 }
 
 impl Goal {

@@ -1,11 +1,12 @@
 //! The values and keys that a client may use.
 
 ghost use Rattle.std.specs.Prelude.{◌≡◌, option_map};
+ghost use Rattle.std.proofs.Common.{rules};
 ghost use Rattle.tpol_goal.specs.Grants.{authority, granted, is_granted, secret_of};
 
 use tpol_base::attributes::{NV_AUTHREAD, has_attribute};
 use tpol_base::handle::TPM_RH_OWNER;
-use tpol_base::{Blob, Sequence};
+use tpol_base::{Blob, ExactClone, Sequence};
 
 /// Values by the handle of the entity that they are for.
 pub type Secrets = Sequence<(u32, Blob)>;
@@ -16,6 +17,10 @@ pub type Secrets = Sequence<(u32, Blob)>;
 pub struct Grants {
     pub secrets: Secrets,
     pub keys: Secrets,
+}
+
+impl ExactClone for Grants {
+    ghost same = { Prim.search rules };
 }
 
 impl Grants {

@@ -1,7 +1,10 @@
 //! What a machine starts from.
 
+ghost use Rattle.std.specs.Prelude.{◌≡◌};
+ghost use Rattle.std.proofs.Common.{rules};
+
 use crate::{Indices, Objects};
-use tpol_base::{Blob, Digest32, Digests};
+use tpol_base::{Blob, Digest32, Digests, ExactClone};
 
 /// What a machine starts from: the seed of its nonces, the authorization values of its hierarchies, the 24
 /// values of its PCRs with the PCR update counter, its entities, its time in milliseconds and counters of
@@ -21,4 +24,8 @@ pub struct Setup {
     pub restart_count: u32,
     pub safe: bool,
     pub presence: bool,
+}
+
+impl ExactClone for Setup {
+    ghost same = { Prim.search rules };
 }

@@ -1,11 +1,12 @@
 //! What a machine shows.
 
 ghost use Rattle.std.specs.Prelude.{◌≡◌, IfOk};
+ghost use Rattle.std.proofs.Common.{rules};
 ghost use Rattle.tpol_name.specs.Setups.{IsSetup, IsSight, first_sight};
 
 use crate::{Indices, Objects, Setup};
 use std::alloc::Global;
-use tpol_base::{Blob, Digests, NoMemory};
+use tpol_base::{Blob, Digests, ExactClone, NoMemory};
 
 /// The number of sessions that a machine can keep alive.
 const SESSIONS: u32 = 64;
@@ -27,6 +28,10 @@ pub struct Sight {
     pub safe: bool,
     pub presence: bool,
     pub free_sessions: u32,
+}
+
+impl ExactClone for Sight {
+    ghost same = { Prim.search rules };
 }
 
 /// What a machine shows that just started from this setup.
