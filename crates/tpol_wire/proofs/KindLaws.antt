@@ -9,14 +9,13 @@ use Rattle.std.proofs.lemmas.Int.{to_z-of_z, of_z-to_z}
 use Rattle.std.proofs.lemmas.List.{length-append, length-drop, nil_from_length}
 use Rattle.std.proofs.lemmas.List.Concat.{flat_map-cons}
 use Rattle.tpol_base.specs.declared.compare.Compare.{Compare}
-use Rattle.tpol_base.specs.declared.compare.Compare.TheVariants.{Eq, Neq, SignedGt, UnsignedGt, SignedLt, UnsignedLt, SignedGe, UnsignedGe, SignedLe, UnsignedLe, BitSet, BitClear}
+use Rattle.tpol_base.specs.declared.compare.Compare.TheVariants.{Eq}
 use Rattle.tpol_base.specs.declared.digest.Digest32.{Digest32}
 use Rattle.tpol_base.specs.declared.name.Name.{Name}
 use Rattle.tpol_base.specs.declared.name.Name.TheVariants as names
 use Rattle.tpol_base.specs.Compare.{number_of_compare, comparisons, compare_of_number}
 use Rattle.tpol_base.specs.Digest.{digest_of_bytes}
 use Rattle.tpol_base.specs.Flag.{yes_no}
-use Rattle.tpol_base.specs.Handle.{rh_null, rh_owner}
 use Rattle.tpol_base.specs.Name.{name_bytes, name_of_bytes}
 use Rattle.tpol_base.proofs.Digests.{digest_of_whole, digest_again}
 use Rattle.tpol_wire.specs.declared.ticket.Ticket.{Ticket}

@@ -5,12 +5,11 @@ use Rattle.std.specs.Prelude.{IfOk}
 use Rattle.std.specs.Result.{result_ok}
 use Rattle.std.proofs.lemmas.Bool.{eqb-true, ltb-false, le-ltb, leb-true, ne_eqb}
 use Rattle.std.proofs.lemmas.List.{append-nil, length-append, nil_from_length}
-use Rattle.tpol_base.specs.declared.rc.Rc.{Rc}
 use Rattle.tpol_base.specs.CommandCode.{code_of_number}
 use Rattle.tpol_base.specs.Constants.{st_no_sessions, st_rsp_command}
 use Rattle.tpol_base.specs.declared.command_code.CommandCode.{CommandCode}
 use Rattle.tpol_base.specs.declared.command_code.CommandCode.TheVariants as codes
-use Rattle.tpol_base.specs.ResponseCode.{of_parameter, rc_bad_tag}
+use Rattle.tpol_base.specs.ResponseCode.{rc_bad_tag}
 use Rattle.tpol_wire.specs.declared.auth_area.ReplyAuth.{ReplyAuth}
 use Rattle.tpol_wire.specs.declared.fault.ReplyFault.{ReplyFault}
 use Rattle.tpol_wire.specs.declared.reply.Reply.{Reply}
@@ -19,14 +18,14 @@ use Rattle.tpol_wire.specs.Answers.{GivesReply}
 use Rattle.tpol_wire.specs.Authorizations.{spell_reply_auth, ReplyAuthFits, tail_of}
 use Rattle.tpol_wire.specs.Commands.{Values, spell_values, ValuesFit, tag}
 use Rattle.tpol_wire.specs.Kinds.{number_at, bytes_at}
-use Rattle.tpol_wire.specs.Reading.{reply_at, values_at}
+use Rattle.tpol_wire.specs.Reading.{reply_at}
 use Rattle.tpol_wire.specs.Replies.{Parts, Served, Refusal, parts_of, reply_of, reply_body, reply_layout, refusal_tag, spell_parts, AuthFits, PartsFit, PartsAnswer, SpellsReply}
 use Rattle.tpol_wire.specs.ReplyReading.{◌>>=◌, all_fields_of, reply_auth_of, served_at, refusal_of, answer_of, reply_reading}
 use Rattle.tpol_wire.specs.Rows.{row}
 use Rattle.tpol_wire.proofs.Takes.{IsBytes, neither, wide16, wide32, number_takes, number_again, bytes_take, bytes_again}
 use Rattle.tpol_wire.proofs.KindLaws.{both}
 use Rattle.tpol_wire.proofs.AuthorizationLaws.{tail_found, tail_again, tail_length}
-use Rattle.tpol_wire.proofs.RowLaws.{are_sound, values_found, values_again, values_length, greatest_lengths, code_again, code_found, reply_found_at, reply_again_at}
+use Rattle.tpol_wire.proofs.RowLaws.{are_sound, values_length, greatest_lengths, code_again, code_found, reply_found_at, reply_again_at}
 
 -- the value of a step that gave one
 bind_some : {A B : Type 0} (o : Option A) (f : A → Option B) (y : B) → (o >>= f) ≡ Some y → (x : A) × (o ≡ Some x) × (f x ≡ Some y)

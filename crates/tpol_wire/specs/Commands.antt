@@ -177,6 +177,14 @@ spelling command = layout (code_of_command command) (fields_of command)
 abbrev pub spell_parameters : Command → List ℕ
 spell_parameters command = spell_values (row (code_of_command command)).parameters (fields_of command).parameters
 
+-- a policy command that asserts an authorization of a key or an entity
+abbrev pub is_assertion : CommandCode → Bool
+is_assertion codes.PolicySigned = true
+is_assertion codes.PolicySecret = true
+is_assertion codes.PolicyTicket = true
+is_assertion codes.PolicyAuthorize = true
+is_assertion code = false
+
 -- the bytes of its handles and its authorization
 abbrev pub spell_front : Command → List ℕ
 spell_front command = spell_values (row (code_of_command command)).handles (fields_of command).handles ++ authorization (row (code_of_command command)).is_authorized (fields_of command).area

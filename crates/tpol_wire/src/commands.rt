@@ -1,4 +1,5 @@
 //! The commands, each in a file of its own under its standard name: handles, parameters and reply (TPM 2.0 Part 3).
+#![tactic(auto, unfolding(crate::specs::Reading::body_at, crate::specs::Reading::reply_at, crate::specs::Reading::values_at, crate::specs::Commands::spell_values, crate::specs::Kinds::spell))]
 
 pub(crate) mod context_load;
 pub(crate) mod context_save;

@@ -3,7 +3,7 @@
 ghost use Rattle.std.specs.Prelude.{◌≡◌, IfOk, List, ℕ, option_copied, true, false};
 ghost use Rattle.tpol_base.specs.CommandCode.{number_of_code};
 ghost use Rattle.tpol_wire.specs.Authorizations.{authorization};
-ghost use Rattle.tpol_wire.specs.Commands.{code_of_command, FitsCommand, fields_of, spelling as spelled, Spells, spell_front, spell_parameters, spell_value, spell_values, tag};
+ghost use Rattle.tpol_wire.specs.Commands.{code_of_command, FitsCommand, fields_of, is_assertion, spelling as spelled, Spells, spell_front, spell_parameters, spell_value, spell_values, tag};
 ghost use Rattle.tpol_wire.specs.Rows.{row};
 ghost use Rattle.tpol_wire.specs.Spellings.{Appends, spell_handle, spell_optional_area};
 
@@ -188,30 +188,15 @@ fn front(alloc: Global, out: &mut Blob, command: &Command) -> Result<(), NoMemor
 fn parameters(out: &mut Blob, command: &Command) -> Result<(), NoMemory>
     ensures { Appends result out.old out.new (spell_parameters command.now) }
 {
-    if table::is_authorized(command_code(command)) {
-        authorized_parameters(out, command)
-    } else {
-        plain_parameters(out, command)
-    }
-}
-
-/// The parameters of a command with an authorization.
-fn authorized_parameters(out: &mut Blob, command: &Command) -> Result<(), NoMemory>
-    requires { (row (code_of_command command.now)).is_authorized ≡ true }
-    ensures { Appends result out.old out.new (spell_parameters command.now) }
-{
     match command {
-        Command::PcrExtend { digest, .. } => pcr_extend::write(out, digest),
-        Command::Hmac { buffer, hash, .. } => hmac::write(out, buffer, *hash),
-        Command::NvRead { size, offset, .. } => nv_read::write(out, *size, *offset),
-        Command::NvWrite { bytes, offset, .. } => nv_write::write(out, bytes, *offset),
-        Command::Duplicate { .. } => duplicate::write(out),
-        Command::PolicyNv {
-            operand,
-            offset,
-            operation,
+        Command::PolicySigned {
+            nonce,
+            cp_hash,
+            policy_ref,
+            expiration,
+            signature,
             ..
-        } => policy_nv::write(out, operand, *offset, *operation),
+        } => policy_signed::write(out, nonce, cp_hash, policy_ref, expiration, signature),
         Command::PolicySecret {
             nonce,
             cp_hash,
@@ -219,13 +204,28 @@ fn authorized_parameters(out: &mut Blob, command: &Command) -> Result<(), NoMemo
             expiration,
             ..
         } => policy_secret::write(out, nonce, cp_hash, policy_ref, expiration),
-        _ => Ok(()),
+        Command::PolicyTicket {
+            timeout,
+            cp_hash,
+            policy_ref,
+            key,
+            ticket,
+            ..
+        } => policy_ticket::write(out, *timeout, cp_hash, policy_ref, key, ticket),
+        Command::PolicyAuthorize {
+            approved,
+            policy_ref,
+            key,
+            ticket,
+            ..
+        } => policy_authorize::write(out, approved, policy_ref, key, ticket),
+        _ => other_parameters(out, command),
     }
 }
 
-/// The parameters of a command without an authorization.
-fn plain_parameters(out: &mut Blob, command: &Command) -> Result<(), NoMemory>
-    requires { (row (code_of_command command.now)).is_authorized ≡ false }
+/// The parameters of a command that asserts no authorization of a key or an entity.
+fn other_parameters(out: &mut Blob, command: &Command) -> Result<(), NoMemory>
+    requires { is_assertion (code_of_command command.now) ≡ false }
     ensures { Appends result out.old out.new (spell_parameters command.now) }
 {
     match command {
@@ -236,12 +236,23 @@ fn plain_parameters(out: &mut Blob, command: &Command) -> Result<(), NoMemory>
             digest,
         } => context_load::write(out, *sequence, *session, digest),
         Command::FlushContext { session } => flush_context::write(out, *session),
+        Command::PcrExtend { digest, .. } => pcr_extend::write(out, digest),
         Command::PcrRead { mask } => pcr_read::write(out, *mask),
         Command::VerifySignature {
             digest,
             signature,
             ..
         } => verify_signature::write(out, digest, signature),
+        Command::Hmac { buffer, hash, .. } => hmac::write(out, buffer, *hash),
+        Command::NvRead { size, offset, .. } => nv_read::write(out, *size, *offset),
+        Command::NvWrite { bytes, offset, .. } => nv_write::write(out, bytes, *offset),
+        Command::Duplicate { .. } => duplicate::write(out),
+        Command::PolicyNv {
+            operand,
+            offset,
+            operation,
+            ..
+        } => policy_nv::write(out, operand, *offset, *operation),
         Command::PolicyCpHash { digest, .. } => policy_cp_hash::write(out, digest),
         Command::PolicyNameHash { digest, .. } => policy_name_hash::write(out, digest),
         Command::PolicyCommandCode { code, .. } => policy_command_code::write(out, *code),
@@ -260,29 +271,6 @@ fn plain_parameters(out: &mut Blob, command: &Command) -> Result<(), NoMemory>
             ..
         } => policy_duplication_select::write(out, object, parent, *include),
         Command::PolicyNvWritten { written, .. } => policy_nv_written::write(out, *written),
-        Command::PolicySigned {
-            nonce,
-            cp_hash,
-            policy_ref,
-            expiration,
-            signature,
-            ..
-        } => policy_signed::write(out, nonce, cp_hash, policy_ref, expiration, signature),
-        Command::PolicyTicket {
-            timeout,
-            cp_hash,
-            policy_ref,
-            key,
-            ticket,
-            ..
-        } => policy_ticket::write(out, *timeout, cp_hash, policy_ref, key, ticket),
-        Command::PolicyAuthorize {
-            approved,
-            policy_ref,
-            key,
-            ticket,
-            ..
-        } => policy_authorize::write(out, approved, policy_ref, key, ticket),
         Command::PolicyOr { digests, .. } => policy_or::write(out, digests),
         _ => Ok(()),
     }

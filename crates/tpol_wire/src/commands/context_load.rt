@@ -1,5 +1,4 @@
 //! TPM2_ContextLoad (TPM 2.0 Part 3).
-#![tactic(auto, unfolding(crate::specs::Reading::body_at, crate::specs::Reading::values_at))]
 
 ghost use Rattle.tpol_wire.specs.Answers.{Reads};
 ghost use Rattle.tpol_wire.specs.Commands.{spell_values};
@@ -14,7 +13,7 @@ use crate::reply::Reply;
 use crate::{authorization, fields, spelling};
 use tpol_base::{Blob, CommandCode, Cursor, Digest32, NoMemory};
 
-/// The command.
+/// Reads the parameter.
 pub(crate) fn read(tagged: bool, cursor: &mut Cursor) -> Result<Command, WireFault>
     ensures { Reads result (body_at CommandCode.ContextLoad tagged cursor.old) cursor.new }
 {
@@ -27,8 +26,7 @@ pub(crate) fn read(tagged: bool, cursor: &mut Cursor) -> Result<Command, WireFau
     })
 }
 
-/// The parameters.
-#[tactic(auto, unfolding(crate::specs::Commands::spell_values, crate::specs::Kinds::spell))]
+/// Writes the parameters.
 pub(crate) fn write(
     out: &mut Blob,
     sequence: u64,
@@ -40,8 +38,7 @@ pub(crate) fn write(
     spelling::context(out, sequence, session, digest)
 }
 
-/// The reply.
-#[tactic(auto, unfolding(crate::specs::Reading::reply_at, crate::specs::Reading::values_at))]
+/// Reads the fields of the reply.
 pub(crate) fn read_reply(cursor: &mut Cursor) -> Result<Reply, WireFault>
     ensures { Reads result (reply_at CommandCode.ContextLoad cursor.old) cursor.new }
 {
@@ -49,8 +46,7 @@ pub(crate) fn read_reply(cursor: &mut Cursor) -> Result<Reply, WireFault>
     Ok(Reply::ContextLoad { session })
 }
 
-/// The fields of the reply.
-#[tactic(auto, unfolding(crate::specs::Commands::spell_values, crate::specs::Kinds::spell))]
+/// Writes the fields of the reply.
 pub(crate) fn write_reply(out: &mut Blob, session: u32) -> Result<(), NoMemory>
     ensures { Appends result out.old out.new (spell_values (row CommandCode.ContextLoad).reply (session, tt)) }
 {

@@ -1,5 +1,4 @@
 //! TPM2_ContextSave (TPM 2.0 Part 3).
-#![tactic(auto, unfolding(crate::specs::Reading::body_at, crate::specs::Reading::values_at))]
 
 ghost use Rattle.tpol_wire.specs.Answers.{Reads};
 ghost use Rattle.tpol_wire.specs.Commands.{spell_values};
@@ -14,7 +13,7 @@ use crate::reply::Reply;
 use crate::{authorization, fields, spelling};
 use tpol_base::{Blob, CommandCode, Cursor, Digest32, NoMemory};
 
-/// The command.
+/// Reads the handle.
 pub(crate) fn read(tagged: bool, cursor: &mut Cursor) -> Result<Command, WireFault>
     ensures { Reads result (body_at CommandCode.ContextSave tagged cursor.old) cursor.new }
 {
@@ -23,8 +22,7 @@ pub(crate) fn read(tagged: bool, cursor: &mut Cursor) -> Result<Command, WireFau
     Ok(Command::ContextSave { session })
 }
 
-/// The reply.
-#[tactic(auto, unfolding(crate::specs::Reading::reply_at, crate::specs::Reading::values_at))]
+/// Reads the fields of the reply.
 pub(crate) fn read_reply(cursor: &mut Cursor) -> Result<Reply, WireFault>
     ensures { Reads result (reply_at CommandCode.ContextSave cursor.old) cursor.new }
 {
@@ -36,8 +34,7 @@ pub(crate) fn read_reply(cursor: &mut Cursor) -> Result<Reply, WireFault>
     })
 }
 
-/// The fields of the reply.
-#[tactic(auto, unfolding(crate::specs::Commands::spell_values, crate::specs::Kinds::spell))]
+/// Writes the fields of the reply.
 pub(crate) fn write_reply(
     out: &mut Blob,
     sequence: u64,

@@ -1,5 +1,4 @@
 //! TPM2_Duplicate (TPM 2.0 Part 3).
-#![tactic(auto, unfolding(crate::specs::Reading::body_at, crate::specs::Reading::values_at))]
 
 ghost use Rattle.tpol_wire.specs.Answers.{Reads};
 ghost use Rattle.tpol_wire.specs.Commands.{spell_values};
@@ -17,7 +16,7 @@ use tpol_base::constants::TPM_ALG_NULL;
 use tpol_base::response_code::VALUE;
 use tpol_base::{Blob, CommandCode, Cursor, NoMemory};
 
-/// The command.
+/// Reads the handles, the authorization and the parameters.
 pub(crate) fn read(alloc: Global, tagged: bool, cursor: &mut Cursor) -> Result<Command, WireFault>
     ensures { Reads result (body_at CommandCode.Duplicate tagged cursor.old) cursor.new }
 {
@@ -33,8 +32,7 @@ pub(crate) fn read(alloc: Global, tagged: bool, cursor: &mut Cursor) -> Result<C
     })
 }
 
-/// The parameters.
-#[tactic(auto, unfolding(crate::specs::Commands::spell_values, crate::specs::Kinds::spell))]
+/// Writes the parameters.
 pub(crate) fn write(out: &mut Blob) -> Result<(), NoMemory>
     ensures { Appends result out.old out.new (spell_values (row CommandCode.Duplicate).parameters (tt, (tt, tt))) }
 {
@@ -42,8 +40,7 @@ pub(crate) fn write(out: &mut Blob) -> Result<(), NoMemory>
     spelling::number16(out, TPM_ALG_NULL)
 }
 
-/// The reply.
-#[tactic(auto, unfolding(crate::specs::Reading::reply_at, crate::specs::Reading::values_at))]
+/// Reads the fields of the reply.
 pub(crate) fn read_reply(alloc: Global, cursor: &mut Cursor) -> Result<Reply, WireFault>
     ensures { Reads result (reply_at CommandCode.Duplicate cursor.old) cursor.new }
 {
@@ -53,8 +50,7 @@ pub(crate) fn read_reply(alloc: Global, cursor: &mut Cursor) -> Result<Reply, Wi
     Ok(Reply::Duplicate { bytes })
 }
 
-/// The fields of the reply.
-#[tactic(auto, unfolding(crate::specs::Commands::spell_values, crate::specs::Kinds::spell))]
+/// Writes the fields of the reply.
 pub(crate) fn write_reply(out: &mut Blob, bytes: &Blob) -> Result<(), NoMemory>
     ensures { Appends result out.old out.new (spell_values (row CommandCode.Duplicate).reply (tt, (bytes.now, (tt, tt)))) }
 {

@@ -1,5 +1,4 @@
 //! TPM2_FlushContext (TPM 2.0 Part 3).
-#![tactic(auto, unfolding(crate::specs::Reading::body_at, crate::specs::Reading::values_at))]
 
 ghost use Rattle.tpol_wire.specs.Answers.{Reads};
 ghost use Rattle.tpol_wire.specs.Commands.{spell_values};
@@ -13,7 +12,7 @@ use crate::handle_type::HandleType;
 use crate::{authorization, fields, spelling};
 use tpol_base::{Blob, CommandCode, Cursor, NoMemory};
 
-/// The command.
+/// Reads the parameter.
 pub(crate) fn read(tagged: bool, cursor: &mut Cursor) -> Result<Command, WireFault>
     ensures { Reads result (body_at CommandCode.FlushContext tagged cursor.old) cursor.new }
 {
@@ -22,8 +21,7 @@ pub(crate) fn read(tagged: bool, cursor: &mut Cursor) -> Result<Command, WireFau
     Ok(Command::FlushContext { session })
 }
 
-/// The parameters.
-#[tactic(auto, unfolding(crate::specs::Commands::spell_values, crate::specs::Kinds::spell))]
+/// Writes the parameters.
 pub(crate) fn write(out: &mut Blob, session: u32) -> Result<(), NoMemory>
     ensures { Appends result out.old out.new (spell_values (row CommandCode.FlushContext).parameters (session, tt)) }
 {

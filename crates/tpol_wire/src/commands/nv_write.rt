@@ -1,5 +1,4 @@
 //! TPM2_NV_Write (TPM 2.0 Part 3).
-#![tactic(auto, unfolding(crate::specs::Reading::body_at, crate::specs::Reading::values_at))]
 
 ghost use Rattle.tpol_wire.specs.Answers.{Reads};
 ghost use Rattle.tpol_wire.specs.Commands.{spell_values};
@@ -14,7 +13,7 @@ use crate::{authorization, fields, spelling};
 use std::alloc::Global;
 use tpol_base::{Blob, CommandCode, Cursor, NoMemory};
 
-/// The command.
+/// Reads the handles, the authorization and the parameters.
 pub(crate) fn read(alloc: Global, tagged: bool, cursor: &mut Cursor) -> Result<Command, WireFault>
     ensures { Reads result (body_at CommandCode.NvWrite tagged cursor.old) cursor.new }
 {
@@ -32,8 +31,7 @@ pub(crate) fn read(alloc: Global, tagged: bool, cursor: &mut Cursor) -> Result<C
     })
 }
 
-/// The parameters.
-#[tactic(auto, unfolding(crate::specs::Commands::spell_values, crate::specs::Kinds::spell))]
+/// Writes the parameters.
 pub(crate) fn write(out: &mut Blob, bytes: &Blob, offset: u16) -> Result<(), NoMemory>
     ensures { Appends result out.old out.new (spell_values (row CommandCode.NvWrite).parameters (bytes.now, (offset, tt))) }
 {

@@ -1,5 +1,4 @@
 //! TPM2_PCR_Extend (TPM 2.0 Part 3).
-#![tactic(auto, unfolding(crate::specs::Reading::body_at, crate::specs::Reading::values_at))]
 
 ghost use Rattle.tpol_wire.specs.Answers.{Reads};
 ghost use Rattle.tpol_wire.specs.Commands.{spell_values};
@@ -14,7 +13,7 @@ use crate::{authorization, fields, spelling};
 use std::alloc::Global;
 use tpol_base::{Blob, CommandCode, Cursor, Digest32, NoMemory};
 
-/// The command.
+/// Reads the handle, the authorization and the parameter.
 pub(crate) fn read(alloc: Global, tagged: bool, cursor: &mut Cursor) -> Result<Command, WireFault>
     ensures { Reads result (body_at CommandCode.PcrExtend tagged cursor.old) cursor.new }
 {
@@ -24,8 +23,7 @@ pub(crate) fn read(alloc: Global, tagged: bool, cursor: &mut Cursor) -> Result<C
     Ok(Command::PcrExtend { pcr, auth, digest })
 }
 
-/// The parameters.
-#[tactic(auto, unfolding(crate::specs::Commands::spell_values, crate::specs::Kinds::spell))]
+/// Writes the parameters.
 pub(crate) fn write(out: &mut Blob, digest: &Digest32) -> Result<(), NoMemory>
     ensures { Appends result out.old out.new (spell_values (row CommandCode.PcrExtend).parameters (digest.now, tt)) }
 {

@@ -1,5 +1,4 @@
 //! TPM2_PolicyAuthorizeNV (TPM 2.0 Part 3).
-#![tactic(auto, unfolding(crate::specs::Reading::body_at, crate::specs::Reading::values_at))]
 
 ghost use Rattle.tpol_wire.specs.Answers.{Reads};
 ghost use Rattle.tpol_wire.specs.Reading.{body_at};
@@ -11,7 +10,7 @@ use crate::{authorization, fields};
 use std::alloc::Global;
 use tpol_base::{CommandCode, Cursor};
 
-/// The command.
+/// Reads the handles and the authorization.
 pub(crate) fn read(alloc: Global, tagged: bool, cursor: &mut Cursor) -> Result<Command, WireFault>
     ensures { Reads result (body_at CommandCode.PolicyAuthorizeNv tagged cursor.old) cursor.new }
 {

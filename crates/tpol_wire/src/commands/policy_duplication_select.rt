@@ -1,5 +1,4 @@
 //! TPM2_PolicyDuplicationSelect (TPM 2.0 Part 3).
-#![tactic(auto, unfolding(crate::specs::Reading::body_at, crate::specs::Reading::values_at))]
 
 ghost use Rattle.tpol_wire.specs.Answers.{Reads};
 ghost use Rattle.tpol_wire.specs.Commands.{spell_values};
@@ -13,7 +12,7 @@ use crate::handle_type::HandleType;
 use crate::{authorization, fields, spelling};
 use tpol_base::{Blob, CommandCode, Cursor, Name, NoMemory};
 
-/// The command.
+/// Reads the handle and the parameters.
 pub(crate) fn read(tagged: bool, cursor: &mut Cursor) -> Result<Command, WireFault>
     ensures { Reads result (body_at CommandCode.PolicyDuplicationSelect tagged cursor.old) cursor.new }
 {
@@ -30,8 +29,7 @@ pub(crate) fn read(tagged: bool, cursor: &mut Cursor) -> Result<Command, WireFau
     })
 }
 
-/// The parameters.
-#[tactic(auto, unfolding(crate::specs::Commands::spell_values, crate::specs::Kinds::spell))]
+/// Writes the parameters.
 pub(crate) fn write(
     out: &mut Blob,
     object: &Name,

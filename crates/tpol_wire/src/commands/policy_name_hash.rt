@@ -1,5 +1,4 @@
 //! TPM2_PolicyNameHash (TPM 2.0 Part 3).
-#![tactic(auto, unfolding(crate::specs::Reading::body_at, crate::specs::Reading::values_at))]
 
 ghost use Rattle.tpol_wire.specs.Answers.{Reads};
 ghost use Rattle.tpol_wire.specs.Commands.{spell_values};
@@ -13,7 +12,7 @@ use crate::handle_type::HandleType;
 use crate::{authorization, fields, spelling};
 use tpol_base::{Blob, CommandCode, Cursor, Digest32, NoMemory};
 
-/// The command.
+/// Reads the handle and the parameter.
 pub(crate) fn read(tagged: bool, cursor: &mut Cursor) -> Result<Command, WireFault>
     ensures { Reads result (body_at CommandCode.PolicyNameHash tagged cursor.old) cursor.new }
 {
@@ -23,8 +22,7 @@ pub(crate) fn read(tagged: bool, cursor: &mut Cursor) -> Result<Command, WireFau
     Ok(Command::PolicyNameHash { session, digest })
 }
 
-/// The parameters.
-#[tactic(auto, unfolding(crate::specs::Commands::spell_values, crate::specs::Kinds::spell))]
+/// Writes the parameters.
 pub(crate) fn write(out: &mut Blob, digest: &Digest32) -> Result<(), NoMemory>
     ensures { Appends result out.old out.new (spell_values (row CommandCode.PolicyNameHash).parameters (digest.now, tt)) }
 {

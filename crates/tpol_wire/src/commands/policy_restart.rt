@@ -1,5 +1,4 @@
 //! TPM2_PolicyRestart (TPM 2.0 Part 3).
-#![tactic(auto, unfolding(crate::specs::Reading::body_at, crate::specs::Reading::values_at))]
 
 ghost use Rattle.tpol_wire.specs.Answers.{Reads};
 ghost use Rattle.tpol_wire.specs.Reading.{body_at};
@@ -10,7 +9,7 @@ use crate::handle_type::HandleType;
 use crate::{authorization, fields};
 use tpol_base::{CommandCode, Cursor};
 
-/// The command.
+/// Reads the handle.
 pub(crate) fn read(tagged: bool, cursor: &mut Cursor) -> Result<Command, WireFault>
     ensures { Reads result (body_at CommandCode.PolicyRestart tagged cursor.old) cursor.new }
 {

@@ -1,5 +1,4 @@
 //! TPM2_PolicySigned (TPM 2.0 Part 3).
-#![tactic(auto, unfolding(crate::specs::Reading::body_at, crate::specs::Reading::values_at))]
 
 ghost use Rattle.tpol_wire.specs.Answers.{Reads};
 ghost use Rattle.tpol_wire.specs.Commands.{spell_values};
@@ -17,7 +16,7 @@ use std::alloc::Global;
 use tpol_base::constants::TPM_ST_AUTH_SIGNED;
 use tpol_base::{Blob, CommandCode, Cursor, Digest32, NoMemory};
 
-/// The command.
+/// Reads the handles and the parameters.
 pub(crate) fn read(alloc: Global, tagged: bool, cursor: &mut Cursor) -> Result<Command, WireFault>
     ensures { Reads result (body_at CommandCode.PolicySigned tagged cursor.old) cursor.new }
 {
@@ -40,8 +39,7 @@ pub(crate) fn read(alloc: Global, tagged: bool, cursor: &mut Cursor) -> Result<C
     })
 }
 
-/// The parameters.
-#[tactic(auto, unfolding(crate::specs::Commands::spell_values, crate::specs::Kinds::spell))]
+/// Writes the parameters.
 pub(crate) fn write(
     out: &mut Blob,
     nonce: &Blob,
@@ -59,8 +57,7 @@ pub(crate) fn write(
     spelling::signature(out, signature)
 }
 
-/// The reply.
-#[tactic(auto, unfolding(crate::specs::Reading::reply_at, crate::specs::Reading::values_at))]
+/// Reads the fields of the reply.
 pub(crate) fn read_reply(alloc: Global, cursor: &mut Cursor) -> Result<Reply, WireFault>
     ensures { Reads result (reply_at CommandCode.PolicySigned cursor.old) cursor.new }
 {
@@ -68,8 +65,7 @@ pub(crate) fn read_reply(alloc: Global, cursor: &mut Cursor) -> Result<Reply, Wi
     Ok(Reply::PolicySigned { timeout, ticket })
 }
 
-/// The fields of the reply.
-#[tactic(auto, unfolding(crate::specs::Commands::spell_values, crate::specs::Kinds::spell))]
+/// Writes the fields of the reply.
 pub(crate) fn write_reply(
     out: &mut Blob,
     timeout: Option<u64>,

@@ -1,5 +1,4 @@
 //! TPM2_StartAuthSession (TPM 2.0 Part 3).
-#![tactic(auto, unfolding(crate::specs::Reading::body_at, crate::specs::Reading::values_at))]
 
 ghost use Rattle.tpol_wire.specs.Answers.{Reads};
 ghost use Rattle.tpol_wire.specs.Commands.{spell_values};
@@ -16,7 +15,7 @@ use tpol_base::constants::{TPM_ALG_NULL, TPM_ALG_SHA256, TPM_SE_POLICY};
 use tpol_base::response_code::{HASH, VALUE};
 use tpol_base::{Blob, CommandCode, Cursor, Digest32, NoMemory};
 
-/// The command.
+/// Reads the handles and the parameters.
 pub(crate) fn read(tagged: bool, cursor: &mut Cursor) -> Result<Command, WireFault>
     ensures { Reads result (body_at CommandCode.StartAuthSession tagged cursor.old) cursor.new }
 {
@@ -35,8 +34,7 @@ pub(crate) fn read(tagged: bool, cursor: &mut Cursor) -> Result<Command, WireFau
     })
 }
 
-/// The parameters.
-#[tactic(auto, unfolding(crate::specs::Commands::spell_values, crate::specs::Kinds::spell))]
+/// Writes the parameters.
 pub(crate) fn write(out: &mut Blob, nonce: &Digest32) -> Result<(), NoMemory>
     ensures { Appends result out.old out.new (spell_values (row CommandCode.StartAuthSession).parameters (nonce.now, (tt, (tt, (tt, (tt, tt)))))) }
 {
@@ -47,8 +45,7 @@ pub(crate) fn write(out: &mut Blob, nonce: &Digest32) -> Result<(), NoMemory>
     spelling::number16(out, TPM_ALG_SHA256)
 }
 
-/// The reply.
-#[tactic(auto, unfolding(crate::specs::Reading::reply_at, crate::specs::Reading::values_at))]
+/// Reads the fields of the reply.
 pub(crate) fn read_reply(cursor: &mut Cursor) -> Result<Reply, WireFault>
     ensures { Reads result (reply_at CommandCode.StartAuthSession cursor.old) cursor.new }
 {
@@ -57,8 +54,7 @@ pub(crate) fn read_reply(cursor: &mut Cursor) -> Result<Reply, WireFault>
     Ok(Reply::StartAuthSession { session, nonce })
 }
 
-/// The fields of the reply.
-#[tactic(auto, unfolding(crate::specs::Commands::spell_values, crate::specs::Kinds::spell))]
+/// Writes the fields of the reply.
 pub(crate) fn write_reply(out: &mut Blob, session: u32, nonce: &Digest32) -> Result<(), NoMemory>
     ensures { Appends result out.old out.new (spell_values (row CommandCode.StartAuthSession).reply (session, (nonce.now, tt))) }
 {

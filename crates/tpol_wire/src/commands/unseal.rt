@@ -1,5 +1,4 @@
 //! TPM2_Unseal (TPM 2.0 Part 3).
-#![tactic(auto, unfolding(crate::specs::Reading::body_at, crate::specs::Reading::values_at))]
 
 ghost use Rattle.tpol_wire.specs.Answers.{Reads};
 ghost use Rattle.tpol_wire.specs.Commands.{spell_values};
@@ -15,7 +14,7 @@ use crate::{authorization, fields, spelling};
 use std::alloc::Global;
 use tpol_base::{Blob, CommandCode, Cursor, NoMemory};
 
-/// The command.
+/// Reads the handle and the authorization.
 pub(crate) fn read(alloc: Global, tagged: bool, cursor: &mut Cursor) -> Result<Command, WireFault>
     ensures { Reads result (body_at CommandCode.Unseal tagged cursor.old) cursor.new }
 {
@@ -24,8 +23,7 @@ pub(crate) fn read(alloc: Global, tagged: bool, cursor: &mut Cursor) -> Result<C
     Ok(Command::Unseal { object, auth })
 }
 
-/// The reply.
-#[tactic(auto, unfolding(crate::specs::Reading::reply_at, crate::specs::Reading::values_at))]
+/// Reads the fields of the reply.
 pub(crate) fn read_reply(alloc: Global, cursor: &mut Cursor) -> Result<Reply, WireFault>
     ensures { Reads result (reply_at CommandCode.Unseal cursor.old) cursor.new }
 {
@@ -33,8 +31,7 @@ pub(crate) fn read_reply(alloc: Global, cursor: &mut Cursor) -> Result<Reply, Wi
     Ok(Reply::Unseal { bytes })
 }
 
-/// The fields of the reply.
-#[tactic(auto, unfolding(crate::specs::Commands::spell_values, crate::specs::Kinds::spell))]
+/// Writes the fields of the reply.
 pub(crate) fn write_reply(out: &mut Blob, bytes: &Blob) -> Result<(), NoMemory>
     ensures { Appends result out.old out.new (spell_values (row CommandCode.Unseal).reply (bytes.now, tt)) }
 {

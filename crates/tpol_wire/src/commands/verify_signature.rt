@@ -1,5 +1,4 @@
 //! TPM2_VerifySignature (TPM 2.0 Part 3).
-#![tactic(auto, unfolding(crate::specs::Reading::body_at, crate::specs::Reading::values_at))]
 
 ghost use Rattle.tpol_wire.specs.Answers.{Reads};
 ghost use Rattle.tpol_wire.specs.Commands.{spell_values};
@@ -16,7 +15,7 @@ use crate::{authorization, fields, spelling};
 use std::alloc::Global;
 use tpol_base::{Blob, CommandCode, Cursor, Digest32, NoMemory};
 
-/// The command.
+/// Reads the handle and the parameters.
 pub(crate) fn read(tagged: bool, cursor: &mut Cursor) -> Result<Command, WireFault>
     ensures { Reads result (body_at CommandCode.VerifySignature tagged cursor.old) cursor.new }
 {
@@ -31,8 +30,7 @@ pub(crate) fn read(tagged: bool, cursor: &mut Cursor) -> Result<Command, WireFau
     })
 }
 
-/// The parameters.
-#[tactic(auto, unfolding(crate::specs::Commands::spell_values, crate::specs::Kinds::spell))]
+/// Writes the parameters.
 pub(crate) fn write(out: &mut Blob, digest: &Digest32, signature: &Digest32) -> Result<(), NoMemory>
     ensures { Appends result out.old out.new (spell_values (row CommandCode.VerifySignature).parameters (digest.now, (signature.now, tt))) }
 {
@@ -40,8 +38,7 @@ pub(crate) fn write(out: &mut Blob, digest: &Digest32, signature: &Digest32) -> 
     spelling::signature(out, signature)
 }
 
-/// The reply.
-#[tactic(auto, unfolding(crate::specs::Reading::reply_at, crate::specs::Reading::values_at))]
+/// Reads the fields of the reply.
 pub(crate) fn read_reply(alloc: Global, cursor: &mut Cursor) -> Result<Reply, WireFault>
     ensures { Reads result (reply_at CommandCode.VerifySignature cursor.old) cursor.new }
 {
@@ -49,8 +46,7 @@ pub(crate) fn read_reply(alloc: Global, cursor: &mut Cursor) -> Result<Reply, Wi
     Ok(Reply::VerifySignature { ticket })
 }
 
-/// The fields of the reply.
-#[tactic(auto, unfolding(crate::specs::Commands::spell_values, crate::specs::Kinds::spell))]
+/// Writes the fields of the reply.
 pub(crate) fn write_reply(out: &mut Blob, ticket: &Ticket) -> Result<(), NoMemory>
     ensures { Appends result out.old out.new (spell_values (row CommandCode.VerifySignature).reply (ticket.now, tt)) }
 {

@@ -2,7 +2,7 @@ use Rattle.std.proofs.Common.{rules, ◌≡◌, ◌++◌, [], sym, subst, append
 use Rattle.tpol_wire.specs.declared.command.Command.{Command}
 use Rattle.tpol_wire.specs.Commands.{spell_parameters, spell_values}
 use Rattle.tpol_wire.specs.Spellings.{Appends}
-use Rattle.tpol_wire.proofs.writing.plain_parameters.Goals as goal
+use Rattle.tpol_wire.proofs.writing.other_parameters.Goals as goal
 
 pub returns-in-StartAuthSession : goal.returns-in-StartAuthSession
 returns-in-StartAuthSession c = subst (λ (command : Command). Appends c.write.result c.args.out.now c.write.new.out (spell_parameters command)) (sym c.in-StartAuthSession.is) c.write.ensures
@@ -13,11 +13,29 @@ returns-in-ContextLoad c = subst (λ (command : Command). Appends c.write-in-Con
 pub returns-in-FlushContext : goal.returns-in-FlushContext
 returns-in-FlushContext c = subst (λ (command : Command). Appends c.write-in-FlushContext.result c.args.out.now c.write-in-FlushContext.new.out (spell_parameters command)) (sym c.in-FlushContext.is) c.write-in-FlushContext.ensures
 
+pub returns-in-PcrExtend : goal.returns-in-PcrExtend
+returns-in-PcrExtend c = subst (λ (command : Command). Appends c.write-in-PcrExtend.result c.args.out.now c.write-in-PcrExtend.new.out (spell_parameters command)) (sym c.in-PcrExtend.is) c.write-in-PcrExtend.ensures
+
 pub returns-in-PcrRead : goal.returns-in-PcrRead
 returns-in-PcrRead c = subst (λ (command : Command). Appends c.write-in-PcrRead.result c.args.out.now c.write-in-PcrRead.new.out (spell_parameters command)) (sym c.in-PcrRead.is) c.write-in-PcrRead.ensures
 
 pub returns-in-VerifySignature : goal.returns-in-VerifySignature
 returns-in-VerifySignature c = subst (λ (command : Command). Appends c.write-in-VerifySignature.result c.args.out.now c.write-in-VerifySignature.new.out (spell_parameters command)) (sym c.in-VerifySignature.is) c.write-in-VerifySignature.ensures
+
+pub returns-in-Hmac : goal.returns-in-Hmac
+returns-in-Hmac c = subst (λ (command : Command). Appends c.write-in-Hmac.result c.args.out.now c.write-in-Hmac.new.out (spell_parameters command)) (sym c.in-Hmac.is) c.write-in-Hmac.ensures
+
+pub returns-in-NvRead : goal.returns-in-NvRead
+returns-in-NvRead c = subst (λ (command : Command). Appends c.write-in-NvRead.result c.args.out.now c.write-in-NvRead.new.out (spell_parameters command)) (sym c.in-NvRead.is) c.write-in-NvRead.ensures
+
+pub returns-in-NvWrite : goal.returns-in-NvWrite
+returns-in-NvWrite c = subst (λ (command : Command). Appends c.write-in-NvWrite.result c.args.out.now c.write-in-NvWrite.new.out (spell_parameters command)) (sym c.in-NvWrite.is) c.write-in-NvWrite.ensures
+
+pub returns-in-Duplicate : goal.returns-in-Duplicate
+returns-in-Duplicate c = subst (λ (command : Command). Appends c.write-in-Duplicate.result c.args.out.now c.write-in-Duplicate.new.out (spell_parameters command)) (sym c.in-Duplicate.is) c.write-in-Duplicate.ensures
+
+pub returns-in-PolicyNv : goal.returns-in-PolicyNv
+returns-in-PolicyNv c = subst (λ (command : Command). Appends c.write-in-PolicyNv.result c.args.out.now c.write-in-PolicyNv.new.out (spell_parameters command)) (sym c.in-PolicyNv.is) c.write-in-PolicyNv.ensures
 
 pub returns-in-PolicyCpHash : goal.returns-in-PolicyCpHash
 returns-in-PolicyCpHash c = subst (λ (command : Command). Appends c.write-in-PolicyCpHash.result c.args.out.now c.write-in-PolicyCpHash.new.out (spell_parameters command)) (sym c.in-PolicyCpHash.is) c.write-in-PolicyCpHash.ensures
@@ -42,15 +60,6 @@ returns-in-PolicyDuplicationSelect c = subst (λ (command : Command). Appends c.
 
 pub returns-in-PolicyNvWritten : goal.returns-in-PolicyNvWritten
 returns-in-PolicyNvWritten c = subst (λ (command : Command). Appends c.write-in-PolicyNvWritten.result c.args.out.now c.write-in-PolicyNvWritten.new.out (spell_parameters command)) (sym c.in-PolicyNvWritten.is) c.write-in-PolicyNvWritten.ensures
-
-pub returns-in-PolicySigned : goal.returns-in-PolicySigned
-returns-in-PolicySigned c = subst (λ (command : Command). Appends c.write-in-PolicySigned.result c.args.out.now c.write-in-PolicySigned.new.out (spell_parameters command)) (sym c.in-PolicySigned.is) c.write-in-PolicySigned.ensures
-
-pub returns-in-PolicyTicket : goal.returns-in-PolicyTicket
-returns-in-PolicyTicket c = subst (λ (command : Command). Appends c.write-in-PolicyTicket.result c.args.out.now c.write-in-PolicyTicket.new.out (spell_parameters command)) (sym c.in-PolicyTicket.is) c.write-in-PolicyTicket.ensures
-
-pub returns-in-PolicyAuthorize : goal.returns-in-PolicyAuthorize
-returns-in-PolicyAuthorize c = subst (λ (command : Command). Appends c.write-in-PolicyAuthorize.result c.args.out.now c.write-in-PolicyAuthorize.new.out (spell_parameters command)) (sym c.in-PolicyAuthorize.is) c.write-in-PolicyAuthorize.ensures
 
 pub returns-in-PolicyOr : goal.returns-in-PolicyOr
 returns-in-PolicyOr c = subst (λ (command : Command). Appends c.write-in-PolicyOr.result c.args.out.now c.write-in-PolicyOr.new.out (spell_parameters command)) (sym c.in-PolicyOr.is) c.write-in-PolicyOr.ensures
