@@ -1,4 +1,5 @@
 pub mod Keeping
 pub mod Least
+pub mod Numbered
 pub mod Slots
 pub mod Tables

@@ -16,6 +16,10 @@ pub record SessionView : Type 0 where
   pub handle : ℕ
   pub state : SessionState
 
+-- what rules read of a session
+abbrev pub state_of_view : SessionView → SessionState
+state_of_view session = session.state
+
 -- a session's state
 abbrev pub state_of : ℕ → Digest32 → List Fact → Option ℕ → SessionState
 state_of start nonce facts counter = record { start = start; nonce = nonce; facts = facts; counter = counter }

@@ -1,5 +1,5 @@
--- The slots of policy sessions as contracts see them: each live with a session's state, or free. The
--- session in slot k has the handle 03000000 + k.
+-- Slots of policy sessions: a list of what each slot has, if anything. Slot k is that of the handle
+-- 03000000 + k (TPM 2.0 Part 2, TPM_HT_POLICY_SESSION).
 use Rattle.std.specs.Prelude.{ℕ, zero, suc, ◌+◌, ◌-◌, ◌<◌, ◌≤◌, ◌==◌, ◌&&◌, Bool, not, List, Option, Some, None, is_some, nat_le, slice_index_or, slice_set, if◌then◌else◌}
 use Rattle.std.specs.Int.{bit_at}
 use Rattle.std.specs.Option.{option_map, option_or}
@@ -14,25 +14,46 @@ first_handle = 0x03000000
 abbrev pub slot_count : ℕ
 slot_count = 64
 
--- the state of the session that a slot has, if it is live
-abbrev pub in_slot : List (Option SessionState) → ℕ → Option SessionState
+-- the handle of a slot
+abbrev pub handle_of_slot : ℕ → ℕ
+handle_of_slot slot = first_handle + slot
+
+-- the handle is that of a slot
+abbrev pub IsSlotHandle : ℕ → Type 0
+IsSlotHandle handle = (first_handle ≤ handle) × (handle < first_handle + slot_count)
+
+-- what a slot has
+abbrev pub in_slot : {A : Type 0} → List (Option A) → ℕ → Option A
 in_slot slots slot = slice_index_or slots slot None
 
--- the state of the session with this handle, if it is live
+-- what the slot of a handle has
+abbrev pub content_at : {A : Type 0} → List (Option A) → ℕ → Option A
+content_at slots handle = if nat_le first_handle handle then in_slot slots (handle - first_handle) else None
+
+-- the slots with this content in the slot of a handle
+abbrev pub with_content : {A : Type 0} → List (Option A) → ℕ → Option A → List (Option A)
+with_content slots handle content =
+    if nat_le first_handle handle then slice_set slots (handle - first_handle) content else slots
+
+-- the state of the live session with this handle
 abbrev pub state_at : List (Option SessionState) → ℕ → Option SessionState
-state_at slots handle = if nat_le first_handle handle then in_slot slots (handle - first_handle) else None
+state_at slots handle = content_at slots handle
 
--- the same with its handle
-abbrev pub session_at : List (Option SessionState) → ℕ → Option SessionView
-session_at slots handle = option_map (λ state. record { handle = handle; state = state }) (state_at slots handle)
+-- the slots with this state, or none, in the slot of a handle
+abbrev pub with_state : List (Option SessionState) → ℕ → Option SessionState → List (Option SessionState)
+with_state slots handle content = with_content slots handle content
 
+-- whether a handle is live
 abbrev pub is_live : List (Option SessionState) → ℕ → Bool
 is_live slots handle = is_some (state_at slots handle)
 
--- the slots with this content in the slot of a handle
-abbrev pub with_state : List (Option SessionState) → ℕ → Option SessionState → List (Option SessionState)
-with_state slots handle content =
-    if nat_le first_handle handle then slice_set slots (handle - first_handle) content else slots
+-- a session of this handle
+abbrev pub session_of : ℕ → SessionState → SessionView
+session_of handle state = record { handle = handle; state = state }
+
+-- the live session with this handle
+abbrev pub session_at : List (Option SessionState) → ℕ → Option SessionView
+session_at slots handle = option_map (session_of handle) (state_at slots handle)
 
 -- the slots with what a change makes of the session with this handle
 abbrev pub changed_at : List (Option SessionState) → ℕ → (SessionState → SessionState) → List (Option SessionState)
@@ -59,11 +80,3 @@ first_free slots taken = least_below (is_free slots taken) slot_count
 -- how many slots are free
 abbrev pub free_count : List (Option SessionState) → ℕ → ℕ
 free_count slots taken = count_below (is_free slots taken) slot_count
-
--- the handle of a slot
-abbrev pub handle_of_slot : ℕ → ℕ
-handle_of_slot slot = first_handle + slot
-
--- the handle is that of a slot
-abbrev pub IsSlotHandle : ℕ → Type 0
-IsSlotHandle handle = (first_handle ≤ handle) × (handle < first_handle + slot_count)

@@ -8,9 +8,11 @@
 mod full;
 mod session;
 mod sessions;
+mod table;
 #[cfg(test)]
 mod tests;
 
 pub use full::Full;
 pub use session::{Session, fresh_facts};
 pub use sessions::Sessions;
+pub use table::{FIRST_HANDLE, SLOT_COUNT, Table};

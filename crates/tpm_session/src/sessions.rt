@@ -2,10 +2,9 @@ ghost use Rattle.std.specs.Prelude.{◌≡◌, ℕ, [], ◌+◌, ◌-◌, ◌<�
 ghost use Rattle.std.specs.Option.{option_copied, option_map};
 ghost use Rattle.tpm_session.specs.Kept as kept;
 ghost use Rattle.tpm_session.specs.Slots as spec;
-ghost use Rattle.tpm_session.specs.Table.{at_handle};
 
+use crate::table::{FIRST_HANDLE, SLOT_COUNT, Table};
 use crate::{Full, Session};
-use indexmap::IndexMap;
 use std::alloc::Global;
 use std::marker::Model;
 use tpol_base::{Digest32, NoMemory};
@@ -15,47 +14,38 @@ use tpol_tree::Facts;
 /// or none. The session in slot k has the handle 03000000 + k. Only `new` takes memory.
 #[derive(Drop)]
 pub struct Sessions {
-    map: IndexMap<u32, Option<Session>>,
+    table: Table<Session>,
 }
 
 impl Model for Sessions {
     ghost use Rattle.std.specs.Prelude.{List, Option};
     ghost use Rattle.tpm_bindings.specs.State.{SessionState};
-    ghost use Rattle.tpm_session.specs.Table.{IsTable, slots_of};
+    ghost use Rattle.tpm_session.specs.Slots.{session_of};
+    ghost use Rattle.tpm_session.specs.Numbered.{IsNumbered, plain};
+    ghost use Rattle.tpm_session.specs.Kept.{state_of_view};
 
     ghost Value = { List (Option SessionState) };
 
-    ghost view = { λ s. slots_of s.map.entries };
+    ghost view = { λ s. plain state_of_view s.table };
 
-    ghost invariant = { λ s. IsTable s.map.entries };
+    ghost invariant = { λ s. IsNumbered session_of state_of_view s.table };
 }
 
 impl Sessions {
-    /// The handle of the first slot.
-    pub const FIRST_HANDLE: u32 = 0x0300_0000;
-
-    /// The number of slots.
-    pub const COUNT: u32 = 64;
-
     /// No live session, and room for 64.
     pub fn new(alloc: Global) -> Result<Sessions, NoMemory>
         ensures { IfOk result (λ sessions. sessions ≡ replicate spec.slot_count None) }
     {
-        let mut map = IndexMap::with_capacity(alloc, Sessions::COUNT as usize)?;
-        for slot in 0..Sessions::COUNT {
-            map.insert(Sessions::FIRST_HANDLE + slot, None)?;
-        }
-        Ok(Sessions { map })
+        Ok(Sessions {
+            table: Table::new(alloc)?,
+        })
     }
 
     /// The live session with this handle.
     pub fn find(&self, handle: u32) -> Option<&Session>
         ensures { option_copied result ≡ spec.session_at self.now handle }
     {
-        match self.map.get(&handle) {
-            Some(slot) => slot.as_ref(),
-            None => None,
-        }
+        self.table.get(handle)
     }
 
     /// Starts a session at `time` in milliseconds, with this nonceTPM, in the least slot that is neither live
@@ -82,7 +72,7 @@ impl Sessions {
         let Some(slot) = self.first_free(taken) else {
             return Err(Full);
         };
-        let handle = Sessions::FIRST_HANDLE + slot;
+        let handle = FIRST_HANDLE + slot;
         self.put_back(Session::new(handle, time, nonce, facts));
         Ok(handle)
     }
@@ -92,7 +82,7 @@ impl Sessions {
         ensures { result ≡ spec.free_count self.now taken }
     {
         let mut count = 0;
-        for slot in 0..Sessions::COUNT {
+        for slot in 0..SLOT_COUNT {
             if self.is_free(slot, taken) {
                 count += 1;
             }
@@ -107,7 +97,7 @@ impl Sessions {
         ensures slot { IfSome result (λ session. spec.IsSlotHandle session.handle) }
         ensures slots { self.new ≡ spec.with_state self.old handle None }
     {
-        self.replace(handle, None)
+        self.table.replace(handle, None)
     }
 
     /// Makes a session live again as it is.
@@ -116,7 +106,7 @@ impl Sessions {
         requires apart { spec.state_at self.old session.handle ≡ None }
         ensures { self.new ≡ spec.with_state self.old session.handle (Some session.state) }
     {
-        self.replace(session.handle(), Some(session));
+        self.table.replace(session.handle(), Some(session));
     }
 
     /// Drops the facts of a live session; its start and nonce stay. Answers whether the handle is live.
@@ -165,9 +155,7 @@ impl Sessions {
     pub fn clear(&mut self)
         ensures { self.new ≡ replicate spec.slot_count None }
     {
-        for slot in 0..self.map.len() {
-            self.flush(Sessions::FIRST_HANDLE + slot as u32);
-        }
+        self.table.clear();
     }
 
     // Whether a slot is neither live nor taken.
@@ -175,7 +163,7 @@ impl Sessions {
         requires { slot < spec.slot_count }
         ensures { result ≡ spec.is_free self.now taken slot }
     {
-        self.find(Sessions::FIRST_HANDLE + slot).is_none() && (taken >> slot) & 1 == 0
+        self.find(FIRST_HANDLE + slot).is_none() && (taken >> slot) & 1 == 0
     }
 
     // The least such slot.
@@ -183,24 +171,11 @@ impl Sessions {
         ensures least { result ≡ spec.first_free self.now taken }
         ensures within { IfSome result (λ slot. slot < spec.slot_count) }
     {
-        for lowest in 0..Sessions::COUNT {
+        for lowest in 0..SLOT_COUNT {
             if self.is_free(lowest, taken) {
                 return Some(lowest);
             }
         }
         None
-    }
-
-    // Puts a session, or none, into the slot of a handle, and hands out the one that was there.
-    fn replace(&mut self, handle: u32, session: Option<Session>) -> Option<Session>
-        requires { session ≡ at_handle handle (option_map (λ s. s.state) session) }
-        ensures before { result ≡ spec.session_at self.old handle }
-        ensures slot { IfSome result (λ before. spec.IsSlotHandle before.handle) }
-        ensures after { self.new ≡ spec.with_state self.old handle (option_map (λ s. s.state) session) }
-    {
-        let Some(slot) = self.map.get_mut(&handle) else {
-            return None;
-        };
-        std::mem::replace(slot, session)
     }
 }

@@ -1,11 +1,12 @@
-use Rattle.std.proofs.Common.{ap, sym, ◌∙◌}
-use Rattle.tpm_session.proofs.Tables.{joined, lookup-table}
+use Rattle.std.proofs.Common.{ap, ◌∙◌}
+use Rattle.std.specs.Option.{option_map}
+use Rattle.tpm_session.specs.Kept.{state_of_view}
+use Rattle.tpm_session.specs.Slots.{session_of, content_at}
+use Rattle.tpm_session.proofs.Numbered.{content-numbered}
 use Rattle.tpm_session.proofs.sessions.Sessions.find.Goals as goal
 
-pub returns-in-Some : goal.returns-in-Some
-returns-in-Some c =
-    rw (sym c.self.view_is) (c.as_ref.ensures.value ∙ (ap joined c.in-Some.ensures.value ∙ lookup-table c.self.inside.map.entries c.args.handle c.self.invariant))
-
-pub returns-in-None : goal.returns-in-None
-returns-in-None c =
-    rw (sym c.self.view_is) (ap joined c.in-None.ensures.value ∙ lookup-table c.self.inside.map.entries c.args.handle c.self.invariant)
+pub returns : goal.returns
+returns c =
+    c.get.ensures
+    ∙ (content-numbered session_of state_of_view c.self.inside.table c.args.handle c.self.invariant
+    ∙ ap (λ s. option_map (session_of c.args.handle) (content_at s c.args.handle)) c.self.view_is)

@@ -1,0 +1,77 @@
+ghost use Rattle.std.specs.Prelude.{◌≡◌, ◌+◌, IfOk, None, is_some, replicate, true};
+ghost use Rattle.std.specs.Option.{option_copied};
+ghost use Rattle.tpm_session.specs.Slots as spec;
+
+use indexmap::IndexMap;
+use std::alloc::Global;
+use std::marker::Model;
+use tpol_base::NoMemory;
+
+/// The handle of the first slot (TPM 2.0 Part 2, TPM_HT_POLICY_SESSION).
+pub const FIRST_HANDLE: u32 = 0x0300_0000;
+
+/// The number of slots: of policy sessions that can be live at one time.
+pub const SLOT_COUNT: u32 = 64;
+
+/// A table of the 64 slots of policy sessions, found by handle: slot k is that of the handle 03000000 + k.
+/// Contracts see the list of what each slot has, if anything. Only `new` takes memory.
+#[derive(Drop)]
+pub struct Table<T> {
+    map: IndexMap<u32, Option<T>>,
+}
+
+impl<T> Model for Table<T> {
+    ghost use Rattle.std.specs.Prelude.{List, Option};
+    ghost use Rattle.tpm_session.specs.Table.{IsTable, slots_of};
+
+    ghost Value = { List (Option T) };
+
+    ghost view = { λ t. slots_of t.map.entries };
+
+    ghost invariant = { λ t. IsTable t.map.entries };
+}
+
+impl<T: Drop> Table<T> {
+    /// A table with nothing in its slots.
+    pub fn new(alloc: Global) -> Result<Table<T>, NoMemory>
+        ensures { IfOk result (λ table. table ≡ replicate spec.slot_count None) }
+    {
+        let mut map = IndexMap::with_capacity(alloc, SLOT_COUNT as usize)?;
+        for slot in 0..SLOT_COUNT {
+            map.insert(FIRST_HANDLE + slot, None)?;
+        }
+        Ok(Table { map })
+    }
+
+    /// What the slot of a handle has.
+    pub fn get(&self, handle: u32) -> Option<&T>
+        ensures { option_copied result ≡ spec.content_at self.now handle }
+    {
+        match self.map.get(&handle) {
+            Some(slot) => slot.as_ref(),
+            None => None,
+        }
+    }
+
+    /// Puts a content, or none, into the slot of a handle, and hands out what it had. For a handle of no slot
+    /// nothing changes.
+    pub fn replace(&mut self, handle: u32, content: Option<T>) -> Option<T>
+        ensures before { result ≡ spec.content_at self.old handle }
+        ensures slot { is_some result ≡ true → spec.IsSlotHandle handle }
+        ensures after { self.new ≡ spec.with_content self.old handle content }
+    {
+        let Some(slot) = self.map.get_mut(&handle) else {
+            return None;
+        };
+        std::mem::replace(slot, content)
+    }
+
+    /// Empties all slots.
+    pub fn clear(&mut self)
+        ensures { self.new ≡ replicate spec.slot_count None }
+    {
+        for slot in 0..self.map.len() {
+            self.replace(FIRST_HANDLE + slot as u32, None);
+        }
+    }
+}
