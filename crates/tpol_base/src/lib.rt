@@ -1,5 +1,6 @@
-//! Small types that every crate of fapipol uses, and the three traits of the outside: where a document
-//! comes from, where lines go, and where documents are kept.
+//! Small types that every crate of fapipol uses, the numbers of TPM 2.0 Part 2 under their names there, and
+//! the three traits of the outside: where a document comes from, where lines go, and where documents are
+//! kept.
 //!
 //! Contracts above see a `Sequence` as a list, a `Text` as its bytes, and an object of the outside by two
 //! things: what it tells of its content, and the count of its faults, which never falls. A call of the
