@@ -115,3 +115,14 @@ impl<T: Copy> Sequence<T> {
         Ok(())
     }
 }
+
+impl<T: ExactClone> Sequence<T> {
+    /// Adds clones of all items of a slice at the end. After `NoMemory` the list is as before.
+    pub fn extend_with_clones(&mut self, items: &[T]) -> Result<(), NoMemory>
+        ensures ok { OnOk result (self.new ≡ self.old ++ items.now) }
+        ensures err { OnErr result (self.new ≡ self.old) }
+    {
+        self.items.extend_with_clones(items)?;
+        Ok(())
+    }
+}
