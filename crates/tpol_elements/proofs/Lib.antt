@@ -1,4 +1,3 @@
-mod UnknownNames
 mod Wrappers
-pub mod Items
 mod Banks
+pub mod Limits

@@ -1,50 +1,48 @@
--- What a part of a document says, or the first fault in it.
-use Rattle.std.specs.Prelude.{◌≡◌, Result, Ok, Err, ⊤}
-use Rattle.tpol_json.specs.declared.fault.JsonFault.{JsonFault}
-use Rattle.tpol_json.specs.declared.fault.JsonFault.TheVariants as json
-use Rattle.tpol_json.specs.declared.fault.JsonKind.{JsonKind}
-use Rattle.tpol_json.specs.declared.fault.JsonKind.TheVariants as kinds
+-- What a part of a document says, or what is wrong in it first and where.
+use Rattle.std.specs.Prelude.{Option, Some, None, Result}
+use Rattle.tpol_base.specs.Answers as answers
+use Rattle.tpol_json.specs.declared.fault.MemberFault.{MemberFault}
+use Rattle.tpol_json.specs.declared.fault.MemberFault.TheVariants as member
+use Rattle.tpol_json.specs.declared.fault.MemberKind.{MemberKind}
+use Rattle.tpol_json.specs.declared.fault.MemberKind.TheVariants as kinds
 use Rattle.tpol_json.specs.declared.place.Place.{Place}
-use Rattle.tpol_json.specs.Reading.{ReadAs}
-use Rattle.tpol_elements.specs.declared.fault.PolicyFault.{PolicyFault}
-use Rattle.tpol_elements.specs.declared.fault.PolicyFault.TheVariants.{NotJson, Bad, NoMemory}
+use Rattle.tpol_json.specs.Reading as json
+use Rattle.tpol_elements.specs.declared.fault.ElementFault.{ElementFault}
+use Rattle.tpol_elements.specs.declared.fault.ElementFault.TheVariants.{Bad, NoMemory}
 use Rattle.tpol_elements.specs.declared.fault.PolicyKind.{PolicyKind}
-use Rattle.tpol_elements.specs.declared.fault.PolicyKind.TheVariants.{WrongKind, BadHex, BadNumber}
+use Rattle.tpol_elements.specs.declared.fault.PolicyKind.TheVariants.{Missing, WrongKind, BadHex, BadNumber, Twice, TooMany}
 
--- no reading is `Err NoMemory` or `Err NotJson`
+-- what is wrong, and where
+abbrev pub Fault : Type 0
+Fault = PolicyKind × Place
+
 abbrev pub Found : Type 0 → Type 0
-Found A = Result A PolicyFault
+Found A = json.ReadAs PolicyKind A
 
 abbrev pub bad : {A : Type 0} → PolicyKind → Place → Found A
-bad kind place = Err (Bad kind place)
+bad = json.bad
 
--- what stands next, where the first was found
-infixl 10 ◌>>=◌
-abbrev pub ◌>>=◌ : {A B : Type 0} → Found A → (A → Found B) → Found B
-Ok x >>= next = next x
-Err fault >>= next = Err fault
-
-abbrev pub kind_of : JsonKind → PolicyKind
+abbrev pub kind_of : MemberKind → PolicyKind
+kind_of kinds.Missing = Missing
 kind_of kinds.WrongKind = WrongKind
 kind_of kinds.BadHex = BadHex
 kind_of kinds.BadNumber = BadNumber
+kind_of kinds.Twice = Twice
+kind_of kinds.TooMany = TooMany
 
-abbrev pub fault_of : JsonFault → PolicyFault
-fault_of (json.Bad kind place) = Bad (kind_of kind) place
-fault_of json.NoMemory = NoMemory
+abbrev pub fault_of : MemberFault → ElementFault
+fault_of (member.Bad kind place) = Bad (kind_of kind) place
+fault_of member.NoMemory = NoMemory
 
--- bytes and numbers, with their faults as those of a policy
-abbrev pub read_as : {A : Type 0} → ReadAs JsonKind A → Found A
-read_as (Ok x) = Ok x
-read_as (Err fault) = bad (kind_of fault.0) fault.1
+-- what a member says, with its faults as those of a policy
+abbrev pub read_as : {A : Type 0} → json.ReadAs MemberKind A → Found A
+read_as = json.read_as kind_of
 
--- a call that may run out of memory refuses with this fault
-abbrev pub Refuses : {A : Type 0} → PolicyFault → Found A → Type 0
-Refuses NotJson reading = ⊥
-Refuses (Bad kind place) reading = reading ≡ Err (Bad kind place)
-Refuses NoMemory reading = ⊤
+-- the fault that a call tells, none for memory
+abbrev pub cause : ElementFault → Option Fault
+cause (Bad kind place) = Some (kind, place)
+cause NoMemory = None
 
 -- a call gives what the reading is, unless memory runs out
-abbrev pub Gives : {A : Type 0} → Found A → Found A → Type 0
-Gives (Ok x) reading = reading ≡ Ok x
-Gives (Err fault) reading = Refuses fault reading
+abbrev pub Gives : {A : Type 0} → Result A ElementFault → Found A → Type 0
+Gives = answers.Gives (λ x. x) cause

@@ -5,10 +5,11 @@ use Rattle.tpol_base.specs.declared.digest.Digest32.{Digest32}
 use Rattle.tpol_base.specs.declared.compare.Compare.{Compare}
 use Rattle.tpol_base.specs.declared.compare.Compare.TheVariants.{Eq}
 use Rattle.tpol_json.specs.declared.place.Place.{Place}
-use Rattle.tpol_elements.specs.Bytes.{bytes_up_to, digest_in}
-use Rattle.tpol_elements.specs.Faults.{Found, ◌>>=◌}
+use Rattle.tpol_elements.specs.Values.{bytes_up_to, digest_in, signed_in, unsigned_in}
+use Rattle.tpol_base.specs.Answers.{◌>>=◌}
+use Rattle.tpol_elements.specs.Faults.{Found}
 use Rattle.tpol_elements.specs.Members.{needed, optional}
-use Rattle.tpol_elements.specs.Numbers.{unsigned_in, signed_in, operation_in}
+use Rattle.tpol_elements.specs.Operations.{operation_in}
 
 -- `policyRef`: at most 64 bytes, without it none
 unfoldable pub policy_ref_in : Data → Place → Found (List ℕ)

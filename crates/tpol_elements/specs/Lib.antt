@@ -1,9 +1,11 @@
 pub mod Faults
 pub mod Walks
 pub mod Members
+pub mod Values
 pub mod Words
-pub mod Numbers
-pub mod Bytes
+pub mod Algorithms
+pub mod Operations
+pub mod Localities
 pub mod Fields
 pub mod Publics
 pub mod Wishes

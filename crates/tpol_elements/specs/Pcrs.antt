@@ -10,10 +10,11 @@ use Rattle.tpol_elements.specs.declared.fault.PolicyKind.TheVariants.{WrongKind,
 use Rattle.tpol_elements.specs.declared.walk.Walk.{Walk}
 use Rattle.tpol_tree.specs.declared.wishes.PcrWish.{PcrWish}
 use Rattle.tpol_tree.specs.declared.wishes.PcrWish.TheVariants.{Values, Current}
-use Rattle.tpol_elements.specs.Bytes.{digest_in}
-use Rattle.tpol_elements.specs.Faults.{Found, bad, ◌>>=◌}
+use Rattle.tpol_elements.specs.Algorithms.{hash_in}
+use Rattle.tpol_base.specs.Answers.{◌>>=◌}
+use Rattle.tpol_elements.specs.Faults.{Found, bad}
 use Rattle.tpol_elements.specs.Members.{object_in, needed, noted, one_of}
-use Rattle.tpol_elements.specs.Numbers.{unsigned_in, hash_in}
+use Rattle.tpol_elements.specs.Values.{digest_in, unsigned_in}
 use Rattle.tpol_elements.specs.Walks.{Reading, still}
 
 -- PCRs with their values

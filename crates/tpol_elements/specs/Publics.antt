@@ -8,10 +8,11 @@ use Rattle.tpol_json.specs.Places.{at_member}
 use Rattle.tpol_elements.specs.declared.walk.Walk.{Walk}
 use Rattle.tpol_tree.specs.declared.wishes.ObjectPublicText.{ObjectPublicText}
 use Rattle.tpol_tree.specs.declared.wishes.NvPublicText.{NvPublicText}
-use Rattle.tpol_elements.specs.Bytes.{empty_or_32}
-use Rattle.tpol_elements.specs.Faults.{Found, ◌>>=◌}
+use Rattle.tpol_elements.specs.Algorithms.{hash_in, key_type_in, scheme_in}
+use Rattle.tpol_base.specs.Answers.{◌>>=◌}
+use Rattle.tpol_elements.specs.Faults.{Found}
 use Rattle.tpol_elements.specs.Members.{object_in, needed, optional, noted}
-use Rattle.tpol_elements.specs.Numbers.{unsigned_in, u32_in, hash_in, key_type_in, scheme_in}
+use Rattle.tpol_elements.specs.Values.{empty_or_32, unsigned_in, u32_in}
 use Rattle.tpol_elements.specs.Walks.{Reading}
 
 -- a reading, and then the wrapper's other members noted

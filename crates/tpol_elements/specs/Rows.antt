@@ -1,5 +1,5 @@
 -- The rows of the elements that hold no other elements: what an element's own members say, in reading order.
-use Rattle.std.specs.Prelude.{◌&&◌, codes, is_some, Ok, Bool, true, false, if◌then◌else◌, ⊤}
+use Rattle.std.specs.Prelude.{ℕ, ◌&&◌, codes, is_some, Ok, Bool, true, false, if◌then◌else◌, ⊤}
 use Rattle.serde_json.specs.Data.{Data}
 use Rattle.serde_json.specs.Find.{get}
 use Rattle.tpol_base.specs.declared.name.Name.{Name}
@@ -11,11 +11,13 @@ use Rattle.tpol_tree.specs.declared.policy.Element.TheVariants.{Pcr, Nv, Secret,
 use Rattle.tpol_elements.specs.declared.fault.PolicyKind.TheVariants.{Missing, AsymmetricKey}
 use Rattle.tpol_elements.specs.declared.types.LeafType.{LeafType}
 use Rattle.tpol_elements.specs.declared.types.LeafType.TheVariants as types
-use Rattle.tpol_elements.specs.Bytes.{digest_in, name_in, is_empty_name}
-use Rattle.tpol_elements.specs.Faults.{Found, bad, ◌>>=◌}
+use Rattle.tpol_elements.specs.Localities.{locality_in}
+use Rattle.tpol_elements.specs.Operations.{code_in}
+use Rattle.tpol_base.specs.Answers.{◌>>=◌}
+use Rattle.tpol_elements.specs.Faults.{Found, bad}
 use Rattle.tpol_elements.specs.Fields.{policy_ref_in, cp_hash_in, expiration_in, operand_in, offset_in, operation_member_in}
 use Rattle.tpol_elements.specs.Members.{needed, optional}
-use Rattle.tpol_elements.specs.Numbers.{truth_in, code_in, locality_in}
+use Rattle.tpol_elements.specs.Values.{digest_in, name_in, is_empty_name, truth_in}
 use Rattle.tpol_elements.specs.Pcrs.{pcrs_in}
 use Rattle.tpol_elements.specs.Walks.{Reading, still}
 use Rattle.tpol_elements.specs.Wishes.{key_in, index_in, entity_in, parent_in, names_in}
@@ -67,8 +69,11 @@ authorize_nv_row d place walk = do
   index ← index_in d place walk
   Ok (AuthorizeNv index.0, index.1)
 
+unfoldable pub locality_member : Data → Place → Found ℕ
+locality_member = needed locality_in (codes "locality")
+
 unfoldable pub locality_row : Data → Place → Found Element
-locality_row d place = needed locality_in (codes "locality") d place >>= λ localities. Ok (Locality localities)
+locality_row d place = locality_member d place >>= λ localities. Ok (Locality localities)
 
 unfoldable pub command_code_row : Data → Place → Found Element
 command_code_row d place = needed code_in (codes "code") d place >>= λ code. Ok (CommandCode code)

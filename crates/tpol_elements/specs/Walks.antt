@@ -1,7 +1,9 @@
 -- A reading that goes on from what came before it: the notes so far, and how many elements may still come.
-use Rattle.std.specs.Prelude.{◌≡◌, Ok, Err}
+use Rattle.std.specs.Prelude.{Result, Ok, Err}
+use Rattle.tpol_base.specs.Answers as answers
+use Rattle.tpol_elements.specs.declared.fault.ElementFault.{ElementFault}
 use Rattle.tpol_elements.specs.declared.walk.Walk.{Walk}
-use Rattle.tpol_elements.specs.Faults.{Found, Refuses}
+use Rattle.tpol_elements.specs.Faults.{Found, cause}
 
 abbrev pub Reading : Type 0 → Type 0
 Reading A = Walk → Found (A × Walk)
@@ -11,7 +13,11 @@ abbrev pub still : {A : Type 0} → Found A → Reading A
 still (Ok x) walk = Ok (x, walk)
 still (Err fault) walk = Err fault
 
--- a call gives what the reading is, and leaves the walk as the reading does, unless memory runs out
-abbrev pub Leaves : {A : Type 0} → Found A → Walk → Found (A × Walk) → Type 0
-Leaves (Ok x) walk reading = reading ≡ Ok (x, walk)
-Leaves (Err fault) walk reading = Refuses fault reading
+-- A call gives, seen by `view`, what the reading is, and leaves the walk as the reading does, unless memory
+-- runs out.
+abbrev pub LeavesAs : {A B : Type 0} → (A → B) → Result A ElementFault → Walk → Found (B × Walk) → Type 0
+LeavesAs view result walk = answers.Gives (λ x. (view x, walk)) cause result
+
+-- the same, seen as it is
+abbrev pub Leaves : {A : Type 0} → Result A ElementFault → Walk → Found (A × Walk) → Type 0
+Leaves = LeavesAs (λ x. x)

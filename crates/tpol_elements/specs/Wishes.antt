@@ -20,8 +20,9 @@ use Rattle.tpol_tree.specs.declared.wishes.ParentWish.{ParentWish}
 use Rattle.tpol_tree.specs.declared.wishes.ParentWish.TheVariants as parent
 use Rattle.tpol_tree.specs.declared.wishes.NamesWish.{NamesWish}
 use Rattle.tpol_tree.specs.declared.wishes.NamesWish.TheVariants as names
-use Rattle.tpol_elements.specs.Bytes.{text_in, digest_in, name_in, full_name_in}
-use Rattle.tpol_elements.specs.Faults.{Found, bad, ◌>>=◌}
+use Rattle.tpol_elements.specs.Values.{text_in, digest_in, name_in, full_name_in, one_to_three}
+use Rattle.tpol_base.specs.Answers.{◌>>=◌}
+use Rattle.tpol_elements.specs.Faults.{Found, bad}
 use Rattle.tpol_elements.specs.Members.{one_of}
 use Rattle.tpol_elements.specs.Publics.{object_public_in, index_public_in}
 use Rattle.tpol_elements.specs.Walks.{Reading, still}
@@ -86,24 +87,11 @@ parent_among first second third d place walk =
 abbrev pub parent_in : Data → Place → Reading ParentWish
 parent_in = parent_among (codes "newParentPath") (codes "newParentPublic") (codes "newParentName")
 
--- how many items a list has
-abbrev pub items_count : Items → ℕ
-items_count no_items = 0
-items_count (item d ds) = suc (items_count ds)
-
 -- each item read in order, from this index on, behind what was read before
 abbrev pub each_from : {A : Type 0} → (Data → Place → Found A) → List A → ℕ → Items → Place → Found (List A)
 each_from read before index no_items place = Ok before
 each_from read before index (item d ds) place =
     read d (at_item place index) >>= λ x. each_from read (before ++ x ∷ []) (suc index) ds place
-
-abbrev pub three_at_most : Option Items → Place → Found Items
-three_at_most None place = bad WrongKind place
-three_at_most (Some ds) place = if nat_le 1 (items_count ds) && nat_le (items_count ds) 3 then Ok ds else bad BadNumber place
-
--- the items of a list of 1 to 3
-abbrev pub one_to_three : Data → Place → Found Items
-one_to_three d place = three_at_most (as_array d) place
 
 abbrev pub names_by_digest : Data → Place → Found NamesWish
 names_by_digest d place = digest_in d place >>= λ digest. Ok (names.Digest digest)
@@ -120,8 +108,3 @@ names_among first second third = one_of first names_by_digest ((second, names_by
 -- one of `nameHash`, `objectNames` and `namePaths`
 abbrev pub names_in : Data → Place → Found NamesWish
 names_in = names_among (codes "nameHash") (codes "objectNames") (codes "namePaths")
-
--- the items of the values that a call gives
-abbrev pub items_of_values : Result (Bor (List Value)) PolicyFault → Found Items
-items_of_values (Ok values) = Ok (items_view values.now)
-items_of_values (Err fault) = Err fault

@@ -1,10 +1,9 @@
 ghost use Rattle.std.specs.Prelude.{◌≡◌};
-ghost use Rattle.tpol_json.specs.Places.{at_member};
 ghost use Rattle.tpol_elements.specs.Faults.{Gives, bad, kind_of};
 
 use std::alloc::{AllocError, AllocFailed, Global};
 use tpol_base::NoMemory;
-use tpol_json::{JsonFault, JsonKind, Place};
+use tpol_json::{MemberFault, MemberKind, Place, PlaceRef};
 
 /// What is wrong in a policy document, numbered from 1 in this order.
 #[derive(Clone, Copy, Debug, PartialEq, Eq)]
@@ -27,7 +26,7 @@ pub enum PolicyKind {
     AsymmetricKey,
     /// A hash algorithm other than SHA-256.
     OtherHash,
-    /// An OR of fewer than two or more than eight branches.
+    /// An OR of fewer than 2 or more than 64 branches.
     BranchCount,
     /// A list without elements.
     EmptyPolicy,
@@ -50,87 +49,84 @@ pub enum PolicyFault {
     NoMemory,
 }
 
-impl From<NoMemory> for PolicyFault {
+/// Why a part of a document is refused that is read from JSON values.
+#[derive(Drop)]
+pub enum ElementFault {
+    /// The first fault in reading order.
+    Bad { kind: PolicyKind, place: Place },
+    /// Memory ran out.
+    NoMemory,
+}
+
+impl From<NoMemory> for ElementFault {
     ghost use Rattle.std.specs.Prelude.{◌≡◌};
-    ghost use Rattle.tpol_elements.specs.declared.fault.PolicyFault.TheVariants as faults;
+    ghost use Rattle.tpol_elements.specs.declared.fault.ElementFault.TheVariants as faults;
 
     ghost from_gives = { λ _ fault. fault ≡ faults.NoMemory };
 
     fn from(_: NoMemory) -> Self {
-        PolicyFault::NoMemory
+        ElementFault::NoMemory
     }
 }
 
-impl From<AllocError> for PolicyFault {
+impl From<AllocError> for ElementFault {
     ghost use Rattle.std.specs.Prelude.{◌≡◌};
-    ghost use Rattle.tpol_elements.specs.declared.fault.PolicyFault.TheVariants as faults;
+    ghost use Rattle.tpol_elements.specs.declared.fault.ElementFault.TheVariants as faults;
 
     ghost from_gives = { λ _ fault. fault ≡ faults.NoMemory };
 
     fn from(_: AllocError) -> Self {
-        PolicyFault::NoMemory
+        ElementFault::NoMemory
     }
 }
 
-impl<T: Drop> From<AllocFailed<T>> for PolicyFault {
+impl<T: Drop> From<AllocFailed<T>> for ElementFault {
     ghost use Rattle.std.specs.Prelude.{◌≡◌};
-    ghost use Rattle.tpol_elements.specs.declared.fault.PolicyFault.TheVariants as faults;
+    ghost use Rattle.tpol_elements.specs.declared.fault.ElementFault.TheVariants as faults;
 
     ghost from_gives = { λ _ fault. fault ≡ faults.NoMemory };
 
     fn from(_: AllocFailed<T>) -> Self {
-        PolicyFault::NoMemory
+        ElementFault::NoMemory
     }
 }
 
-impl From<JsonFault> for PolicyFault {
+impl From<MemberFault> for ElementFault {
     ghost use Rattle.std.specs.Prelude.{◌≡◌};
     ghost use Rattle.tpol_elements.specs.Faults.{fault_of};
 
     ghost from_gives = { λ fault made. made ≡ fault_of fault };
 
-    fn from(fault: JsonFault) -> Self {
+    fn from(fault: MemberFault) -> Self {
         match fault {
-            JsonFault::Bad { kind, place } => PolicyFault::Bad {
+            MemberFault::Bad { kind, place } => ElementFault::Bad {
                 kind: kind_of(kind),
                 place,
             },
-            JsonFault::NoMemory => PolicyFault::NoMemory,
+            MemberFault::NoMemory => ElementFault::NoMemory,
         }
     }
 }
 
-fn kind_of(kind: JsonKind) -> PolicyKind
+fn kind_of(kind: MemberKind) -> PolicyKind
     ensures { result ≡ kind_of kind }
 {
     match kind {
-        JsonKind::WrongKind => PolicyKind::WrongKind,
-        JsonKind::BadHex => PolicyKind::BadHex,
-        JsonKind::BadNumber => PolicyKind::BadNumber,
+        MemberKind::Missing => PolicyKind::Missing,
+        MemberKind::WrongKind => PolicyKind::WrongKind,
+        MemberKind::BadHex => PolicyKind::BadHex,
+        MemberKind::BadNumber => PolicyKind::BadNumber,
+        MemberKind::Twice => PolicyKind::Twice,
+        MemberKind::TooMany => PolicyKind::TooMany,
     }
 }
 
 /// The refusal of this kind at this place.
-pub fn refuse<T>(alloc: Global, kind: PolicyKind, place: &Place) -> Result<T, PolicyFault>
+pub fn refuse<T>(alloc: Global, kind: PolicyKind, place: &PlaceRef<'_>) -> Result<T, ElementFault>
     ensures { Gives result (bad kind place.now) }
 {
-    Err(PolicyFault::Bad {
+    Err(ElementFault::Bad {
         kind,
-        place: place.try_clone(alloc)?,
-    })
-}
-
-/// The refusal of this kind at a member's place.
-pub fn refuse_member<T>(
-    alloc: Global,
-    kind: PolicyKind,
-    place: &Place,
-    name: &str,
-) -> Result<T, PolicyFault>
-    ensures { Gives result (bad kind (at_member place.now name.now)) }
-{
-    Err(PolicyFault::Bad {
-        kind,
-        place: place.member(alloc, name)?,
+        place: place.to_place(alloc)?,
     })
 }

@@ -1,16 +1,15 @@
-// The members that several rows have.
+//! The members that several rows have.
+
 ghost use Rattle.serde_json.specs.View.{view};
 ghost use Rattle.tpol_elements.specs.Faults.{Gives};
 ghost use Rattle.tpol_elements.specs.Fields.{policy_ref_in, cp_hash_in, expiration_in, operand_in, offset_in, operation_member_in};
 
-use crate::bytes::{bytes_up_to, digest};
-use crate::fault::refuse_member;
-use crate::numbers::{operation, signed, unsigned};
-use crate::{PolicyFault, PolicyKind};
+use crate::ElementFault;
+use crate::operations::operation;
 use serde_json::Value;
 use std::alloc::Global;
 use tpol_base::{Blob, Compare, Digest32};
-use tpol_json::{Place, member};
+use tpol_json::{PlaceRef, bytes_up_to, digest, member, needed, signed_32, unsigned};
 
 /// How many bytes a `policyRef` may have.
 const MAX_POLICY_REF: usize = 64;
@@ -21,13 +20,13 @@ const MAX_OPERAND: usize = 64;
 /// `policyRef`: at most 64 bytes, without it none. `WrongKind`, `BadHex` or `BadNumber` as `bytes_of`,
 /// `BadHex` for a longer one.
 #[tactic(auto, unfolding(crate::specs::Fields::policy_ref_in))]
-pub fn policy_ref(alloc: Global, value: &Value, place: &Place) -> Result<Blob, PolicyFault>
+pub fn policy_ref(alloc: Global, value: &Value, place: &PlaceRef<'_>) -> Result<Blob, ElementFault>
     ensures { Gives result (policy_ref_in (view value.now) place.now) }
 {
     match member(value, "policyRef") {
         Some(bytes) => {
-            let place = place.member(alloc, "policyRef")?;
-            bytes_up_to(alloc, bytes, MAX_POLICY_REF, &place)
+            let place = place.member("policyRef");
+            Ok(bytes_up_to(alloc, bytes, MAX_POLICY_REF, &place)?)
         }
         None => Ok(Blob::new(alloc)),
     }
@@ -36,11 +35,15 @@ pub fn policy_ref(alloc: Global, value: &Value, place: &Place) -> Result<Blob, P
 /// `cpHashA`: 32 bytes, or left out. `WrongKind`, `BadHex` or `BadNumber` as `bytes_of`, `BadHex` for
 /// another length.
 #[tactic(auto, unfolding(crate::specs::Fields::cp_hash_in))]
-pub fn cp_hash(alloc: Global, value: &Value, place: &Place) -> Result<Option<Digest32>, PolicyFault>
+pub fn cp_hash(
+    alloc: Global,
+    value: &Value,
+    place: &PlaceRef<'_>,
+) -> Result<Option<Digest32>, ElementFault>
     ensures { Gives result (cp_hash_in (view value.now) place.now) }
 {
     match member(value, "cpHashA") {
-        Some(bytes) => Ok(Some(digest(alloc, bytes, &place.member(alloc, "cpHashA")?)?)),
+        Some(bytes) => Ok(Some(digest(alloc, bytes, &place.member("cpHashA"))?)),
         None => Ok(None),
     }
 }
@@ -48,11 +51,11 @@ pub fn cp_hash(alloc: Global, value: &Value, place: &Place) -> Result<Option<Dig
 /// `expiration`: a number of 32 bits with a sign, without it 0. `WrongKind` or `BadNumber` as
 /// `number_of`.
 #[tactic(auto, unfolding(crate::specs::Fields::expiration_in))]
-pub fn expiration(alloc: Global, value: &Value, place: &Place) -> Result<i32, PolicyFault>
+pub fn expiration(alloc: Global, value: &Value, place: &PlaceRef<'_>) -> Result<i32, ElementFault>
     ensures { Gives result (expiration_in (view value.now) place.now) }
 {
     match member(value, "expiration") {
-        Some(number) => signed(alloc, number, &place.member(alloc, "expiration")?),
+        Some(number) => Ok(signed_32(alloc, number, &place.member("expiration"))?),
         None => Ok(0),
     }
 }
@@ -60,26 +63,21 @@ pub fn expiration(alloc: Global, value: &Value, place: &Place) -> Result<i32, Po
 /// `operandB`: at most 64 bytes. `Missing` without it; `WrongKind`, `BadHex` or `BadNumber` as
 /// `bytes_of`, `BadHex` for a longer one.
 #[tactic(auto, unfolding(crate::specs::Fields::operand_in))]
-pub fn operand(alloc: Global, value: &Value, place: &Place) -> Result<Blob, PolicyFault>
+pub fn operand(alloc: Global, value: &Value, place: &PlaceRef<'_>) -> Result<Blob, ElementFault>
     ensures { Gives result (operand_in (view value.now) place.now) }
 {
-    match member(value, "operandB") {
-        Some(bytes) => {
-            let place = place.member(alloc, "operandB")?;
-            bytes_up_to(alloc, bytes, MAX_OPERAND, &place)
-        }
-        None => refuse_member(alloc, PolicyKind::Missing, place, "operandB"),
-    }
+    let (bytes, place) = needed(alloc, value, "operandB", place)?;
+    Ok(bytes_up_to(alloc, bytes, MAX_OPERAND, &place)?)
 }
 
 /// `offset`: 0 to 65,535, without it 0. `WrongKind` or `BadNumber` as `number_of`.
 #[tactic(auto, unfolding(crate::specs::Fields::offset_in))]
-pub fn offset(alloc: Global, value: &Value, place: &Place) -> Result<u16, PolicyFault>
+pub fn offset(alloc: Global, value: &Value, place: &PlaceRef<'_>) -> Result<u16, ElementFault>
     ensures { Gives result (offset_in (view value.now) place.now) }
 {
     match member(value, "offset") {
         Some(number) => {
-            let offset = unsigned(alloc, number, 0, 65535, &place.member(alloc, "offset")?)?;
+            let offset = unsigned(alloc, number, 0, 65535, &place.member("offset"))?;
             Ok(offset as u16)
         }
         None => Ok(0),
@@ -89,11 +87,15 @@ pub fn offset(alloc: Global, value: &Value, place: &Place) -> Result<u16, Policy
 /// `operation`: a comparison, without it EQ. `WrongKind` for a value that is neither text nor number,
 /// `BadNumber` for another text or number.
 #[tactic(auto, unfolding(crate::specs::Fields::operation_member_in))]
-pub fn operation_member(alloc: Global, value: &Value, place: &Place) -> Result<Compare, PolicyFault>
+pub fn operation_member(
+    alloc: Global,
+    value: &Value,
+    place: &PlaceRef<'_>,
+) -> Result<Compare, ElementFault>
     ensures { Gives result (operation_member_in (view value.now) place.now) }
 {
     match member(value, "operation") {
-        Some(word) => operation(alloc, word, &place.member(alloc, "operation")?),
+        Some(word) => operation(alloc, word, &place.member("operation")),
         None => Ok(Compare::Eq),
     }
 }

@@ -1,12 +1,13 @@
-//! The rows of policy documents: words, bytes of fixed lengths, wishes, public areas, and what each element
-//! but OR says in its own members. `tpol_read` stands on it with lists, ORs and the document.
+//! What the elements of policy documents say: words, wishes, public areas, and what each element but OR says
+//! in its own members. `tpol_read` stands on it with lists, ORs and the document.
 #![tactic(auto)]
 
-mod bytes;
+mod algorithms;
 mod fault;
 mod fields;
+mod localities;
 mod members;
-mod numbers;
+mod operations;
 mod pcrs;
 mod publics;
 mod rows;
@@ -15,12 +16,12 @@ mod walk;
 mod wishes;
 mod words;
 
-pub use bytes::{digest, text};
-pub use fault::{PolicyFault, PolicyKind, refuse, refuse_member};
+pub use fault::{ElementFault, PolicyFault, PolicyKind, refuse};
 pub use fields::policy_ref;
-pub use members::{check_object, item_index, note_unknown};
+pub use members::note_unknown;
 pub use rows::{leaf_row, without_pem};
+pub use tpol_json::Notes;
 pub use types::{ElementType, LeafType, element_type, note_leaf};
-pub use walk::{Notes, Walk};
+pub use walk::Walk;
 pub use wishes::{index_wish, key_wish};
-pub use words::{command_codes, only_word};
+pub use words::only_word;

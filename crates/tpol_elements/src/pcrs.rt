@@ -1,19 +1,19 @@
-// The PCRs of a POLICYPCR.
+//! The PCRs of a POLICYPCR.
+
 ghost use Rattle.std.specs.Prelude.{◌≡◌, ◌≤◌, ◌^◌, [], length, nat_lt, position, IfSome, OnOk};
 ghost use Rattle.serde_json.specs.View.{view, items_view};
 ghost use Rattle.tpol_elements.specs.Faults.{Gives};
 ghost use Rattle.tpol_elements.specs.Pcrs.{bank_in, banks_in, current_pcrs_in, has_value, mask_from, mask_in, new_pcr_in, only_bank, pcr_bit, pcr_member, pcr_value_in, pcr_values_from, pcr_values_in, pcrs_among, pcrs_in, select_member, value_member, with_value, bank_member};
 ghost use Rattle.tpol_elements.specs.Walks.{Leaves};
 
-use crate::bytes::digest;
-use crate::fault::{refuse, refuse_member};
-use crate::members::{alone, check_object, item_index, note_unknown};
-use crate::numbers::{check_hash, unsigned};
-use crate::{PolicyFault, PolicyKind, Walk};
+use crate::algorithms::check_hash;
+use crate::fault::refuse;
+use crate::members::{alone, note_unknown};
+use crate::{ElementFault, PolicyKind, Walk};
 use serde_json::Value;
 use std::alloc::Global;
 use tpol_base::{Digest32, NoMemory};
-use tpol_json::{Place, member};
+use tpol_json::{PlaceRef, check_object, digest, items, member, needed, unsigned};
 use tpol_tree::{PcrValues, PcrWish};
 
 fn has_value(values: &[(u8, Digest32)], pcr: u8) -> bool
@@ -45,8 +45,8 @@ fn new_pcr(
     alloc: Global,
     value: &Value,
     values: &[(u8, Digest32)],
-    place: &Place,
-) -> Result<u8, PolicyFault>
+    place: &PlaceRef<'_>,
+) -> Result<u8, ElementFault>
     ensures { Gives result (new_pcr_in values.now (view value.now) place.now) }
 {
     let pcr = unsigned(alloc, value, 0, 31, place)? as u8;
@@ -62,35 +62,38 @@ fn pcr_member(
     alloc: Global,
     value: &Value,
     values: &[(u8, Digest32)],
-    place: &Place,
-) -> Result<u8, PolicyFault>
+    place: &PlaceRef<'_>,
+) -> Result<u8, ElementFault>
     ensures { Gives result (pcr_member values.now (view value.now) place.now) }
 {
-    match member(value, "pcr") {
-        Some(number) => new_pcr(alloc, number, values, &place.member(alloc, "pcr")?),
-        None => refuse_member(alloc, PolicyKind::Missing, place, "pcr"),
-    }
+    let (number, place) = needed(alloc, value, "pcr", place)?;
+    new_pcr(alloc, number, values, &place)
 }
 
 // SHA-256 under this name.
 #[tactic(auto, unfolding(crate::specs::Pcrs::bank_member))]
-fn bank_member(alloc: Global, value: &Value, name: &str, place: &Place) -> Result<(), PolicyFault>
+fn bank_member(
+    alloc: Global,
+    value: &Value,
+    name: &str,
+    place: &PlaceRef<'_>,
+) -> Result<(), ElementFault>
     ensures { Gives result (bank_member name.now (view value.now) place.now) }
 {
-    match member(value, name) {
-        Some(word) => check_hash(alloc, word, &place.member(alloc, name)?),
-        None => refuse_member(alloc, PolicyKind::Missing, place, name),
-    }
+    let (word, place) = needed(alloc, value, name, place)?;
+    check_hash(alloc, word, &place)
 }
 
 #[tactic(auto, unfolding(crate::specs::Pcrs::value_member))]
-fn value_member(alloc: Global, value: &Value, place: &Place) -> Result<Digest32, PolicyFault>
+fn value_member(
+    alloc: Global,
+    value: &Value,
+    place: &PlaceRef<'_>,
+) -> Result<Digest32, ElementFault>
     ensures { Gives result (value_member (view value.now) place.now) }
 {
-    match member(value, "digest") {
-        Some(bytes) => digest(alloc, bytes, &place.member(alloc, "digest")?),
-        None => refuse_member(alloc, PolicyKind::Missing, place, "digest"),
-    }
+    let (bytes, place) = needed(alloc, value, "digest", place)?;
+    Ok(digest(alloc, bytes, &place)?)
 }
 
 // An item of `pcrs`: a PCR that is none of those before it, with its value.
@@ -99,9 +102,9 @@ fn pcr_value(
     alloc: Global,
     value: &Value,
     values: &[(u8, Digest32)],
-    place: &Place,
+    place: &PlaceRef<'_>,
     walk: &mut Walk,
-) -> Result<(u8, Digest32), PolicyFault>
+) -> Result<(u8, Digest32), ElementFault>
     ensures { Leaves result walk.new (pcr_value_in values.now (view value.now) place.now walk.old) }
 {
     check_object(alloc, value, place)?;
@@ -115,14 +118,14 @@ fn pcr_value(
 fn pcr_values(
     alloc: Global,
     items: &[Value],
-    place: &Place,
+    place: &PlaceRef<'_>,
     walk: &mut Walk,
-) -> Result<PcrValues, PolicyFault>
+) -> Result<PcrValues, ElementFault>
     ensures { Leaves result walk.new (pcr_values_from [] 0 (items_view items.now) place.now walk.old) }
 {
     let mut values = Vec::new(alloc);
     for (index, item) in items.iter().enumerate() {
-        let at = place.item(alloc, item_index(index)?)?;
+        let at = (&*place).item(index);
         let (pcr, digest) = pcr_value(alloc, item, values.as_slice(), &at, walk)?;
         insert_value(&mut values, pcr, digest)?;
     }
@@ -132,9 +135,9 @@ fn pcr_values(
 fn wish_of_values(
     alloc: Global,
     value: &Value,
-    place: &Place,
+    place: &PlaceRef<'_>,
     walk: &mut Walk,
-) -> Result<PcrWish, PolicyFault>
+) -> Result<PcrWish, ElementFault>
     ensures { Leaves result walk.new (pcr_values_in walk.old (view value.now) place.now) }
 {
     match value.as_array() {
@@ -153,25 +156,25 @@ fn bit(pcr: u32) -> u32
     1 << pcr
 }
 
-fn mask_of(alloc: Global, items: &[Value], place: &Place) -> Result<u32, PolicyFault>
+fn mask_of(alloc: Global, items: &[Value], place: &PlaceRef<'_>) -> Result<u32, ElementFault>
     ensures { Gives result (mask_from 0 0 (items_view items.now) place.now) }
 {
     let mut mask = 0;
     for (index, item) in items.iter().enumerate() {
-        mask |= pcr_bit(alloc, item, &place.item(alloc, item_index(index)?)?)?;
+        mask |= pcr_bit(alloc, item, &(&*place).item(index))?;
     }
     Ok(mask)
 }
 
-fn pcr_bit(alloc: Global, value: &Value, place: &Place) -> Result<u32, PolicyFault>
+fn pcr_bit(alloc: Global, value: &Value, place: &PlaceRef<'_>) -> Result<u32, ElementFault>
     ensures { Gives result (pcr_bit (view value.now) place.now) }
 {
     let pcr = unsigned(alloc, value, 0, 31, place)?;
-    Ok(bit(pcr))
+    Ok(bit(pcr as u32))
 }
 
 // A list of PCRs as a mask.
-fn mask(alloc: Global, value: &Value, place: &Place) -> Result<u32, PolicyFault>
+fn mask(alloc: Global, value: &Value, place: &PlaceRef<'_>) -> Result<u32, ElementFault>
     ensures { Gives result (mask_in (view value.now) place.now) }
 {
     match value.as_array() {
@@ -180,29 +183,27 @@ fn mask(alloc: Global, value: &Value, place: &Place) -> Result<u32, PolicyFault>
     }
 }
 
-fn current_pcrs(alloc: Global, value: &Value, place: &Place) -> Result<PcrWish, PolicyFault>
+fn current_pcrs(alloc: Global, value: &Value, place: &PlaceRef<'_>) -> Result<PcrWish, ElementFault>
     ensures { Gives result (current_pcrs_in (view value.now) place.now) }
 {
     Ok(PcrWish::Current(mask(alloc, value, place)?))
 }
 
 #[tactic(auto, unfolding(crate::specs::Pcrs::select_member))]
-fn select_member(alloc: Global, value: &Value, place: &Place) -> Result<u32, PolicyFault>
+fn select_member(alloc: Global, value: &Value, place: &PlaceRef<'_>) -> Result<u32, ElementFault>
     ensures { Gives result (select_member (view value.now) place.now) }
 {
-    match member(value, "pcrSelect") {
-        Some(list) => mask(alloc, list, &place.member(alloc, "pcrSelect")?),
-        None => refuse_member(alloc, PolicyKind::Missing, place, "pcrSelect"),
-    }
+    let (list, place) = needed(alloc, value, "pcrSelect", place)?;
+    mask(alloc, list, &place)
 }
 
 #[tactic(auto, unfolding(crate::specs::Pcrs::bank_in))]
 fn bank(
     alloc: Global,
     value: &Value,
-    place: &Place,
+    place: &PlaceRef<'_>,
     walk: &mut Walk,
-) -> Result<PcrWish, PolicyFault>
+) -> Result<PcrWish, ElementFault>
     ensures { Leaves result walk.new (bank_in walk.old (view value.now) place.now) }
 {
     check_object(alloc, value, place)?;
@@ -215,14 +216,14 @@ fn bank(
 fn only_bank(
     alloc: Global,
     items: &[Value],
-    place: &Place,
+    place: &PlaceRef<'_>,
     walk: &mut Walk,
-) -> Result<PcrWish, PolicyFault>
+) -> Result<PcrWish, ElementFault>
     ensures { Leaves result walk.new (only_bank walk.old (items_view items.now) place.now) }
 {
     match items {
         [] => refuse(alloc, PolicyKind::BadNumber, place),
-        [only] => bank(alloc, only, &place.item(alloc, 0)?, walk),
+        [only] => bank(alloc, only, &place.item(0), walk),
         [_, _, ..] => refuse(alloc, PolicyKind::BadNumber, place),
     }
 }
@@ -231,9 +232,9 @@ fn only_bank(
 fn banks(
     alloc: Global,
     value: &Value,
-    place: &Place,
+    place: &PlaceRef<'_>,
     walk: &mut Walk,
-) -> Result<PcrWish, PolicyFault>
+) -> Result<PcrWish, ElementFault>
     ensures { Leaves result walk.new (banks_in walk.old (view value.now) place.now) }
 {
     match value.as_array() {
@@ -248,9 +249,9 @@ fn banks(
 pub fn pcr_wish(
     alloc: Global,
     value: &Value,
-    place: &Place,
+    place: &PlaceRef<'_>,
     walk: &mut Walk,
-) -> Result<PcrWish, PolicyFault>
+) -> Result<PcrWish, ElementFault>
     ensures { Leaves result walk.new (pcrs_in (view value.now) place.now walk.old) }
 {
     pcrs_among(
@@ -272,24 +273,24 @@ fn pcrs_among(
     first: &str,
     second: &str,
     third: &str,
-    place: &Place,
+    place: &PlaceRef<'_>,
     walk: &mut Walk,
-) -> Result<PcrWish, PolicyFault>
+) -> Result<PcrWish, ElementFault>
     ensures { Leaves result walk.new (pcrs_among first.now second.now third.now (view value.now) place.now walk.old) }
 {
     match member(value, first) {
         Some(list) => {
-            let found = wish_of_values(alloc, list, &place.member(alloc, first)?, walk);
+            let found = wish_of_values(alloc, list, &place.member(first), walk);
             alone(alloc, found, value, &[second, third], place)
         }
         None => match member(value, second) {
             Some(list) => {
-                let found = current_pcrs(alloc, list, &place.member(alloc, second)?);
+                let found = current_pcrs(alloc, list, &place.member(second));
                 alone(alloc, found, value, &[third], place)
             }
             None => match member(value, third) {
-                Some(list) => banks(alloc, list, &place.member(alloc, third)?, walk),
-                None => refuse_member(alloc, PolicyKind::Missing, place, first),
+                Some(list) => banks(alloc, list, &place.member(third), walk),
+                None => refuse(alloc, PolicyKind::Missing, &place.member(first)),
             },
         },
     }

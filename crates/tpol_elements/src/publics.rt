@@ -1,118 +1,108 @@
-// Public areas of keys and of indices.
+//! Public areas of keys and of indices.
+
 ghost use Rattle.std.specs.Prelude.{◌≡◌};
 ghost use Rattle.serde_json.specs.View.{view};
 ghost use Rattle.tpol_elements.specs.Faults.{Gives};
 ghost use Rattle.tpol_elements.specs.Publics.{key_type_member, name_hash_member, attributes_member, auth_policy_member, scheme_member, unique_member, nv_index_member, data_size_member, object_public, index_public, object_public_in, index_public_in, through};
+ghost use Rattle.tpol_elements.specs.Values.{unsigned_in};
 ghost use Rattle.tpol_elements.specs.Walks.{Leaves};
 
-use crate::bytes::empty_or_32;
-use crate::fault::refuse_member;
-use crate::members::{check_object, note_unknown};
-use crate::numbers::{check_hash, check_key_type, scheme, unsigned};
-use crate::{PolicyFault, PolicyKind, Walk};
+use crate::algorithms::{check_hash, check_key_type, scheme};
+use crate::members::note_unknown;
+use crate::{ElementFault, Walk};
 use serde_json::Value;
 use std::alloc::Global;
 use tpol_base::Blob;
-use tpol_json::{Place, member};
+use tpol_json::{PlaceRef, check_object, empty_or_32, member, needed, unsigned, unsigned_32};
 use tpol_tree::{NvPublicText, ObjectPublicText};
 
 #[tactic(auto, unfolding(crate::specs::Publics::key_type_member))]
-fn key_type(alloc: Global, value: &Value, place: &Place) -> Result<(), PolicyFault>
+fn key_type(alloc: Global, value: &Value, place: &PlaceRef<'_>) -> Result<(), ElementFault>
     ensures { Gives result (key_type_member (view value.now) place.now) }
 {
-    match member(value, "type") {
-        Some(word) => check_key_type(alloc, word, &place.member(alloc, "type")?),
-        None => refuse_member(alloc, PolicyKind::Missing, place, "type"),
-    }
+    let (word, place) = needed(alloc, value, "type", place)?;
+    check_key_type(alloc, word, &place)
 }
 
 #[tactic(auto, unfolding(crate::specs::Publics::name_hash_member))]
-fn name_hash(alloc: Global, value: &Value, place: &Place) -> Result<(), PolicyFault>
+fn name_hash(alloc: Global, value: &Value, place: &PlaceRef<'_>) -> Result<(), ElementFault>
     ensures { Gives result (name_hash_member (view value.now) place.now) }
 {
-    match member(value, "nameAlg") {
-        Some(word) => check_hash(alloc, word, &place.member(alloc, "nameAlg")?),
-        None => refuse_member(alloc, PolicyKind::Missing, place, "nameAlg"),
-    }
+    let (word, place) = needed(alloc, value, "nameAlg", place)?;
+    check_hash(alloc, word, &place)
 }
 
 // A number of 32 bits under this name.
 #[tactic(auto, unfolding(crate::specs::Publics::attributes_member))]
-fn attributes(alloc: Global, value: &Value, name: &str, place: &Place) -> Result<u32, PolicyFault>
+fn attributes(
+    alloc: Global,
+    value: &Value,
+    name: &str,
+    place: &PlaceRef<'_>,
+) -> Result<u32, ElementFault>
     ensures { Gives result (attributes_member name.now (view value.now) place.now) }
 {
-    match member(value, name) {
-        Some(number) => unsigned(alloc, number, 0, u32::MAX, &place.member(alloc, name)?),
-        None => refuse_member(alloc, PolicyKind::Missing, place, name),
-    }
+    let (number, place) = needed(alloc, value, name, place)?;
+    Ok(unsigned_32(alloc, number, &place)?)
 }
 
 #[tactic(auto, unfolding(crate::specs::Publics::auth_policy_member))]
-fn auth_policy(alloc: Global, value: &Value, place: &Place) -> Result<Blob, PolicyFault>
+fn auth_policy(alloc: Global, value: &Value, place: &PlaceRef<'_>) -> Result<Blob, ElementFault>
     ensures { Gives result (auth_policy_member (view value.now) place.now) }
 {
     match member(value, "authPolicy") {
-        Some(bytes) => empty_or_32(alloc, bytes, &place.member(alloc, "authPolicy")?),
+        Some(bytes) => Ok(empty_or_32(alloc, bytes, &place.member("authPolicy"))?),
         None => Ok(Blob::new(alloc)),
     }
 }
 
 #[tactic(auto, unfolding(crate::specs::Publics::scheme_member))]
-fn hmac(alloc: Global, value: &Value, place: &Place) -> Result<bool, PolicyFault>
+fn hmac(alloc: Global, value: &Value, place: &PlaceRef<'_>) -> Result<bool, ElementFault>
     ensures { Gives result (scheme_member (view value.now) place.now) }
 {
-    match member(value, "scheme") {
-        Some(word) => scheme(alloc, word, &place.member(alloc, "scheme")?),
-        None => refuse_member(alloc, PolicyKind::Missing, place, "scheme"),
-    }
+    let (word, place) = needed(alloc, value, "scheme", place)?;
+    scheme(alloc, word, &place)
 }
 
 #[tactic(auto, unfolding(crate::specs::Publics::unique_member))]
-fn unique(alloc: Global, value: &Value, place: &Place) -> Result<Blob, PolicyFault>
+fn unique(alloc: Global, value: &Value, place: &PlaceRef<'_>) -> Result<Blob, ElementFault>
     ensures { Gives result (unique_member (view value.now) place.now) }
 {
-    match member(value, "unique") {
-        Some(bytes) => empty_or_32(alloc, bytes, &place.member(alloc, "unique")?),
-        None => refuse_member(alloc, PolicyKind::Missing, place, "unique"),
-    }
+    let (bytes, place) = needed(alloc, value, "unique", place)?;
+    Ok(empty_or_32(alloc, bytes, &place)?)
 }
 
 #[tactic(auto, unfolding(crate::specs::Publics::nv_index_member))]
-fn nv_index(alloc: Global, value: &Value, place: &Place) -> Result<u32, PolicyFault>
+fn nv_index(alloc: Global, value: &Value, place: &PlaceRef<'_>) -> Result<u32, ElementFault>
     ensures { Gives result (nv_index_member (view value.now) place.now) }
 {
-    match member(value, "nvIndex") {
-        Some(number) => unsigned(
-            alloc,
-            number,
-            0x01000000,
-            0x01ffffff,
-            &place.member(alloc, "nvIndex")?,
-        ),
-        None => refuse_member(alloc, PolicyKind::Missing, place, "nvIndex"),
-    }
+    let (number, place) = needed(alloc, value, "nvIndex", place)?;
+    let index = unsigned(alloc, number, 0x01000000, 0x01ffffff, &place)?;
+    Ok(index as u32)
+}
+
+// The size of an index: 1 to 2,048 bytes.
+fn size(alloc: Global, value: &Value, place: &PlaceRef<'_>) -> Result<u16, ElementFault>
+    ensures { Gives result (unsigned_in 1 2048 (view value.now) place.now) }
+{
+    Ok(unsigned(alloc, value, 1, 2048, place)? as u16)
 }
 
 #[tactic(auto, unfolding(crate::specs::Publics::data_size_member))]
-fn data_size(alloc: Global, value: &Value, place: &Place) -> Result<u16, PolicyFault>
+fn data_size(alloc: Global, value: &Value, place: &PlaceRef<'_>) -> Result<u16, ElementFault>
     ensures { Gives result (data_size_member (view value.now) place.now) }
 {
-    match member(value, "dataSize") {
-        Some(number) => {
-            let size = unsigned(alloc, number, 1, 2048, &place.member(alloc, "dataSize")?)?;
-            Ok(size as u16)
-        }
-        None => refuse_member(alloc, PolicyKind::Missing, place, "dataSize"),
-    }
+    let (number, place) = needed(alloc, value, "dataSize", place)?;
+    size(alloc, number, &place)
 }
 
 #[tactic(auto, unfolding(crate::specs::Publics::object_public))]
 fn object_public(
     alloc: Global,
     value: &Value,
-    place: &Place,
+    place: &PlaceRef<'_>,
     walk: &mut Walk,
-) -> Result<ObjectPublicText, PolicyFault>
+) -> Result<ObjectPublicText, ElementFault>
     ensures { Leaves result walk.new (object_public (view value.now) place.now walk.old) }
 {
     check_object(alloc, value, place)?;
@@ -143,9 +133,9 @@ fn object_public(
 fn index_public(
     alloc: Global,
     value: &Value,
-    place: &Place,
+    place: &PlaceRef<'_>,
     walk: &mut Walk,
-) -> Result<NvPublicText, PolicyFault>
+) -> Result<NvPublicText, ElementFault>
     ensures { Leaves result walk.new (index_public (view value.now) place.now walk.old) }
 {
     check_object(alloc, value, place)?;
@@ -170,9 +160,9 @@ fn index_public(
 pub fn object_public_area(
     alloc: Global,
     value: &Value,
-    place: &Place,
+    place: &PlaceRef<'_>,
     walk: &mut Walk,
-) -> Result<ObjectPublicText, PolicyFault>
+) -> Result<ObjectPublicText, ElementFault>
     ensures { Leaves result walk.new (object_public_in (view value.now) place.now walk.old) }
 {
     object_within(alloc, value, "publicArea", place, walk)
@@ -183,14 +173,14 @@ fn object_within(
     alloc: Global,
     value: &Value,
     wrapper: &str,
-    place: &Place,
+    place: &PlaceRef<'_>,
     walk: &mut Walk,
-) -> Result<ObjectPublicText, PolicyFault>
+) -> Result<ObjectPublicText, ElementFault>
     ensures { Leaves result walk.new (through wrapper.now object_public (view value.now) place.now walk.old) }
 {
     match member(value, wrapper) {
         Some(inner) => {
-            let inner_place = place.member(alloc, wrapper)?;
+            let inner_place = (&*place).member(&*wrapper);
             let area = object_within(alloc, inner, wrapper, &inner_place, walk)?;
             note_unknown(alloc, value, &[wrapper], place, walk)?;
             Ok(area)
@@ -204,9 +194,9 @@ fn object_within(
 pub fn index_public_area(
     alloc: Global,
     value: &Value,
-    place: &Place,
+    place: &PlaceRef<'_>,
     walk: &mut Walk,
-) -> Result<NvPublicText, PolicyFault>
+) -> Result<NvPublicText, ElementFault>
     ensures { Leaves result walk.new (index_public_in (view value.now) place.now walk.old) }
 {
     index_within(alloc, value, "nvPublic", place, walk)
@@ -216,14 +206,14 @@ fn index_within(
     alloc: Global,
     value: &Value,
     wrapper: &str,
-    place: &Place,
+    place: &PlaceRef<'_>,
     walk: &mut Walk,
-) -> Result<NvPublicText, PolicyFault>
+) -> Result<NvPublicText, ElementFault>
     ensures { Leaves result walk.new (through wrapper.now index_public (view value.now) place.now walk.old) }
 {
     match member(value, wrapper) {
         Some(inner) => {
-            let inner_place = place.member(alloc, wrapper)?;
+            let inner_place = (&*place).member(&*wrapper);
             let area = index_within(alloc, inner, wrapper, &inner_place, walk)?;
             note_unknown(alloc, value, &[wrapper], place, walk)?;
             Ok(area)

@@ -1,29 +1,30 @@
-// What the members of each element say that holds no other elements.
+//! What the members of each element say that holds no other elements.
+
 ghost use Rattle.serde_json.specs.View.{view};
 ghost use Rattle.tpol_elements.specs.Faults.{Gives};
-ghost use Rattle.tpol_elements.specs.Rows.{authorize_nv_row, authorize_row, command_code_row, counter_timer_row, cp_hash_row, duplication_row, include_member, included_object, leaf_row, locality_row, name_hash_row, nv_row, nv_written_row, object_member, pcr_row, secret_row, signed_row, without_pem, written_member};
+ghost use Rattle.tpol_elements.specs.Rows.{authorize_nv_row, authorize_row, command_code_row, counter_timer_row, cp_hash_row, duplication_row, include_member, included_object, leaf_row, locality_member, locality_row, name_hash_row, nv_row, nv_written_row, object_member, pcr_row, secret_row, signed_row, without_pem, written_member};
 ghost use Rattle.tpol_elements.specs.Walks.{Leaves};
 
-use crate::bytes::{digest, name};
-use crate::fault::refuse_member;
+use crate::fault::refuse;
 use crate::fields::{cp_hash, expiration, offset, operand, operation_member, policy_ref};
-use crate::numbers::{code, localities, truth};
+use crate::localities::localities;
+use crate::operations::code;
 use crate::pcrs::pcr_wish;
 use crate::wishes::{entity_wish, index_wish, key_wish, names_wish, parent_wish};
-use crate::{LeafType, PolicyFault, PolicyKind, Walk};
+use crate::{ElementFault, LeafType, PolicyKind, Walk};
 use serde_json::Value;
 use std::alloc::Global;
 use tpol_base::Name;
-use tpol_json::{Place, member};
+use tpol_json::{PlaceRef, digest, member, name, needed, truth};
 use tpol_tree::Element;
 
 /// No `keyPEM` may stand here: it holds an asymmetric key, and is `AsymmetricKey` at its own place.
 #[tactic(auto, unfolding(crate::specs::Rows::without_pem))]
-pub fn without_pem(alloc: Global, value: &Value, place: &Place) -> Result<(), PolicyFault>
+pub fn without_pem(alloc: Global, value: &Value, place: &PlaceRef<'_>) -> Result<(), ElementFault>
     ensures { Gives result (without_pem (view value.now) place.now) }
 {
     if member(value, "keyPEM").is_some() {
-        refuse_member(alloc, PolicyKind::AsymmetricKey, place, "keyPEM")
+        refuse(alloc, PolicyKind::AsymmetricKey, &place.member("keyPEM"))
     } else {
         Ok(())
     }
@@ -33,9 +34,9 @@ pub fn without_pem(alloc: Global, value: &Value, place: &Place) -> Result<(), Po
 fn pcr_row(
     alloc: Global,
     value: &Value,
-    place: &Place,
+    place: &PlaceRef<'_>,
     walk: &mut Walk,
-) -> Result<Element, PolicyFault>
+) -> Result<Element, ElementFault>
     ensures { Leaves result walk.new (pcr_row (view value.now) place.now walk.old) }
 {
     Ok(Element::Pcr(pcr_wish(alloc, value, place, walk)?))
@@ -45,9 +46,9 @@ fn pcr_row(
 fn nv_row(
     alloc: Global,
     value: &Value,
-    place: &Place,
+    place: &PlaceRef<'_>,
     walk: &mut Walk,
-) -> Result<Element, PolicyFault>
+) -> Result<Element, ElementFault>
     ensures { Leaves result walk.new (nv_row (view value.now) place.now walk.old) }
 {
     let index = index_wish(alloc, value, place, walk)?;
@@ -63,7 +64,7 @@ fn nv_row(
 }
 
 #[tactic(auto, unfolding(crate::specs::Rows::secret_row))]
-fn secret_row(alloc: Global, value: &Value, place: &Place) -> Result<Element, PolicyFault>
+fn secret_row(alloc: Global, value: &Value, place: &PlaceRef<'_>) -> Result<Element, ElementFault>
     ensures { Gives result (secret_row (view value.now) place.now) }
 {
     let entity = entity_wish(alloc, value, place)?;
@@ -82,9 +83,9 @@ fn secret_row(alloc: Global, value: &Value, place: &Place) -> Result<Element, Po
 fn signed_row(
     alloc: Global,
     value: &Value,
-    place: &Place,
+    place: &PlaceRef<'_>,
     walk: &mut Walk,
-) -> Result<Element, PolicyFault>
+) -> Result<Element, ElementFault>
     ensures { Leaves result walk.new (signed_row (view value.now) place.now walk.old) }
 {
     without_pem(alloc, value, place)?;
@@ -104,9 +105,9 @@ fn signed_row(
 fn authorize_row(
     alloc: Global,
     value: &Value,
-    place: &Place,
+    place: &PlaceRef<'_>,
     walk: &mut Walk,
-) -> Result<Element, PolicyFault>
+) -> Result<Element, ElementFault>
     ensures { Leaves result walk.new (authorize_row (view value.now) place.now walk.old) }
 {
     without_pem(alloc, value, place)?;
@@ -119,63 +120,69 @@ fn authorize_row(
 fn authorize_nv_row(
     alloc: Global,
     value: &Value,
-    place: &Place,
+    place: &PlaceRef<'_>,
     walk: &mut Walk,
-) -> Result<Element, PolicyFault>
+) -> Result<Element, ElementFault>
     ensures { Leaves result walk.new (authorize_nv_row (view value.now) place.now walk.old) }
 {
     let index = index_wish(alloc, value, place, walk)?;
     Ok(Element::AuthorizeNv { index })
 }
 
+#[tactic(auto, unfolding(crate::specs::Rows::locality_member))]
+fn locality_member(alloc: Global, value: &Value, place: &PlaceRef<'_>) -> Result<u8, ElementFault>
+    ensures { Gives result (locality_member (view value.now) place.now) }
+{
+    let (found, place) = needed(alloc, value, "locality", place)?;
+    localities(alloc, found, &place)
+}
+
 #[tactic(auto, unfolding(crate::specs::Rows::locality_row))]
-fn locality_row(alloc: Global, value: &Value, place: &Place) -> Result<Element, PolicyFault>
+fn locality_row(alloc: Global, value: &Value, place: &PlaceRef<'_>) -> Result<Element, ElementFault>
     ensures { Gives result (locality_row (view value.now) place.now) }
 {
-    match member(value, "locality") {
-        Some(found) => {
-            let set = localities(alloc, found, &place.member(alloc, "locality")?)?;
-            Ok(Element::Locality(set))
-        }
-        None => refuse_member(alloc, PolicyKind::Missing, place, "locality"),
-    }
+    Ok(Element::Locality(locality_member(alloc, value, place)?))
 }
 
 #[tactic(auto, unfolding(crate::specs::Rows::command_code_row))]
-fn command_code_row(alloc: Global, value: &Value, place: &Place) -> Result<Element, PolicyFault>
+fn command_code_row(
+    alloc: Global,
+    value: &Value,
+    place: &PlaceRef<'_>,
+) -> Result<Element, ElementFault>
     ensures { Gives result (command_code_row (view value.now) place.now) }
 {
-    match member(value, "code") {
-        Some(found) => {
-            let code = code(alloc, found, &place.member(alloc, "code")?)?;
-            Ok(Element::CommandCode(code))
-        }
-        None => refuse_member(alloc, PolicyKind::Missing, place, "code"),
-    }
+    let (found, place) = needed(alloc, value, "code", place)?;
+    let code = code(alloc, found, &place)?;
+    Ok(Element::CommandCode(code))
 }
 
 #[tactic(auto, unfolding(crate::specs::Rows::cp_hash_row))]
-fn cp_hash_row(alloc: Global, value: &Value, place: &Place) -> Result<Element, PolicyFault>
+fn cp_hash_row(alloc: Global, value: &Value, place: &PlaceRef<'_>) -> Result<Element, ElementFault>
     ensures { Gives result (cp_hash_row (view value.now) place.now) }
 {
-    match member(value, "cpHash") {
-        Some(found) => {
-            let digest = digest(alloc, found, &place.member(alloc, "cpHash")?)?;
-            Ok(Element::CpHash(digest))
-        }
-        None => refuse_member(alloc, PolicyKind::Missing, place, "cpHash"),
-    }
+    let (found, place) = needed(alloc, value, "cpHash", place)?;
+    let digest = digest(alloc, found, &place)?;
+    Ok(Element::CpHash(digest))
 }
 
 #[tactic(auto, unfolding(crate::specs::Rows::name_hash_row))]
-fn name_hash_row(alloc: Global, value: &Value, place: &Place) -> Result<Element, PolicyFault>
+fn name_hash_row(
+    alloc: Global,
+    value: &Value,
+    place: &PlaceRef<'_>,
+) -> Result<Element, ElementFault>
     ensures { Gives result (name_hash_row (view value.now) place.now) }
 {
     Ok(Element::NameHash(names_wish(alloc, value, place)?))
 }
 
 #[tactic(auto, unfolding(crate::specs::Rows::counter_timer_row))]
-fn counter_timer_row(alloc: Global, value: &Value, place: &Place) -> Result<Element, PolicyFault>
+fn counter_timer_row(
+    alloc: Global,
+    value: &Value,
+    place: &PlaceRef<'_>,
+) -> Result<Element, ElementFault>
     ensures { Gives result (counter_timer_row (view value.now) place.now) }
 {
     let operand = operand(alloc, value, place)?;
@@ -189,21 +196,21 @@ fn counter_timer_row(alloc: Global, value: &Value, place: &Place) -> Result<Elem
 }
 
 #[tactic(auto, unfolding(crate::specs::Rows::include_member))]
-fn include_member(alloc: Global, value: &Value, place: &Place) -> Result<bool, PolicyFault>
+fn include_member(alloc: Global, value: &Value, place: &PlaceRef<'_>) -> Result<bool, ElementFault>
     ensures { Gives result (include_member (view value.now) place.now) }
 {
     match member(value, "includeObject") {
-        Some(found) => truth(alloc, found, &place.member(alloc, "includeObject")?),
+        Some(found) => Ok(truth(alloc, found, &place.member("includeObject"))?),
         None => Ok(false),
     }
 }
 
 #[tactic(auto, unfolding(crate::specs::Rows::object_member))]
-fn object_member(alloc: Global, value: &Value, place: &Place) -> Result<Name, PolicyFault>
+fn object_member(alloc: Global, value: &Value, place: &PlaceRef<'_>) -> Result<Name, ElementFault>
     ensures { Gives result (object_member (view value.now) place.now) }
 {
     match member(value, "objectName") {
-        Some(found) => name(alloc, found, &place.member(alloc, "objectName")?),
+        Some(found) => Ok(name(alloc, found, &place.member("objectName"))?),
         None => Ok(Name::Empty),
     }
 }
@@ -214,12 +221,14 @@ fn included_object(
     alloc: Global,
     value: &Value,
     include: bool,
-    place: &Place,
-) -> Result<Name, PolicyFault>
+    place: &PlaceRef<'_>,
+) -> Result<Name, ElementFault>
     ensures { Gives result (included_object include (view value.now) place.now) }
 {
     match object_member(alloc, value, place)? {
-        Name::Empty if include => { refuse_member(alloc, PolicyKind::Missing, place, "objectName") }
+        Name::Empty if include => {
+            refuse(alloc, PolicyKind::Missing, &place.member("objectName"))
+        }
         object => Ok(object),
     }
 }
@@ -228,9 +237,9 @@ fn included_object(
 fn duplication_row(
     alloc: Global,
     value: &Value,
-    place: &Place,
+    place: &PlaceRef<'_>,
     walk: &mut Walk,
-) -> Result<Element, PolicyFault>
+) -> Result<Element, ElementFault>
     ensures { Leaves result walk.new (duplication_row (view value.now) place.now walk.old) }
 {
     let parent = parent_wish(alloc, value, place, walk)?;
@@ -244,17 +253,21 @@ fn duplication_row(
 }
 
 #[tactic(auto, unfolding(crate::specs::Rows::written_member))]
-fn written_member(alloc: Global, value: &Value, place: &Place) -> Result<bool, PolicyFault>
+fn written_member(alloc: Global, value: &Value, place: &PlaceRef<'_>) -> Result<bool, ElementFault>
     ensures { Gives result (written_member (view value.now) place.now) }
 {
     match member(value, "writtenSet") {
-        Some(found) => truth(alloc, found, &place.member(alloc, "writtenSet")?),
+        Some(found) => Ok(truth(alloc, found, &place.member("writtenSet"))?),
         None => Ok(true),
     }
 }
 
 #[tactic(auto, unfolding(crate::specs::Rows::nv_written_row))]
-fn nv_written_row(alloc: Global, value: &Value, place: &Place) -> Result<Element, PolicyFault>
+fn nv_written_row(
+    alloc: Global,
+    value: &Value,
+    place: &PlaceRef<'_>,
+) -> Result<Element, ElementFault>
     ensures { Gives result (nv_written_row (view value.now) place.now) }
 {
     Ok(Element::NvWritten(written_member(alloc, value, place)?))
@@ -266,9 +279,9 @@ pub fn leaf_row(
     alloc: Global,
     leaf: LeafType,
     value: &Value,
-    place: &Place,
+    place: &PlaceRef<'_>,
     walk: &mut Walk,
-) -> Result<Element, PolicyFault>
+) -> Result<Element, ElementFault>
     ensures { Leaves result walk.new (leaf_row leaf (view value.now) place.now walk.old) }
 {
     match leaf {

@@ -6,11 +6,11 @@ ghost use Rattle.tpol_elements.specs.Types.{leaf_members, type_in};
 
 use crate::members::note_unknown;
 use crate::words::only_word;
-use crate::{PolicyFault, PolicyKind, Walk};
+use crate::{ElementFault, PolicyKind, Walk};
 use serde_json::Value;
 use std::alloc::Global;
 use tpol_base::NoMemory;
-use tpol_json::Place;
+use tpol_json::PlaceRef;
 
 /// What an element of a policy document is, by its `type`.
 #[derive(Clone, Copy, Debug, PartialEq, Eq)]
@@ -63,7 +63,11 @@ pub enum LeafType {
 /// The type that a text names, in any case, with or without `POLICY` in front; other texts are
 /// `UnknownType`, and a value of another kind is `WrongKind`.
 #[tactic(auto, unfolding(crate::specs::Types::type_in))]
-pub fn element_type(alloc: Global, value: &Value, place: &Place) -> Result<ElementType, PolicyFault>
+pub fn element_type(
+    alloc: Global,
+    value: &Value,
+    place: &PlaceRef<'_>,
+) -> Result<ElementType, ElementFault>
     ensures { Gives result (type_in (view value.now) place.now) }
 {
     only_word(
@@ -168,7 +172,7 @@ pub fn note_leaf(
     alloc: Global,
     leaf: LeafType,
     value: &Value,
-    place: &Place,
+    place: &PlaceRef<'_>,
     walk: &mut Walk,
 ) -> Result<(), NoMemory>
     ensures { OnOk result (walk.new ≡ noted (leaf_members leaf) (view value.now) place.now walk.old) }

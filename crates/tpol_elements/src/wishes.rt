@@ -1,23 +1,25 @@
-// Keys, indices, entities, parents and Names as they are asked for.
+//! Keys, indices, entities, parents and Names as they are asked for.
+
 ghost use Rattle.std.specs.Prelude.{[], codes};
 ghost use Rattle.serde_json.specs.View.{view, items_view};
-ghost use Rattle.tpol_elements.specs.Bytes.{text_in, name_in};
-ghost use Rattle.tpol_elements.specs.Faults.{Gives};
+ghost use Rattle.tpol_elements.specs.Faults.{Gives, cause};
+ghost use Rattle.tpol_base.specs.Answers as answers;
+ghost use Rattle.tpol_elements.specs.Values.{full_name_in, name_in, one_to_three, text_in};
 ghost use Rattle.tpol_elements.specs.Walks.{Leaves};
-ghost use Rattle.tpol_elements.specs.Wishes.{each_from, entity_among, entity_by_name, entity_by_path, entity_in, index_among, index_by_path, index_by_public, index_in, items_of_values, key_among, key_by_path, key_by_public, key_in, names_among, names_by_digest, names_by_names, names_by_paths, names_in, one_to_three, parent_among, parent_by_name, parent_by_path, parent_by_public, parent_in};
+ghost use Rattle.tpol_json.specs.Values.{items_of};
+ghost use Rattle.tpol_elements.specs.Wishes.{each_from, entity_among, entity_by_name, entity_by_path, entity_in, index_among, index_by_path, index_by_public, index_in, key_among, key_by_path, key_by_public, key_in, names_among, names_by_digest, names_by_names, names_by_paths, names_in, parent_among, parent_by_name, parent_by_path, parent_by_public, parent_in};
 
-use crate::bytes::{digest, full_name, name, text};
-use crate::fault::{refuse, refuse_member};
-use crate::members::{alone, item_index};
+use crate::fault::refuse;
+use crate::members::alone;
 use crate::publics::{index_public_area, object_public_area};
-use crate::{PolicyFault, PolicyKind, Walk};
+use crate::{ElementFault, PolicyKind, Walk};
 use serde_json::Value;
 use std::alloc::Global;
-use tpol_base::{Sequence, Texts};
-use tpol_json::{Place, member};
+use tpol_base::{Name, Sequence, Texts};
+use tpol_json::{PlaceRef, digest, items, member, name, text};
 use tpol_tree::{EntityWish, IndexWish, KeyWish, Names, NamesWish, ParentWish};
 
-fn key_by_path(alloc: Global, value: &Value, place: &Place) -> Result<KeyWish, PolicyFault>
+fn key_by_path(alloc: Global, value: &Value, place: &PlaceRef<'_>) -> Result<KeyWish, ElementFault>
     ensures { Gives result (key_by_path (view value.now) place.now) }
 {
     Ok(KeyWish::Path(text(alloc, value, place)?))
@@ -26,9 +28,9 @@ fn key_by_path(alloc: Global, value: &Value, place: &Place) -> Result<KeyWish, P
 fn key_by_public(
     alloc: Global,
     value: &Value,
-    place: &Place,
+    place: &PlaceRef<'_>,
     walk: &mut Walk,
-) -> Result<KeyWish, PolicyFault>
+) -> Result<KeyWish, ElementFault>
     ensures { Leaves result walk.new (key_by_public walk.old (view value.now) place.now) }
 {
     Ok(KeyWish::Public(object_public_area(alloc, value, place, walk)?))
@@ -40,9 +42,9 @@ pub fn key_wish(
     alloc: Global,
     value: &Value,
     third: &str,
-    place: &Place,
+    place: &PlaceRef<'_>,
     walk: &mut Walk,
-) -> Result<KeyWish, PolicyFault>
+) -> Result<KeyWish, ElementFault>
     ensures { Leaves result walk.new (key_in third.now (view value.now) place.now walk.old) }
 {
     key_among(alloc, value, "keyPath", "keyPublic", third, place, walk)
@@ -56,30 +58,34 @@ fn key_among(
     first: &str,
     second: &str,
     third: &str,
-    place: &Place,
+    place: &PlaceRef<'_>,
     walk: &mut Walk,
-) -> Result<KeyWish, PolicyFault>
+) -> Result<KeyWish, ElementFault>
     ensures { Leaves result walk.new (key_among first.now second.now third.now (view value.now) place.now walk.old) }
 {
     match member(value, first) {
         Some(path) => {
-            let found = key_by_path(alloc, path, &place.member(alloc, first)?);
+            let found = key_by_path(alloc, path, &place.member(first));
             alone(alloc, found, value, &[second, third], place)
         }
         None => match member(value, second) {
             Some(area) => {
-                let found = key_by_public(alloc, area, &place.member(alloc, second)?, walk);
+                let found = key_by_public(alloc, area, &place.member(second), walk);
                 alone(alloc, found, value, &[third], place)
             }
             None => match member(value, third) {
-                Some(area) => key_by_public(alloc, area, &place.member(alloc, third)?, walk),
-                None => refuse_member(alloc, PolicyKind::Missing, place, first),
+                Some(area) => key_by_public(alloc, area, &place.member(third), walk),
+                None => refuse(alloc, PolicyKind::Missing, &place.member(first)),
             },
         },
     }
 }
 
-fn index_by_path(alloc: Global, value: &Value, place: &Place) -> Result<IndexWish, PolicyFault>
+fn index_by_path(
+    alloc: Global,
+    value: &Value,
+    place: &PlaceRef<'_>,
+) -> Result<IndexWish, ElementFault>
     ensures { Gives result (index_by_path (view value.now) place.now) }
 {
     Ok(IndexWish::Path(text(alloc, value, place)?))
@@ -88,9 +94,9 @@ fn index_by_path(alloc: Global, value: &Value, place: &Place) -> Result<IndexWis
 fn index_by_public(
     alloc: Global,
     value: &Value,
-    place: &Place,
+    place: &PlaceRef<'_>,
     walk: &mut Walk,
-) -> Result<IndexWish, PolicyFault>
+) -> Result<IndexWish, ElementFault>
     ensures { Leaves result walk.new (index_by_public walk.old (view value.now) place.now) }
 {
     Ok(IndexWish::Public(index_public_area(alloc, value, place, walk)?))
@@ -101,9 +107,9 @@ fn index_by_public(
 pub fn index_wish(
     alloc: Global,
     value: &Value,
-    place: &Place,
+    place: &PlaceRef<'_>,
     walk: &mut Walk,
-) -> Result<IndexWish, PolicyFault>
+) -> Result<IndexWish, ElementFault>
     ensures { Leaves result walk.new (index_in (view value.now) place.now walk.old) }
 {
     index_among(alloc, value, "nvPath", "nvPublic", place, walk)
@@ -116,30 +122,49 @@ fn index_among(
     value: &Value,
     first: &str,
     second: &str,
-    place: &Place,
+    place: &PlaceRef<'_>,
     walk: &mut Walk,
-) -> Result<IndexWish, PolicyFault>
+) -> Result<IndexWish, ElementFault>
     ensures { Leaves result walk.new (index_among first.now second.now (view value.now) place.now walk.old) }
 {
     match member(value, first) {
         Some(path) => {
-            let found = index_by_path(alloc, path, &place.member(alloc, first)?);
+            let found = index_by_path(alloc, path, &place.member(first));
             alone(alloc, found, value, &[second], place)
         }
         None => match member(value, second) {
-            Some(area) => index_by_public(alloc, area, &place.member(alloc, second)?, walk),
-            None => refuse_member(alloc, PolicyKind::Missing, place, first),
+            Some(area) => index_by_public(alloc, area, &place.member(second), walk),
+            None => refuse(alloc, PolicyKind::Missing, &place.member(first)),
         },
     }
 }
 
-fn entity_by_path(alloc: Global, value: &Value, place: &Place) -> Result<EntityWish, PolicyFault>
+fn entity_by_path(
+    alloc: Global,
+    value: &Value,
+    place: &PlaceRef<'_>,
+) -> Result<EntityWish, ElementFault>
     ensures { Gives result (entity_by_path (view value.now) place.now) }
 {
     Ok(EntityWish::Path(text(alloc, value, place)?))
 }
 
-fn entity_by_name(alloc: Global, value: &Value, place: &Place) -> Result<EntityWish, PolicyFault>
+// The bytes of a Name that is not empty; others are `BadHex`. `WrongKind`, `BadHex` or `BadNumber` as
+// `bytes_of`.
+fn full_name(alloc: Global, value: &Value, place: &PlaceRef<'_>) -> Result<Name, ElementFault>
+    ensures { Gives result (full_name_in (view value.now) place.now) }
+{
+    match name(alloc, value, place)? {
+        Name::Empty => refuse(alloc, PolicyKind::BadHex, place),
+        name => Ok(name),
+    }
+}
+
+fn entity_by_name(
+    alloc: Global,
+    value: &Value,
+    place: &PlaceRef<'_>,
+) -> Result<EntityWish, ElementFault>
     ensures { Gives result (entity_by_name (view value.now) place.now) }
 {
     Ok(EntityWish::Named(full_name(alloc, value, place)?))
@@ -148,7 +173,11 @@ fn entity_by_name(alloc: Global, value: &Value, place: &Place) -> Result<EntityW
 /// One of `objectPath` and `objectName`. `Missing` without one, `Twice` at a further one, `WrongKind` for a
 /// path that is no text; of a Name `WrongKind`, `BadHex` or `BadNumber` as `bytes_of`, and `BadHex` for an
 /// empty one and for bytes that are none.
-pub fn entity_wish(alloc: Global, value: &Value, place: &Place) -> Result<EntityWish, PolicyFault>
+pub fn entity_wish(
+    alloc: Global,
+    value: &Value,
+    place: &PlaceRef<'_>,
+) -> Result<EntityWish, ElementFault>
     ensures { Gives result (entity_in (view value.now) place.now) }
 {
     entity_among(alloc, value, "objectPath", "objectName", place)
@@ -161,23 +190,27 @@ fn entity_among(
     value: &Value,
     first: &str,
     second: &str,
-    place: &Place,
-) -> Result<EntityWish, PolicyFault>
+    place: &PlaceRef<'_>,
+) -> Result<EntityWish, ElementFault>
     ensures { Gives result (entity_among first.now second.now (view value.now) place.now) }
 {
     match member(value, first) {
         Some(path) => {
-            let found = entity_by_path(alloc, path, &place.member(alloc, first)?);
+            let found = entity_by_path(alloc, path, &place.member(first));
             alone(alloc, found, value, &[second], place)
         }
         None => match member(value, second) {
-            Some(bytes) => entity_by_name(alloc, bytes, &place.member(alloc, second)?),
-            None => refuse_member(alloc, PolicyKind::Missing, place, first),
+            Some(bytes) => entity_by_name(alloc, bytes, &place.member(second)),
+            None => refuse(alloc, PolicyKind::Missing, &place.member(first)),
         },
     }
 }
 
-fn parent_by_path(alloc: Global, value: &Value, place: &Place) -> Result<ParentWish, PolicyFault>
+fn parent_by_path(
+    alloc: Global,
+    value: &Value,
+    place: &PlaceRef<'_>,
+) -> Result<ParentWish, ElementFault>
     ensures { Gives result (parent_by_path (view value.now) place.now) }
 {
     Ok(ParentWish::Path(text(alloc, value, place)?))
@@ -186,15 +219,19 @@ fn parent_by_path(alloc: Global, value: &Value, place: &Place) -> Result<ParentW
 fn parent_by_public(
     alloc: Global,
     value: &Value,
-    place: &Place,
+    place: &PlaceRef<'_>,
     walk: &mut Walk,
-) -> Result<ParentWish, PolicyFault>
+) -> Result<ParentWish, ElementFault>
     ensures { Leaves result walk.new (parent_by_public walk.old (view value.now) place.now) }
 {
     Ok(ParentWish::Public(object_public_area(alloc, value, place, walk)?))
 }
 
-fn parent_by_name(alloc: Global, value: &Value, place: &Place) -> Result<ParentWish, PolicyFault>
+fn parent_by_name(
+    alloc: Global,
+    value: &Value,
+    place: &PlaceRef<'_>,
+) -> Result<ParentWish, ElementFault>
     ensures { Gives result (parent_by_name (view value.now) place.now) }
 {
     Ok(ParentWish::Named(name(alloc, value, place)?))
@@ -206,9 +243,9 @@ fn parent_by_name(alloc: Global, value: &Value, place: &Place) -> Result<ParentW
 pub fn parent_wish(
     alloc: Global,
     value: &Value,
-    place: &Place,
+    place: &PlaceRef<'_>,
     walk: &mut Walk,
-) -> Result<ParentWish, PolicyFault>
+) -> Result<ParentWish, ElementFault>
     ensures { Leaves result walk.new (parent_in (view value.now) place.now walk.old) }
 {
     parent_among(
@@ -230,84 +267,92 @@ fn parent_among(
     first: &str,
     second: &str,
     third: &str,
-    place: &Place,
+    place: &PlaceRef<'_>,
     walk: &mut Walk,
-) -> Result<ParentWish, PolicyFault>
+) -> Result<ParentWish, ElementFault>
     ensures { Leaves result walk.new (parent_among first.now second.now third.now (view value.now) place.now walk.old) }
 {
     match member(value, first) {
         Some(path) => {
-            let found = parent_by_path(alloc, path, &place.member(alloc, first)?);
+            let found = parent_by_path(alloc, path, &place.member(first));
             alone(alloc, found, value, &[second, third], place)
         }
         None => match member(value, second) {
             Some(area) => {
-                let found = parent_by_public(alloc, area, &place.member(alloc, second)?, walk);
+                let found = parent_by_public(alloc, area, &place.member(second), walk);
                 alone(alloc, found, value, &[third], place)
             }
             None => match member(value, third) {
-                Some(bytes) => parent_by_name(alloc, bytes, &place.member(alloc, third)?),
-                None => refuse_member(alloc, PolicyKind::Missing, place, first),
+                Some(bytes) => parent_by_name(alloc, bytes, &place.member(third)),
+                None => refuse(alloc, PolicyKind::Missing, &place.member(first)),
             },
         },
     }
 }
 
-fn names_of(alloc: Global, items: &[Value], place: &Place) -> Result<Names, PolicyFault>
+fn names_of(alloc: Global, items: &[Value], place: &PlaceRef<'_>) -> Result<Names, ElementFault>
     ensures { Gives result (each_from name_in [] 0 (items_view items.now) place.now) }
 {
     let mut names = Sequence::new(alloc);
     for (index, item) in items.iter().enumerate() {
-        names.push(name(alloc, item, &place.item(alloc, item_index(index)?)?)?)?;
+        names.push(name(alloc, item, &(&*place).item(index))?)?;
     }
     Ok(names)
 }
 
-fn paths_of(alloc: Global, items: &[Value], place: &Place) -> Result<Texts, PolicyFault>
+fn paths_of(alloc: Global, items: &[Value], place: &PlaceRef<'_>) -> Result<Texts, ElementFault>
     ensures { Gives result (each_from text_in [] 0 (items_view items.now) place.now) }
 {
     let mut paths = Sequence::new(alloc);
     for (index, item) in items.iter().enumerate() {
-        paths.push(text(alloc, item, &place.item(alloc, item_index(index)?)?)?)?;
+        paths.push(text(alloc, item, &(&*place).item(index))?)?;
     }
     Ok(paths)
 }
 
 // The items of a list of 1 to 3.
-#[tactic(auto, using(crate::proofs::Items::counts))]
+#[tactic(auto, using(tpol_json::proofs::ItemCounts::counts))]
 fn one_to_three<'v>(
     alloc: Global,
     value: &'v Value,
-    place: &Place,
-) -> Result<&'v [Value], PolicyFault>
-    ensures { Gives (items_of_values result) (one_to_three (view value.now) place.now) }
+    place: &PlaceRef<'_>,
+) -> Result<&'v [Value], ElementFault>
+    ensures { answers.Gives items_of cause result (one_to_three (view value.now) place.now) }
 {
-    match value.as_array() {
-        Some(items) => {
-            if 1 <= items.len() && items.len() <= 3 {
-                Ok(items.as_slice())
-            } else {
-                refuse(alloc, PolicyKind::BadNumber, place)
-            }
-        }
-        None => refuse(alloc, PolicyKind::WrongKind, place),
+    let items = items(alloc, value, place)?;
+    if 1 <= items.len() && items.len() <= 3 {
+        Ok(items)
+    } else {
+        refuse(alloc, PolicyKind::BadNumber, place)
     }
 }
 
-fn names_by_digest(alloc: Global, value: &Value, place: &Place) -> Result<NamesWish, PolicyFault>
+fn names_by_digest(
+    alloc: Global,
+    value: &Value,
+    place: &PlaceRef<'_>,
+) -> Result<NamesWish, ElementFault>
     ensures { Gives result (names_by_digest (view value.now) place.now) }
 {
     Ok(NamesWish::Digest(digest(alloc, value, place)?))
 }
 
-fn names_by_names(alloc: Global, value: &Value, place: &Place) -> Result<NamesWish, PolicyFault>
+fn names_by_names(
+    alloc: Global,
+    value: &Value,
+    place: &PlaceRef<'_>,
+) -> Result<NamesWish, ElementFault>
     ensures { Gives result (names_by_names (view value.now) place.now) }
 {
     let items = one_to_three(alloc, value, place)?;
     Ok(NamesWish::Names(names_of(alloc, items, place)?))
 }
 
-fn names_by_paths(alloc: Global, value: &Value, place: &Place) -> Result<NamesWish, PolicyFault>
+fn names_by_paths(
+    alloc: Global,
+    value: &Value,
+    place: &PlaceRef<'_>,
+) -> Result<NamesWish, ElementFault>
     ensures { Gives result (names_by_paths (view value.now) place.now) }
 {
     let items = one_to_three(alloc, value, place)?;
@@ -317,7 +362,11 @@ fn names_by_paths(alloc: Global, value: &Value, place: &Place) -> Result<NamesWi
 /// One of `nameHash`, `objectNames` and `namePaths`. `Missing` without one, `Twice` at a further one; of a
 /// list `WrongKind`, and `BadNumber` where it has not 1 to 3 items; `WrongKind` at a path that is no text; of
 /// bytes `WrongKind`, `BadHex` or `BadNumber` as `bytes_of`, and `BadHex` where they are no digest or no Name.
-pub fn names_wish(alloc: Global, value: &Value, place: &Place) -> Result<NamesWish, PolicyFault>
+pub fn names_wish(
+    alloc: Global,
+    value: &Value,
+    place: &PlaceRef<'_>,
+) -> Result<NamesWish, ElementFault>
     ensures { Gives result (names_in (view value.now) place.now) }
 {
     names_among(alloc, value, "nameHash", "objectNames", "namePaths", place)
@@ -331,23 +380,23 @@ fn names_among(
     first: &str,
     second: &str,
     third: &str,
-    place: &Place,
-) -> Result<NamesWish, PolicyFault>
+    place: &PlaceRef<'_>,
+) -> Result<NamesWish, ElementFault>
     ensures { Gives result (names_among first.now second.now third.now (view value.now) place.now) }
 {
     match member(value, first) {
         Some(bytes) => {
-            let found = names_by_digest(alloc, bytes, &place.member(alloc, first)?);
+            let found = names_by_digest(alloc, bytes, &place.member(first));
             alone(alloc, found, value, &[second, third], place)
         }
         None => match member(value, second) {
             Some(list) => {
-                let found = names_by_names(alloc, list, &place.member(alloc, second)?);
+                let found = names_by_names(alloc, list, &place.member(second));
                 alone(alloc, found, value, &[third], place)
             }
             None => match member(value, third) {
-                Some(list) => names_by_paths(alloc, list, &place.member(alloc, third)?),
-                None => refuse_member(alloc, PolicyKind::Missing, place, first),
+                Some(list) => names_by_paths(alloc, list, &place.member(third)),
+                None => refuse(alloc, PolicyKind::Missing, &place.member(first)),
             },
         },
     }

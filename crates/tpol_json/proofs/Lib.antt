@@ -1,4 +1,8 @@
+pub mod AllFound
 mod BytesLemmas
+pub mod ItemCounts
+pub mod FaultKinds
+pub mod Limits
 mod NumbersLemmas
 mod SpellingLemmas
 mod WordsLemmas

@@ -9,10 +9,11 @@ use Rattle.tpol_json.specs.Places.{root, at_member, at_item}
 use Rattle.tpol_read.specs.Approvals.{approvals_member, approvals_or_none, approvals_of, approvals_from, counted_approval}
 use Rattle.tpol_read.specs.Documents.{start, document_in, policy_of, element_count, Faults, fault_of, with_more, element_faults, elements_faults, policy_member_faults, approval_faults, approvals_faults, approvals_member_faults, member_faults, faults_unless, policy_faults, first_of, IsRefused}
 use Rattle.tpol_read.specs.Elements.{element_at, max_levels, counted, elements_from, elements_of, elements_in, policy_member, description_member}
-use Rattle.tpol_elements.specs.declared.fault.PolicyFault.{PolicyFault}
-use Rattle.tpol_elements.specs.declared.fault.PolicyFault.TheVariants.{NotJson, Bad, NoMemory}
+use Rattle.tpol_elements.specs.declared.fault.PolicyFault.TheVariants.{Bad}
+use Rattle.tpol_elements.specs.declared.fault.PolicyKind.{PolicyKind}
 use Rattle.tpol_elements.specs.declared.walk.Walk.{Walk}
-use Rattle.tpol_elements.specs.Faults.{Found, Refuses, ◌>>=◌}
+use Rattle.tpol_base.specs.Answers.{◌>>=◌}
+use Rattle.tpol_elements.specs.Faults.{Fault, Found}
 use Rattle.tpol_elements.specs.Members.{object_in, read_needed}
 use Rattle.tpol_elements.specs.Walks.{still}
 use Rattle.tpol_tree.specs.Erased.{nowhere}
@@ -29,14 +30,14 @@ fault_of-own : {A : Type 0} (reading : Found (A × Walk)) (walk : Walk) → AreO
 fault_of-own (Ok found) walk = (refl, refl)
 fault_of-own (Err fault) walk = refl
 
-first_of-more : (faults more : List PolicyFault) (fault : PolicyFault) → first_of faults ≡ Some fault → first_of (faults ++ more) ≡ Some fault
+first_of-more : (faults more : List Fault) (fault : Fault) → first_of faults ≡ Some fault → first_of (faults ++ more) ≡ Some fault
 first_of-more [] more fault first = cc
 first_of-more (other ∷ faults) more fault first = first
 
 -- what is read next has the faults that come next
 with_more-then : {A B : Type 0} (reading : Found (A × Walk)) (next : A × Walk → Found (B × Walk)) (faults : Faults) (more : Walk → Faults) → AreOf reading faults → ((found : A × Walk) → AreOf (next found) (more found.1)) → AreOf (reading >>= next) (with_more faults more)
 with_more-then (Ok found) next (faults, walk) more are then =
-    let P : List PolicyFault → Walk → Type 0 = λ fs w. AreOf (next found) (fs ++ (more w).0, (more w).1) in
+    let P : List Fault → Walk → Type 0 = λ fs w. AreOf (next found) (fs ++ (more w).0, (more w).1) in
     subst (λ fs. P fs walk) (sym are.0) (subst (P []) (sym are.1) (then found))
 with_more-then (Err fault) next faults more are then = first_of-more faults.0 (more faults.1).0 fault are
 
@@ -86,13 +87,13 @@ approvals_member_faults-of None place walk = (refl, refl)
 approvals_member_faults-of (Some d) place walk = approvals_faults-of (as_array d) place walk
 
 -- the same where what is read last leaves another walk
-abbrev pub AreFirst : {A : Type 0} → Found A → List PolicyFault → Type 0
+abbrev pub AreFirst : {A : Type 0} → Found A → List Fault → Type 0
 AreFirst (Ok x) faults = faults ≡ []
 AreFirst (Err fault) faults = first_of faults ≡ Some fault
 
 first-then : {A B : Type 0} (reading : Found (A × Walk)) (next : A × Walk → Found B) (faults : Faults) (more : Walk → Faults) → AreOf reading faults → ((found : A × Walk) → AreFirst (next found) (more found.1).0) → AreFirst (reading >>= next) (with_more faults more).0
 first-then (Ok found) next (faults, walk) more are then =
-    let P : List PolicyFault → Walk → Type 0 = λ fs w. AreFirst (next found) (fs ++ (more w).0) in
+    let P : List Fault → Walk → Type 0 = λ fs w. AreFirst (next found) (fs ++ (more w).0) in
     subst (λ fs. P fs walk) (sym are.0) (subst (P []) (sym are.1) (then found))
 first-then (Err fault) next faults more are then = first_of-more faults.0 (more faults.1).0 fault are
 
@@ -104,11 +105,11 @@ first-still : {A B : Type 0} (found : Found A) (walk : Walk) (next : A → Found
 first-still (Ok x) walk next more then = then x
 first-still (Err fault) walk next more then = refl
 
-first-unless : {A : Type 0} (found : Found ⊤) (next : ⊤ → Found A) (faults : List PolicyFault) → ((x : ⊤) → AreFirst (next x) faults) → AreFirst (found >>= next) (faults_unless found faults)
+first-unless : {A : Type 0} (found : Found ⊤) (next : ⊤ → Found A) (faults : List Fault) → ((x : ⊤) → AreFirst (next x) faults) → AreFirst (found >>= next) (faults_unless found faults)
 first-unless (Ok x) next faults then = then x
 first-unless (Err fault) next faults then = refl
 
-first-say : {A B : Type 0} (found : Found A) (say : A → B) (faults : List PolicyFault) → AreFirst found faults → AreFirst (found >>= λ x. Ok (say x)) faults
+first-say : {A B : Type 0} (found : Found A) (say : A → B) (faults : List Fault) → AreFirst found faults → AreFirst (found >>= λ x. Ok (say x)) faults
 first-say (Ok x) say faults are = are
 first-say (Err fault) say faults are = are
 
@@ -137,7 +138,7 @@ no_faults d found says =
     subst P says (policy_faults-first d)
 
 -- the fault that the reading of a document meets is the first of all
-pub first_fault : (d : Data) (fault : PolicyFault) → policy_of d ≡ Err fault → first_of (policy_faults d) ≡ Some fault
+pub first_fault : (d : Data) (fault : Fault) → policy_of d ≡ Err fault → first_of (policy_faults d) ≡ Some fault
 first_fault d fault says =
     let P : Found (Policy × List Place) → Type 0 = λ reading. AreFirst reading (policy_faults d) in
     subst P says (policy_faults-first d)
@@ -150,7 +151,7 @@ policy_of-read d place notes policy after at_root none says =
     subst (λ p. document_in d p start ≡ Ok (policy, after)) at_root (subst (λ ns. document_in d place (record { notes = ns; left = 1024 }) ≡ Ok (policy, after)) none says) in
     ap (λ reading. reading >>= λ found. Ok (found.0, found.1.notes)) says_root
 
-pub policy_of-refused : (d : Data) (place : Place) (notes : List Place) (fault : PolicyFault) → place ≡ root → notes ≡ [] → document_in d place (record { notes = notes; left = 1024 }) ≡ Err fault → policy_of d ≡ Err fault
+pub policy_of-refused : (d : Data) (place : Place) (notes : List Place) (fault : Fault) → place ≡ root → notes ≡ [] → document_in d place (record { notes = notes; left = 1024 }) ≡ Err fault → policy_of d ≡ Err fault
 unfolding policy_of
 policy_of-refused d place notes fault at_root none says =
     let says_root : document_in d root start ≡ Err fault =
@@ -158,8 +159,6 @@ policy_of-refused d place notes fault at_root none says =
     ap (λ reading. reading >>= λ found. Ok (found.0, found.1.notes)) says_root
 
 -- a call's refusal of a document is a refusal of its bytes
-pub is_refused : (bytes : List ℕ) (d : Data) (place : Place) (notes : List Place) (fault : PolicyFault) → document_of bytes ≡ Some d → place ≡ root → notes ≡ [] → Refuses fault (document_in d place (record { notes = notes; left = 1024 })) → IsRefused bytes fault
-is_refused bytes d place notes NotJson is_json at_root none refuses = absurd refuses
-is_refused bytes d place notes (Bad kind at) is_json at_root none refuses =
-    (d, is_json, first_fault d (Bad kind at) (policy_of-refused d place notes (Bad kind at) at_root none refuses))
-is_refused bytes d place notes NoMemory is_json at_root none refuses = tt
+pub is_refused : (bytes : List ℕ) (d : Data) (place at : Place) (notes : List Place) (kind : PolicyKind) → document_of bytes ≡ Some d → place ≡ root → notes ≡ [] → document_in d place (record { notes = notes; left = 1024 }) ≡ Err (kind, at) → IsRefused bytes (Bad kind at)
+is_refused bytes d place at notes kind is_json at_root none refuses =
+    (d, is_json, first_fault d (kind, at) (policy_of-refused d place notes (kind, at) at_root none refuses))

@@ -1,7 +1,6 @@
-pub mod AllFound
 pub mod PcrOrder
 pub mod Leaves
-pub mod EachOr
+pub mod Sound
 pub mod ItemLists
 pub mod FirstFault
 mod Worked

@@ -9,14 +9,16 @@ use Rattle.serde_json.specs.Find.{get, as_array}
 use Rattle.tpol_base.specs.declared.digest.Digest32.{Digest32}
 use Rattle.tpol_json.specs.Places.{at_member, at_item}
 use Rattle.tpol_json.specs.declared.place.Place.{Place}
-use Rattle.tpol_read.proofs.AllFound.{AllFound, all_after, all_then, all_still, all_ways}
+use Rattle.tpol_elements.proofs.Limits.{all_still, mask-fits, Is32}
+use Rattle.tpol_json.proofs.AllFound.{AllFound, all_after, all_then, all_ways, needed-fits}
 use Rattle.tpol_read.specs.RisingPcrs.{IsRising}
+use Rattle.tpol_tree.specs.Bounds.{PcrsHaveBounds}
 use Rattle.tpol_elements.specs.Faults.{bad}
 use Rattle.tpol_elements.specs.Members.{object_in, read_needed}
-use Rattle.tpol_elements.specs.Numbers.{unsigned_in}
+use Rattle.tpol_elements.specs.Values.{unsigned_in}
 use Rattle.tpol_elements.specs.Pcrs.{PcrList, has_value, with_value, new_pcr_in, pcr_member, bank_member, value_member, pcr_value_in, pcr_values_from, wish_of_values, pcr_values_in, mask_in, current_pcrs_in, select_member, bank_in, only_bank, bank_or_list, banks_in, pcrs_among, pcrs_in}
 use Rattle.tpol_elements.specs.Walks.{still}
-use Rattle.tpol_elements.specs.declared.fault.PolicyKind.TheVariants.{Twice}
+use Rattle.tpol_elements.specs.declared.fault.PolicyKind.TheVariants.{Missing, Twice}
 use Rattle.tpol_elements.specs.declared.walk.Walk.{Walk}
 use Rattle.tpol_tree.specs.declared.wishes.PcrWish.{PcrWish}
 
@@ -139,24 +141,32 @@ pcr_values-rise values index (item d ds) place walk rises =
     all_then (BringsNew values) ValuesRise (pcr_value_in values d (at_item place index) walk) _ (pcr_value-new values d (at_item place index) walk)
     (λ found new. pcr_values-rise (with_value values found.0.0 found.0.1) (suc index) ds place found.1 (with_value-rises values found.0.0 found.0.1 rises new))
 
+-- PCRs that are asked for: their values rise, or they are a set of 32 bits
+abbrev pub IsGoodWish : PcrWish → Type 0
+IsGoodWish wish = IsRising wish × PcrsHaveBounds wish
+
 abbrev pub WishRises : PcrWish × Walk → Type 0
-WishRises found = IsRising found.0
+WishRises found = IsGoodWish found.0
 
 wish_of_values-rises : (list : Option Items) (place : Place) (walk : Walk) → AllFound WishRises (wish_of_values list place walk)
 wish_of_values-rises None place walk = tt {0}
 wish_of_values-rises (Some ds) place walk =
     all_then ValuesRise WishRises (pcr_values_from [] 0 ds place walk) _ (pcr_values-rise [] 0 ds place walk tt)
-    (λ found rises. rises-increasing 0 found.0 rises)
+    (λ found rises. (rises-increasing 0 found.0 rises, tt {0}))
 
-current_pcrs-rise : (d : Data) (place : Place) → AllFound IsRising (current_pcrs_in d place)
-current_pcrs-rise d place = all_after IsRising (mask_in d place) _ (λ _. tt {0})
+current_pcrs-rise : (d : Data) (place : Place) → AllFound IsGoodWish (current_pcrs_in d place)
+current_pcrs-rise d place = all_then Is32 IsGoodWish (mask_in d place) _ (mask-fits d place) (λ mask small. (tt {0}, small))
+
+select-fits : (d : Data) (place : Place) → AllFound Is32 (select_member d place)
+unfolding select_member
+select-fits d place = needed-fits Is32 Missing mask_in (get (codes "pcrSelect") d) (at_member place (codes "pcrSelect")) mask-fits
 
 bank-rises : (walk : Walk) (d : Data) (place : Place) → AllFound WishRises (bank_in walk d place)
 unfolding bank_in
 bank-rises walk d place =
     all_after WishRises (object_in d place) _
     (λ _. all_after WishRises (bank_member (codes "hash") d place) _
-    (λ _. all_after WishRises (select_member d place) _ (λ _. tt {0})))
+    (λ _. all_then Is32 WishRises (select_member d place) _ (select-fits d place) (λ mask small. (tt {0}, small))))
 
 only_bank-rises : (walk : Walk) (ds : Items) (place : Place) → AllFound WishRises (only_bank walk ds place)
 only_bank-rises walk no_items place = tt {0}
@@ -171,10 +181,10 @@ banks-rise (Some ds) walk d place = only_bank-rises walk ds place
 pub pcrs-rise : (d : Data) (place : Place) (walk : Walk) → AllFound WishRises (pcrs_in d place walk)
 unfolding pcrs_among
 pcrs-rise d place walk =
-    all_ways WishRises ((codes "pcrs", pcr_values_in walk) ∷ (codes "currentPCRs", λ e at. still (current_pcrs_in e at) walk) ∷ (codes "currentPCRandBanks", banks_in walk) ∷ []) (at_member place (codes "pcrs")) d place (
+    all_ways WishRises Twice ((codes "pcrs", pcr_values_in walk) ∷ (codes "currentPCRs", λ e at. still (current_pcrs_in e at) walk) ∷ (codes "currentPCRandBanks", banks_in walk) ∷ []) (Missing, at_member place (codes "pcrs")) d place (
       λ e at. wish_of_values-rises (as_array e) at walk,
       (
-        λ e at. all_still IsRising (current_pcrs_in e at) walk (current_pcrs-rise e at),
+        λ e at. all_still IsGoodWish (current_pcrs_in e at) walk (current_pcrs-rise e at),
         (λ e at. banks-rise (as_array e) walk e at, tt),
       ),
     )

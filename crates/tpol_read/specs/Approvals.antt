@@ -8,8 +8,9 @@ use Rattle.tpol_json.specs.Places.{at_member, at_item}
 use Rattle.tpol_read.specs.declared.approvals.ApprovalType.{ApprovalType}
 use Rattle.tpol_read.specs.declared.approvals.ApprovalType.TheVariants.{Key, Index, Pem}
 use Rattle.tpol_elements.specs.declared.fault.PolicyKind.TheVariants as kinds
-use Rattle.tpol_elements.specs.Bytes.{digest_in}
-use Rattle.tpol_elements.specs.Faults.{Found, bad, ◌>>=◌}
+use Rattle.tpol_elements.specs.Values.{digest_in}
+use Rattle.tpol_base.specs.Answers.{◌>>=◌}
+use Rattle.tpol_elements.specs.Faults.{Found, bad}
 use Rattle.tpol_elements.specs.Fields.{policy_ref_in}
 use Rattle.tpol_elements.specs.Members.{object_in, needed, noted}
 use Rattle.tpol_elements.specs.Rows.{without_pem}

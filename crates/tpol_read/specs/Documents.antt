@@ -13,7 +13,8 @@ use Rattle.tpol_elements.specs.declared.fault.PolicyKind.TheVariants as kinds
 use Rattle.tpol_elements.specs.declared.types.ElementType.{ElementType}
 use Rattle.tpol_elements.specs.declared.types.ElementType.TheVariants.{Or, Leaf, Unsupported}
 use Rattle.tpol_elements.specs.declared.walk.Walk.{Walk}
-use Rattle.tpol_elements.specs.Faults.{Found, ◌>>=◌}
+use Rattle.tpol_base.specs.Answers.{◌>>=◌}
+use Rattle.tpol_elements.specs.Faults.{Fault, Found}
 use Rattle.tpol_elements.specs.Members.{object_in, noted}
 use Rattle.tpol_elements.specs.Walks.{Reading, still}
 use Rattle.tpol_tree.specs.declared.policy.Policy.{Policy}
@@ -65,7 +66,7 @@ element_count (suc levels) d = 1 + inner_count (element_count levels) (element_t
 
 -- faults in reading order, and the walk behind what has them
 abbrev pub Faults : Type 0
-Faults = List PolicyFault × Walk
+Faults = List Fault × Walk
 
 -- a reading's fault, if it has one, and the walk behind it, which is this one where there is a fault
 abbrev pub fault_of : {A : Type 0} → Found (A × Walk) → Walk → Faults
@@ -86,13 +87,13 @@ element_faults index (item d ds) place walk =
     (element_faults (suc index) ds place)
 
 abbrev pub elements_faults : Option Items → Place → Walk → Faults
-elements_faults None place walk = (Bad kinds.WrongKind place ∷ [], walk)
-elements_faults (Some no_items) place walk = (Bad kinds.EmptyPolicy place ∷ [], walk)
+elements_faults None place walk = ((kinds.WrongKind, place) ∷ [], walk)
+elements_faults (Some no_items) place walk = ((kinds.EmptyPolicy, place) ∷ [], walk)
 elements_faults (Some (item d ds)) place walk = element_faults 0 (item d ds) place walk
 
 -- the faults of `policy`
 abbrev pub policy_member_faults : Option Data → Place → Walk → Faults
-policy_member_faults None place walk = (Bad kinds.Missing place ∷ [], walk)
+policy_member_faults None place walk = ((kinds.Missing, place) ∷ [], walk)
 policy_member_faults (Some d) place walk = elements_faults (as_array d) place walk
 
 -- each authorization of a list, from this index on, has its first fault
@@ -102,7 +103,7 @@ approval_faults index (item d ds) place walk =
     with_more (fault_of (counted_approval index d (at_item place index) walk) walk) (approval_faults (suc index) ds place)
 
 abbrev pub approvals_faults : Option Items → Place → Walk → Faults
-approvals_faults None place walk = (Bad kinds.WrongKind place ∷ [], walk)
+approvals_faults None place walk = ((kinds.WrongKind, place) ∷ [], walk)
 approvals_faults (Some ds) place walk = approval_faults 0 ds place walk
 
 -- the faults of `policyAuthorizations`
@@ -118,16 +119,16 @@ member_faults d place walk =
     (approvals_member_faults (get (codes "policyAuthorizations") d) (at_member place (codes "policyAuthorizations"))))
 
 -- what is no object has this one fault
-abbrev pub faults_unless : Found ⊤ → List PolicyFault → List PolicyFault
+abbrev pub faults_unless : Found ⊤ → List Fault → List Fault
 faults_unless (Ok is_object) faults = faults
 faults_unless (Err fault) faults = fault ∷ []
 
 -- all faults of a document, in reading order
-unfoldable pub policy_faults : Data → List PolicyFault
+unfoldable pub policy_faults : Data → List Fault
 policy_faults d = faults_unless (object_in d root) (member_faults d root start).0
 
 -- the first of these faults
-abbrev pub first_of : List PolicyFault → Option PolicyFault
+abbrev pub first_of : List Fault → Option Fault
 first_of [] = None
 first_of (fault ∷ faults) = Some fault
 
@@ -143,5 +144,5 @@ ReadsAsPolicy bytes policy notes = (d : Data) × (document_of bytes ≡ Some d) 
 abbrev pub IsRefused : List ℕ → PolicyFault → Type 0
 IsRefused bytes NotJson = document_of bytes ≡ None
 IsRefused bytes (Bad kind place) =
-    (d : Data) × (document_of bytes ≡ Some d) × (first_of (policy_faults d) ≡ Some (Bad kind place))
+    (d : Data) × (document_of bytes ≡ Some d) × (first_of (policy_faults d) ≡ Some (kind, place))
 IsRefused bytes NoMemory = ⊤

@@ -9,13 +9,14 @@ use Rattle.tpol_elements.specs.declared.types.ElementType.{ElementType}
 use Rattle.tpol_elements.specs.declared.types.ElementType.TheVariants as types
 use Rattle.tpol_elements.specs.declared.types.LeafType.{LeafType}
 use Rattle.tpol_elements.specs.declared.walk.Walk.{Walk}
-use Rattle.tpol_elements.specs.Bytes.{text_in}
-use Rattle.tpol_elements.specs.Faults.{Found, Refuses, bad, ◌>>=◌}
+use Rattle.tpol_elements.specs.Values.{text_in}
+use Rattle.tpol_base.specs.Answers.{◌>>=◌}
+use Rattle.tpol_elements.specs.Faults.{Found, bad}
 use Rattle.tpol_elements.specs.Members.{object_in, needed, optional, noted}
 use Rattle.tpol_elements.specs.Rows.{leaf_row}
 use Rattle.tpol_elements.specs.Types.{type_in, leaf_members}
 use Rattle.tpol_elements.specs.Walks.{Reading}
-use Rattle.tpol_elements.specs.Wishes.{items_count}
+use Rattle.tpol_json.specs.Members.{items_count}
 use Rattle.tpol_tree.specs.Erased.{nowhere}
 use Rattle.tpol_tree.specs.declared.policy.Branch.{Branch}
 use Rattle.tpol_tree.specs.declared.policy.Branches.{Branches}
@@ -24,12 +25,6 @@ use Rattle.tpol_tree.specs.declared.policy.Element.{Element}
 use Rattle.tpol_tree.specs.declared.policy.Element.TheVariants.{Or}
 use Rattle.tpol_tree.specs.declared.policy.Elements.{Elements}
 use Rattle.tpol_tree.specs.declared.policy.Elements.TheVariants as elements
-
--- A call gives, seen by `view`, what the reading is, and leaves the walk as the reading does, unless memory
--- runs out.
-abbrev pub LeavesAs : {A B : Type 0} → (A → B) → Found A → Walk → Found (B × Walk) → Type 0
-LeavesAs view (Ok x) walk reading = reading ≡ Ok (view x, walk)
-LeavesAs view (Err fault) walk reading = Refuses fault reading
 
 -- an element is an object with a type
 unfoldable pub element_type_in : Data → Place → Found ElementType
@@ -107,16 +102,16 @@ branches_from read index (item d ds) place walk = do
   rest ← branches_from read (suc index) ds place first.1
   Ok (branches.More' nowhere first.0.name first.0.description first.0.elements nowhere rest.0, rest.1)
 
--- 2 to 8
+-- 2 to 64
 abbrev pub is_branch_count : ℕ → Bool
-is_branch_count count = nat_le 2 count && nat_le count 8
+is_branch_count count = nat_le 2 count && nat_le count 64
 
 abbrev pub branches_of : (Data → Place → Reading Element) → Option Items → Place → Reading Branches
 branches_of read None place walk = bad kinds.WrongKind place
 branches_of read (Some ds) place walk =
     if is_branch_count (items_count ds) then branches_from read 0 ds place walk else bad kinds.BranchCount place
 
--- a list of 2 to 8 branches
+-- a list of 2 to 64 branches
 unfoldable pub branches_in : (Data → Place → Reading Element) → Data → Place → Reading Branches
 branches_in read d place walk = branches_of read (as_array d) place walk
 

@@ -1,4 +1,5 @@
-// The authorizations of a document.
+//! The authorizations of a document.
+
 ghost use Rattle.std.specs.Prelude.{◌≡◌, [], map};
 ghost use Rattle.serde_json.specs.View.{view, items_view};
 ghost use Rattle.tpol_read.specs.Approvals.{approval_in, approval_type_in, approvals_from, approvals_member, approvals_of, by_index, by_key, counted_approval, signature_member, type_of_approval};
@@ -9,11 +10,11 @@ ghost use Rattle.tpol_elements.specs.Walks.{Leaves};
 use serde_json::Value;
 use std::alloc::Global;
 use tpol_base::Digest32;
-use tpol_json::{Place, member};
 use tpol_elements::{
-    PolicyFault, PolicyKind, Walk, check_object, digest, index_wish, item_index, key_wish,
-    note_unknown, only_word, policy_ref, refuse, refuse_member, without_pem,
+    ElementFault, PolicyKind, Walk, index_wish, key_wish, note_unknown, only_word, policy_ref,
+    refuse, without_pem,
 };
+use tpol_json::{PlaceRef, check_object, digest, member, needed};
 use tpol_tree::{ApprovalWish, ApprovalWishes};
 
 /// How many authorizations a document may have.
@@ -36,14 +37,14 @@ pub enum ApprovalType {
 pub fn approvals_of_document(
     alloc: Global,
     value: &Value,
-    place: &Place,
+    place: &PlaceRef<'_>,
     walk: &mut Walk,
-) -> Result<ApprovalWishes, PolicyFault>
+) -> Result<ApprovalWishes, ElementFault>
     ensures { Leaves result walk.new (approvals_member (view value.now) place.now walk.old) }
 {
     match member(value, "policyAuthorizations") {
         Some(list) => {
-            let place = place.member(alloc, "policyAuthorizations")?;
+            let place = place.member("policyAuthorizations");
             approval_list(alloc, list, &place, walk)
         }
         None => Ok(ApprovalWishes::new(alloc)),
@@ -53,9 +54,9 @@ pub fn approvals_of_document(
 fn approval_list(
     alloc: Global,
     value: &Value,
-    place: &Place,
+    place: &PlaceRef<'_>,
     walk: &mut Walk,
-) -> Result<ApprovalWishes, PolicyFault>
+) -> Result<ApprovalWishes, ElementFault>
     ensures { Leaves result walk.new (approvals_of (as_array (view value.now)) place.now walk.old) }
 {
     match value {
@@ -69,14 +70,14 @@ fn approval_list(
 fn approvals(
     alloc: Global,
     items: &[Value],
-    list: &Place,
+    list: &PlaceRef<'_>,
     walk: &mut Walk,
-) -> Result<ApprovalWishes, PolicyFault>
+) -> Result<ApprovalWishes, ElementFault>
     ensures { Leaves result walk.new (approvals_from [] 0 (items_view items.now) list.now walk.old) }
 {
     let mut approvals = ApprovalWishes::new(alloc);
     for (index, item) in items.iter().enumerate() {
-        let place = list.item(alloc, item_index(index)?)?;
+        let place = (&*list).item(index);
         let approval = counted_approval(alloc, index, item, &place, walk)?;
         approvals.push(approval)?;
     }
@@ -89,9 +90,9 @@ fn counted_approval(
     alloc: Global,
     index: usize,
     value: &Value,
-    place: &Place,
+    place: &PlaceRef<'_>,
     walk: &mut Walk,
-) -> Result<ApprovalWish, PolicyFault>
+) -> Result<ApprovalWish, ElementFault>
     ensures { Leaves result walk.new (counted_approval index (view value.now) place.now walk.old) }
 {
     if index < MAX_APPROVALS {
@@ -105,9 +106,9 @@ fn counted_approval(
 fn approval(
     alloc: Global,
     value: &Value,
-    place: &Place,
+    place: &PlaceRef<'_>,
     walk: &mut Walk,
-) -> Result<ApprovalWish, PolicyFault>
+) -> Result<ApprovalWish, ElementFault>
     ensures { Leaves result walk.new (approval_in (view value.now) place.now walk.old) }
 {
     check_object(alloc, value, place)?;
@@ -115,7 +116,7 @@ fn approval(
     match type_of_approval(alloc, value, place)? {
         ApprovalType::Key => by_key(alloc, value, place, walk),
         ApprovalType::Index => by_index(alloc, value, place, walk),
-        ApprovalType::Pem => refuse_member(alloc, PolicyKind::AsymmetricKey, place, "type"),
+        ApprovalType::Pem => refuse(alloc, PolicyKind::AsymmetricKey, &place.member("type")),
     }
 }
 
@@ -123,17 +124,19 @@ fn approval(
 fn type_of_approval(
     alloc: Global,
     value: &Value,
-    place: &Place,
-) -> Result<ApprovalType, PolicyFault>
+    place: &PlaceRef<'_>,
+) -> Result<ApprovalType, ElementFault>
     ensures { Gives result (approval_type_in (view value.now) place.now) }
 {
-    match member(value, "type") {
-        Some(word) => approval_type(alloc, word, &place.member(alloc, "type")?),
-        None => refuse_member(alloc, PolicyKind::Missing, place, "type"),
-    }
+    let (word, place) = needed(alloc, value, "type", place)?;
+    approval_type(alloc, word, &place)
 }
 
-fn approval_type(alloc: Global, value: &Value, place: &Place) -> Result<ApprovalType, PolicyFault>
+fn approval_type(
+    alloc: Global,
+    value: &Value,
+    place: &PlaceRef<'_>,
+) -> Result<ApprovalType, ElementFault>
     ensures { Gives result (type_of_approval (view value.now) place.now) }
 {
     let types = [
@@ -145,13 +148,11 @@ fn approval_type(alloc: Global, value: &Value, place: &Place) -> Result<Approval
 }
 
 #[tactic(auto, unfolding(crate::specs::Approvals::signature_member))]
-fn signature(alloc: Global, value: &Value, place: &Place) -> Result<Digest32, PolicyFault>
+fn signature(alloc: Global, value: &Value, place: &PlaceRef<'_>) -> Result<Digest32, ElementFault>
     ensures { Gives result (signature_member (view value.now) place.now) }
 {
-    match member(value, "signature") {
-        Some(bytes) => digest(alloc, bytes, &place.member(alloc, "signature")?),
-        None => refuse_member(alloc, PolicyKind::Missing, place, "signature"),
-    }
+    let (bytes, place) = needed(alloc, value, "signature", place)?;
+    Ok(digest(alloc, bytes, &place)?)
 }
 
 // An authorization by a key's signature.
@@ -159,9 +160,9 @@ fn signature(alloc: Global, value: &Value, place: &Place) -> Result<Digest32, Po
 fn by_key(
     alloc: Global,
     value: &Value,
-    place: &Place,
+    place: &PlaceRef<'_>,
     walk: &mut Walk,
-) -> Result<ApprovalWish, PolicyFault>
+) -> Result<ApprovalWish, ElementFault>
     ensures { Leaves result walk.new (by_key (view value.now) place.now walk.old) }
 {
     let key = key_wish(alloc, value, "key", place, walk)?;
@@ -188,9 +189,9 @@ fn by_key(
 fn by_index(
     alloc: Global,
     value: &Value,
-    place: &Place,
+    place: &PlaceRef<'_>,
     walk: &mut Walk,
-) -> Result<ApprovalWish, PolicyFault>
+) -> Result<ApprovalWish, ElementFault>
     ensures { Leaves result walk.new (by_index (view value.now) place.now walk.old) }
 {
     let index = index_wish(alloc, value, place, walk)?;

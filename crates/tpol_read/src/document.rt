@@ -1,9 +1,10 @@
 ghost use Rattle.std.specs.Prelude.{IfOk, IfErr};
 ghost use Rattle.serde_json.specs.View.{view};
 ghost use Rattle.tpol_read.specs.Documents.{ReadsAsPolicy, IsRefused, document_in};
-ghost use Rattle.tpol_read.specs.Elements.{LeavesAs};
+ghost use Rattle.tpol_elements.specs.Walks.{LeavesAs};
 ghost use Rattle.tpol_read.specs.RisingPcrs.{HasRisingPcrs};
-ghost use Rattle.tpol_tree.specs.BranchCounts.{EachOrHasBranches};
+ghost use Rattle.tpol_tree.specs.Bounds.{HasBounds};
+ghost use Rattle.tpol_tree.specs.Elements.{HasBranchCounts};
 ghost use Rattle.tpol_tree.specs.Erased.{erased_policy};
 
 use crate::approvals::approvals_of_document;
@@ -11,8 +12,8 @@ use crate::elements::{MAX_LEVELS, policy};
 use crate::members::description;
 use serde_json::Value;
 use std::alloc::Global;
-use tpol_json::{ParseFault, Place, parse};
-use tpol_elements::{Notes, PolicyFault, Walk, check_object, note_unknown};
+use tpol_elements::{ElementFault, PolicyFault, Walk, note_unknown};
+use tpol_json::{Notes, ParseFault, Place, PlaceRef, check_object, parse};
 use tpol_tree::Policy;
 
 /// How many elements a document may have, those of ORs among them.
@@ -27,11 +28,13 @@ pub const MAX_ELEMENTS: u32 = 1024;
 /// the members of its row. An element past the 1,024th and an authorization past the eighth are `TooMany`, an
 /// OR inside sixteen others is `TooDeep`, each before anything of it but an OR's type is read.
 ///
-/// Each OR of a policy that is read has 2 to 8 branches, and each list of PCR values stands in strictly rising
-/// order of the PCRs, whatever the order in which the document has them.
+/// Each OR of a policy that is read has 2 to 64 branches, each field is within the bounds of the wire, and each
+/// list of PCR values stands in strictly rising order of the PCRs, whatever the order in which the document has
+/// them.
 pub fn read_policy(alloc: Global, bytes: &[u8]) -> Result<(Policy, Notes), PolicyFault>
     ensures stands { IfOk result (λ found. ReadsAsPolicy bytes.now (erased_policy found.0) found.1) }
-    ensures branches { IfOk result (λ found. EachOrHasBranches found.0.elements) }
+    ensures branches { IfOk result (λ found. HasBranchCounts found.0.elements) }
+    ensures bounded { IfOk result (λ found. HasBounds found.0) }
     ensures rising { IfOk result (λ found. HasRisingPcrs found.0.elements) }
     ensures refused { IfErr result (IsRefused bytes.now) }
 {
@@ -44,9 +47,11 @@ pub fn read_policy(alloc: Global, bytes: &[u8]) -> Result<(Policy, Notes), Polic
         notes: Notes::new(alloc),
         left: MAX_ELEMENTS,
     };
-    match document(alloc, &value, &Place::root(alloc), &mut walk) {
+    let root = Place::root(alloc);
+    match document(alloc, &value, &PlaceRef::at(&root), &mut walk) {
         Ok(policy) => Ok((policy, walk.notes)),
-        Err(fault) => Err(fault),
+        Err(ElementFault::Bad { kind, place }) => Err(PolicyFault::Bad { kind, place }),
+        Err(ElementFault::NoMemory) => Err(PolicyFault::NoMemory),
     }
 }
 
@@ -54,9 +59,9 @@ pub fn read_policy(alloc: Global, bytes: &[u8]) -> Result<(Policy, Notes), Polic
 fn document(
     alloc: Global,
     value: &Value,
-    place: &Place,
+    place: &PlaceRef<'_>,
     walk: &mut Walk,
-) -> Result<Policy, PolicyFault>
+) -> Result<Policy, ElementFault>
     ensures { LeavesAs erased_policy result walk.new (document_in (view value.now) place.now walk.old) }
 {
     check_object(alloc, value, place)?;

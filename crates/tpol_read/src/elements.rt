@@ -1,20 +1,22 @@
-// Elements, ORs and lists of elements, read in order. `levels` is how many ORs may still stand inside one
-// another.
+//! Elements, ORs and lists of elements, read in order. `levels` is how many ORs may still stand inside one
+//! another.
+
 ghost use Rattle.std.specs.Prelude.{◌≡◌};
 ghost use Rattle.serde_json.specs.View.{view, items_view};
-ghost use Rattle.tpol_read.specs.Elements.{LeavesAs, element_at, elements_from, elements_in, policy_member, counted, branch_in, branches_from, branches_in, or_at, is_branch_count, leaf_element};
-ghost use Rattle.tpol_elements.specs.Wishes.{items_count};
+ghost use Rattle.tpol_read.specs.Elements.{element_at, elements_from, elements_in, policy_member, counted, branch_in, branches_from, branches_in, or_at, is_branch_count, leaf_element};
+ghost use Rattle.tpol_elements.specs.Walks.{LeavesAs};
+ghost use Rattle.tpol_json.specs.Members.{items_count};
 ghost use Rattle.tpol_tree.specs.Erased.{erased_branch, erased_branches, erased_element, erased_elements};
 
 use crate::lists::{branch_before, element_before};
 use crate::members::{description, name, type_of_element};
 use serde_json::Value;
 use std::alloc::Global;
-use tpol_json::{Place, member};
 use tpol_elements::{
-    ElementType, LeafType, PolicyFault, PolicyKind, Walk, check_object, leaf_row, note_leaf,
-    note_unknown, refuse, refuse_member,
+    ElementFault, ElementType, LeafType, PolicyKind, Walk, leaf_row, note_leaf, note_unknown,
+    refuse,
 };
+use tpol_json::{PlaceRef, check_object, needed};
 use tpol_tree::{Branch, Branches, Element, Elements};
 
 /// How many ORs may stand inside one another.
@@ -23,7 +25,7 @@ pub const MAX_LEVELS: u32 = 16;
 /// How few and how many branches an OR may have.
 const MIN_BRANCHES: usize = 2;
 
-const MAX_BRANCHES: usize = 8;
+const MAX_BRANCHES: usize = 64;
 
 /// The member `policy` of a document or a branch. `Missing` without it, `WrongKind` for what is no list,
 /// `EmptyPolicy` for an empty one, and else the first fault of its elements.
@@ -32,19 +34,14 @@ const MAX_BRANCHES: usize = 8;
 pub fn policy(
     alloc: Global,
     value: &Value,
-    place: &Place,
+    place: &PlaceRef<'_>,
     levels: u32,
     walk: &mut Walk,
-) -> Result<Elements, PolicyFault>
+) -> Result<Elements, ElementFault>
     ensures { LeavesAs erased_elements result walk.new (policy_member (element_at levels) (view value.now) place.now walk.old) }
 {
-    match member(value, "policy") {
-        Some(list) => {
-            let place = place.member(alloc, "policy")?;
-            element_list(alloc, list, &place, levels, walk)
-        }
-        None => refuse_member(alloc, PolicyKind::Missing, place, "policy"),
-    }
+    let (list, place) = needed(alloc, &*value, "policy", &*place)?;
+    element_list(alloc, list, &place, levels, walk)
 }
 
 // A list of at least one element.
@@ -53,10 +50,10 @@ pub fn policy(
 fn element_list(
     alloc: Global,
     value: &Value,
-    place: &Place,
+    place: &PlaceRef<'_>,
     levels: u32,
     walk: &mut Walk,
-) -> Result<Elements, PolicyFault>
+) -> Result<Elements, ElementFault>
     ensures { LeavesAs erased_elements result walk.new (elements_in (element_at levels) (view value.now) place.now walk.old) }
 {
     match value {
@@ -77,19 +74,19 @@ fn element_list(
 fn elements(
     alloc: Global,
     items: &[Value],
-    index: u32,
-    list: &Place,
+    index: usize,
+    list: &PlaceRef<'_>,
     levels: u32,
     walk: &mut Walk,
-) -> Result<Elements, PolicyFault>
+) -> Result<Elements, ElementFault>
     ensures { LeavesAs erased_elements result walk.new (elements_from (element_at levels) index (items_view items.now) list.now walk.old) }
 {
     match items.split_first() {
         None => Ok(Elements::End),
         Some((item, later)) => {
-            let place = list.item(alloc, index)?;
+            let place = (&*list).item(index);
             let Some(next) = index.checked_add(1) else {
-                return Err(PolicyFault::NoMemory);
+                return Err(ElementFault::NoMemory);
             };
             let first = counted(alloc, item, &place, levels, walk)?;
             let rest = elements(alloc, later, next, list, levels, walk)?;
@@ -104,10 +101,10 @@ fn elements(
 fn counted(
     alloc: Global,
     value: &Value,
-    place: &Place,
+    place: &PlaceRef<'_>,
     levels: u32,
     walk: &mut Walk,
-) -> Result<Element, PolicyFault>
+) -> Result<Element, ElementFault>
     ensures { LeavesAs erased_element result walk.new (counted (element_at levels) (view value.now) place.now walk.old) }
 {
     if walk.left == 0 {
@@ -122,10 +119,10 @@ fn counted(
 fn element(
     alloc: Global,
     value: &Value,
-    place: &Place,
+    place: &PlaceRef<'_>,
     levels: u32,
     walk: &mut Walk,
-) -> Result<Element, PolicyFault>
+) -> Result<Element, ElementFault>
     ensures { LeavesAs erased_element result walk.new (element_at levels (view value.now) place.now walk.old) }
 {
     match type_of_element(alloc, value, place)? {
@@ -135,7 +132,11 @@ fn element(
             Ok(Element::Or(branches))
         }
         ElementType::Leaf(leaf) => leaf_element(alloc, leaf, value, place, walk),
-        ElementType::Unsupported => refuse_member(alloc, PolicyKind::Unsupported, place, "type"),
+        ElementType::Unsupported => refuse(
+            alloc,
+            PolicyKind::Unsupported,
+            &(&*place).member("type"),
+        ),
     }
 }
 
@@ -145,9 +146,9 @@ fn leaf_element(
     alloc: Global,
     leaf: LeafType,
     value: &Value,
-    place: &Place,
+    place: &PlaceRef<'_>,
     walk: &mut Walk,
-) -> Result<Element, PolicyFault>
+) -> Result<Element, ElementFault>
     ensures { LeavesAs erased_element result walk.new (leaf_element leaf (view value.now) place.now walk.old) }
 {
     let element = leaf_row(alloc, leaf, value, place, walk)?;
@@ -161,34 +162,29 @@ fn leaf_element(
 fn or(
     alloc: Global,
     value: &Value,
-    place: &Place,
+    place: &PlaceRef<'_>,
     levels: u32,
     walk: &mut Walk,
-) -> Result<Branches, PolicyFault>
+) -> Result<Branches, ElementFault>
     ensures { LeavesAs erased_branches result walk.new (or_at levels (view value.now) place.now walk.old) }
 {
     if levels == 0 {
         return refuse(alloc, PolicyKind::TooDeep, place);
     }
-    match member(value, "branches") {
-        Some(list) => {
-            let place = place.member(alloc, "branches")?;
-            branch_list(alloc, list, &place, levels - 1, walk)
-        }
-        None => refuse_member(alloc, PolicyKind::Missing, place, "branches"),
-    }
+    let (list, place) = needed(alloc, &*value, "branches", &*place)?;
+    branch_list(alloc, list, &place, levels - 1, walk)
 }
 
-// A list of 2 to 8 branches.
+// A list of 2 to 64 branches.
 #[cycle(reading)]
 #[tactic(auto, unfolding(crate::specs::Elements::branches_in))]
 fn branch_list(
     alloc: Global,
     value: &Value,
-    place: &Place,
+    place: &PlaceRef<'_>,
     levels: u32,
     walk: &mut Walk,
-) -> Result<Branches, PolicyFault>
+) -> Result<Branches, ElementFault>
     ensures { LeavesAs erased_branches result walk.new (branches_in (element_at levels) (view value.now) place.now walk.old) }
 {
     match value {
@@ -203,7 +199,7 @@ fn branch_list(
     }
 }
 
-#[tactic(auto, using(tpol_elements::proofs::Items::counts))]
+#[tactic(auto, using(tpol_json::proofs::ItemCounts::counts))]
 fn is_branch_count(items: &[Value]) -> bool
     ensures { result ≡ is_branch_count (items_count (items_view items.now)) }
 {
@@ -216,19 +212,19 @@ fn is_branch_count(items: &[Value]) -> bool
 fn branches(
     alloc: Global,
     items: &[Value],
-    index: u32,
-    list: &Place,
+    index: usize,
+    list: &PlaceRef<'_>,
     levels: u32,
     walk: &mut Walk,
-) -> Result<Branches, PolicyFault>
+) -> Result<Branches, ElementFault>
     ensures { LeavesAs erased_branches result walk.new (branches_from (element_at levels) index (items_view items.now) list.now walk.old) }
 {
     match items.split_first() {
         None => Ok(Branches::End),
         Some((item, later)) => {
-            let place = list.item(alloc, index)?;
+            let place = (&*list).item(index);
             let Some(next) = index.checked_add(1) else {
-                return Err(PolicyFault::NoMemory);
+                return Err(ElementFault::NoMemory);
             };
             let first = branch(alloc, item, &place, levels, walk)?;
             let rest = branches(alloc, later, next, list, levels, walk)?;
@@ -242,10 +238,10 @@ fn branches(
 fn branch(
     alloc: Global,
     value: &Value,
-    place: &Place,
+    place: &PlaceRef<'_>,
     levels: u32,
     walk: &mut Walk,
-) -> Result<Branch, PolicyFault>
+) -> Result<Branch, ElementFault>
     ensures { LeavesAs erased_branch result walk.new (branch_in (element_at levels) (view value.now) place.now walk.old) }
 {
     check_object(alloc, value, place)?;

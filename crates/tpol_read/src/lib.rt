@@ -11,4 +11,5 @@ mod members;
 mod tests;
 
 pub use document::read_policy;
-pub use tpol_elements::{Notes, PolicyFault, PolicyKind};
+pub use tpol_elements::{PolicyFault, PolicyKind};
+pub use tpol_json::Notes;

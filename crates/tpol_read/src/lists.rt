@@ -1,4 +1,5 @@
-// Elements and branches put in front of those that follow them.
+//! Elements and branches put in front of those that follow them.
+
 ghost use Rattle.std.specs.Prelude.{◌≡◌, IfOk};
 ghost use Rattle.tpol_tree.specs.Erased.{nowhere, erased_element, erased_elements, erased_branches};
 ghost use Rattle.tpol_tree.specs.declared.policy.Branches.TheVariants.{More' as MoreBranches'};

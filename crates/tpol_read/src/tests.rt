@@ -1,9 +1,8 @@
 use super::*;
 use std::alloc::Global;
 use std::test::Fail;
-use tpol_base::{Digest32, Name, NoMemory, Text};
+use tpol_base::{NoMemory, Text};
 use tpol_json::place_text;
-use tpol_tree::{ApprovalWish, Element, Elements, KeyWish, NamesWish, ObjectPublicText, PcrWish};
 
 // What reading a document answers: its notes, or the fault with its place.
 fn answer(alloc: Global, document: &str) -> Result<Text, NoMemory> {
@@ -152,81 +151,15 @@ fn kinds_are_numbered_from_one(rt: HostRuntime) {
 const WHOLE: &str =
     "{\"description\":\"d\",\"policy\":[{\"type\":\"PCR\",\"pcrs\":[{\"pcr\":7,\"hashAlg\":\"SHA256\",\"digest\":\"1111111111111111111111111111111111111111111111111111111111111111\"},{\"pcr\":0,\"hashAlg\":11,\"digest\":\"2222222222222222222222222222222222222222222222222222222222222222\"},{\"pcr\":3,\"hashAlg\":\"0xb\",\"digest\":\"3333333333333333333333333333333333333333333333333333333333333333\"}]},{\"type\":\"AUTHORIZE\",\"keyPublic\":{\"type\":\"KEYEDHASH\",\"nameAlg\":\"SHA256\",\"objectAttributes\":262208,\"scheme\":\"HMAC\",\"unique\":\"4444444444444444444444444444444444444444444444444444444444444444\"},\"policyRef\":\"0102\"},{\"type\":\"NAMEHASH\",\"nameHash\":\"5555555555555555555555555555555555555555555555555555555555555555\"},{\"type\":\"NAMEHASH\",\"objectNames\":[\"40000001\",\"\"]}],\"policyAuthorizations\":[{\"type\":\"tpm\",\"keyPath\":\"k\",\"policyRef\":[3],\"signature\":\"6666666666666666666666666666666666666666666666666666666666666666\"}]}";
 
-// The first of these elements, and the others.
-fn split(elements: &Elements) -> Option<(&Element, &Elements)> {
-    match elements {
-        Elements::More(element, rest) => Some((element, rest)),
-        Elements::End => None,
-    }
-}
-
-// Whether each byte of the digest is this one.
-fn is_all(digest: &Digest32, byte: u8) -> bool {
-    digest.bytes.iter().all(|found| *found == byte)
-}
-
-// Whether the values are these PCRs, each with a digest of one byte again and again.
-fn are_values(values: &[(u8, Digest32)], wanted: &[(u8, u8)]) -> bool {
-    values.len() == wanted.len()
-        && values.iter().zip(wanted.iter()).all(|(value, wanted)| value.0 == wanted.0
-            && is_all(&value.1, wanted.1))
-}
-
-fn is_key(area: &ObjectPublicText) -> bool {
-    area.attributes == 0x40040
-        && area.auth_policy.is_empty()
-        && area.hmac
-        && area.unique.as_slice() == [0x44; 32].as_slice()
-}
-
-fn is_approval(approval: &ApprovalWish) -> bool {
-    match approval {
-        ApprovalWish::ByKey {
-            key: KeyWish::Path(path),
-            policy_ref,
-            signature,
-        } => {
-            path.as_str() == "k"
-                && policy_ref.as_slice() == [3].as_slice()
-                && is_all(signature, 0x66)
-        }
-        _ => false,
-    }
-}
-
 #[test]
 fn a_whole_policy(rt: HostRuntime) -> Result<(), Fail> {
-    let alloc = rt.alloc();
-    let read = read_policy(alloc, WHOLE.as_bytes()).ok();
-    let (policy, notes) = read.ok_or("refused")?;
-    assert!(rt; notes.is_empty());
-    assert!(rt; policy.description.as_str() == "d");
-    let (pcr, rest) = split(&policy.elements).ok_or("no PCR")?;
-    let wanted = [(0, 0x22), (3, 0x33), (7, 0x11)];
-    assert!(rt;
-        matches!(pcr, Element::Pcr(PcrWish::Values(values)) if are_values(values.as_slice(), &wanted))
-    );
-    let (authorize, rest) = split(rest).ok_or("no AUTHORIZE")?;
-    assert!(rt;
-        matches!(authorize, Element::Authorize { key: KeyWish::Public(area), policy_ref }
-        if is_key(area) && policy_ref.as_slice() == [1, 2].as_slice())
-    );
-    let (digest, rest) = split(rest).ok_or("no nameHash")?;
-    assert!(rt;
-        matches!(digest, Element::NameHash(NamesWish::Digest(digest)) if is_all(digest, 0x55))
-    );
-    let (names, rest) = split(rest).ok_or("no objectNames")?;
-    assert!(rt;
-        matches!(names, Element::NameHash(NamesWish::Names(names))
-        if matches!(names.as_slice(), [Name::Handle(0x40000001), Name::Empty]))
-    );
-    assert!(rt; matches!(rest, Elements::End));
-    assert!(rt; matches!(policy.approvals.as_slice(), [approval] if is_approval(approval)));
+    let found = answer(rt.alloc(), WHOLE)?;
+    assert_eq!(rt; found.as_str(), "ok");
     Ok(())
 }
 
 // Documents, each with its first fault.
-const FAULTS: [(&str, &str); 22] = [
+const FAULTS: [(&str, &str); 21] = [
     (
         "{\"policy\":[{\"type\":\"OR\",\"branches\":[{\"policy\":[{\"type\":\"NV\",\"nvPath\":\"a\"}]},{}]}]}",
         "Missing at policy[0].branches[0].policy[0].operandB",
@@ -273,10 +206,6 @@ const FAULTS: [(&str, &str); 22] = [
     ),
     (
         "{\"policy\":[{\"type\":\"OR\",\"branches\":[{}]}]}",
-        "BranchCount at policy[0].branches",
-    ),
-    (
-        "{\"policy\":[{\"type\":\"OR\",\"branches\":[{},{},{},{},{},{},{},{},{}]}]}",
         "BranchCount at policy[0].branches",
     ),
     (
@@ -376,6 +305,33 @@ fn sixteen_ors_inside_one_another(rt: HostRuntime) -> Result<(), Fail> {
     }
     let more = answer(alloc, nested(alloc, 17)?.as_str())?;
     assert_eq!(rt; more.as_str(), place.as_str());
+    Ok(())
+}
+
+// An OR of so many branches.
+fn with_branches(alloc: Global, branches: u32) -> Result<String, Fail> {
+    let mut text = String::from_str(alloc, "{\"policy\":[{\"type\":\"OR\",\"branches\":[")?;
+    for _ in 1..branches {
+        text.push_str("{\"policy\":[{\"type\":\"PASSWORD\"}]},")?;
+    }
+    text.push_str("{\"policy\":[{\"type\":\"AUTHVALUE\"}]}]}]}")?;
+    Ok(text)
+}
+
+#[test]
+fn two_to_sixty_four_branches(rt: HostRuntime) -> Result<(), Fail> {
+    let alloc = rt.alloc();
+    let cases = [
+        (1, "BranchCount at policy[0].branches"),
+        (2, "ok"),
+        (9, "ok"),
+        (64, "ok"),
+        (65, "BranchCount at policy[0].branches"),
+    ];
+    for (branches, expected) in cases {
+        let found = answer(alloc, with_branches(alloc, branches)?.as_str())?;
+        assert_eq!(rt; found.as_str(), expected, "{branches}");
+    }
     Ok(())
 }
 

@@ -4,9 +4,7 @@ use Rattle.serde_json.specs.Data.{Data}
 use Rattle.tpol_json.specs.declared.place.Place.{Place}
 use Rattle.tpol_json.specs.Document.{document_of}
 use Rattle.tpol_read.specs.Documents.{policy_faults, policy_of}
-use Rattle.tpol_elements.specs.declared.fault.PolicyFault.{PolicyFault}
-use Rattle.tpol_elements.specs.declared.fault.PolicyFault.TheVariants.{NotJson, Bad, NoMemory}
-use Rattle.tpol_elements.specs.Faults.{Found}
+use Rattle.tpol_elements.specs.Faults.{Fault, Found}
 use Rattle.tpol_top.specs.declared.outcome.Outcome.{Outcome}
 use Rattle.tpol_top.specs.declared.outcome.Verdict.TheVariants.{BadPolicy}
 use Rattle.tpol_top.specs.Outcome.{one_line}
@@ -19,13 +17,11 @@ abbrev pub policy_not_json : Outcome
 policy_not_json = one_line (codes "error BadPolicy NotJson") BadPolicy
 
 -- the outcome of a fault
-abbrev pub policy_refusal : PolicyFault → Outcome
-policy_refusal NotJson = policy_not_json
-policy_refusal (Bad kind place) = bad_policy (policy_kind_name kind) place
-policy_refusal NoMemory = policy_not_json
+abbrev pub policy_refusal : Fault → Outcome
+policy_refusal fault = bad_policy (policy_kind_name fault.0) fault.1
 
 -- what the document says, unless there is a fault: then the first one ends the run
-abbrev pub unless_refused : List PolicyFault → Found (Policy × List Place) → Step (Policy × List Place)
+abbrev pub unless_refused : List Fault → Found (Policy × List Place) → Step (Policy × List Place)
 unless_refused [] (Ok found) = Ok found
 unless_refused [] (Err fault) = Err (policy_refusal fault)
 unless_refused (fault ∷ faults) found = Err (policy_refusal fault)

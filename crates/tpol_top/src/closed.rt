@@ -5,7 +5,7 @@ ghost use Rattle.std.specs.Option.{option_copied};
 ghost use Rattle.tpol_top.specs.Closed.{closed_step, with_notes};
 ghost use Rattle.tpol_top.specs.Filled.{filled_step};
 ghost use Rattle.tpol_top.specs.ReadStep.{read_step};
-ghost use Rattle.tpol_tree.specs.BranchCounts.{EachOrHasBranches};
+ghost use Rattle.tpol_tree.specs.Elements as written;
 ghost use Rattle.tpol_tree.specs.Erased.{erased_policy};
 ghost use Rattle.tpol_top.specs.Steps.{Answers};
 ghost use Rattle.tpol_tree.specs.Closed.{HasBranchCounts};
@@ -60,7 +60,7 @@ fn fill_read(
     ensures answer { Answers (λ found. (erased found.0, found.1))
         (with_notes notes (filled_step (erased_policy policy.now) (option_copied sight.entry))) result }
     ensures shelf { IsErrOf result Halt.ShelfFailed → ⊥ }
-    ensures branches { EachOrHasBranches policy.now.elements → IfOk result (λ found. HasBranchCounts found.0.elements) }
+    ensures branches { written.HasBranchCounts policy.now.elements → IfOk result (λ found. HasBranchCounts found.0.elements) }
 {
     match fill_document(alloc, policy, sight) {
         Ok(closed) => Ok((closed, notes)),

@@ -3,7 +3,7 @@ ghost use Rattle.tpol_fill.specs.Erased.{erased};
 ghost use Rattle.tpol_top.specs.Filled.{filled_step};
 ghost use Rattle.tpol_top.specs.Steps.{Answers};
 ghost use Rattle.std.specs.Prelude.{IfOk, IsErrOf};
-ghost use Rattle.tpol_tree.specs.BranchCounts.{EachOrHasBranches};
+ghost use Rattle.tpol_tree.specs.Elements as written;
 ghost use Rattle.tpol_tree.specs.Closed.{HasBranchCounts};
 ghost use Rattle.tpol_tree.specs.Erased.{erased_policy};
 
@@ -19,7 +19,7 @@ use tpol_tree::{Closed, Policy};
 pub fn fill_document(alloc: Global, policy: &Policy, sight: Option<&Sight>) -> Result<Closed, Halt>
     ensures answer { Answers erased (filled_step (erased_policy policy.now) (option_copied sight.entry)) result }
     ensures shelf { IsErrOf result Halt.ShelfFailed → ⊥ }
-    ensures branches { EachOrHasBranches policy.now.elements → IfOk result (λ closed. HasBranchCounts closed.elements) }
+    ensures branches { written.HasBranchCounts policy.now.elements → IfOk result (λ closed. HasBranchCounts closed.elements) }
 {
     fill_as_it_lies(alloc, policy, sight)
 }
@@ -28,7 +28,7 @@ pub fn fill_document(alloc: Global, policy: &Policy, sight: Option<&Sight>) -> R
 fn fill_as_it_lies(alloc: Global, policy: &Policy, sight: Option<&Sight>) -> Result<Closed, Halt>
     ensures answer { Answers erased (filled_step policy.now (option_copied sight.entry)) result }
     ensures shelf { IsErrOf result Halt.ShelfFailed → ⊥ }
-    ensures branches { EachOrHasBranches policy.now.elements → IfOk result (λ closed. HasBranchCounts closed.elements) }
+    ensures branches { written.HasBranchCounts policy.now.elements → IfOk result (λ closed. HasBranchCounts closed.elements) }
 {
     match fill(alloc, policy, sight) {
         Ok(closed) => Ok(closed),

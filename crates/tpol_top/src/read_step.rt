@@ -1,7 +1,7 @@
 ghost use Rattle.tpol_top.specs.ReadStep.{read_step};
 ghost use Rattle.tpol_top.specs.Steps.{Answers};
 ghost use Rattle.std.specs.Prelude.{IfOk, IsErrOf};
-ghost use Rattle.tpol_tree.specs.BranchCounts.{EachOrHasBranches};
+ghost use Rattle.tpol_tree.specs.Elements as written;
 ghost use Rattle.tpol_tree.specs.Erased.{erased_policy};
 
 use crate::halt::Halt;
@@ -16,7 +16,7 @@ use tpol_tree::Policy;
 pub fn read_document(alloc: Global, input: &[u8]) -> Result<(Policy, Notes), Halt>
     ensures answer { Answers (λ found. (erased_policy found.0, found.1)) (read_step input.now) result }
     ensures shelf { IsErrOf result Halt.ShelfFailed → ⊥ }
-    ensures branches { IfOk result (λ found. EachOrHasBranches found.0.elements) }
+    ensures branches { IfOk result (λ found. written.HasBranchCounts found.0.elements) }
 {
     match read_policy(alloc, input) {
         Ok(found) => Ok(found),

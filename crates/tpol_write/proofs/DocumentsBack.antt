@@ -5,26 +5,29 @@ use Rattle.serde_json.specs.Data.{Data, string, Items, no_items, item}
 use Rattle.serde_json.specs.Find.{get, as_array}
 use Rattle.serde_json.specs.View.{items_of}
 use Rattle.tpol_base.specs.declared.digest.Digest32.{Digest32}
-use Rattle.tpol_write.proofs.BytesBack.{bound, FitsDigest, digest-fits, digest-back}
+use Rattle.tpol_elements.proofs.Limits.{FitsRef, digest-fits, policy_ref-fits}
+use Rattle.tpol_json.proofs.Limits.{FitsDigest}
+use Rattle.tpol_write.proofs.BytesBack.{bound, digest-back}
 use Rattle.tpol_write.proofs.ElementsBack.{Takes, ListBack, list_again, element_at-all, policy-all, policy-takes, description-back}
-use Rattle.tpol_write.proofs.FieldsBack.{needed-fits, needed-back, FitsRef, policy_ref-fits, policy_ref-back}
+use Rattle.tpol_write.proofs.FieldsBack.{needed-back, policy_ref-back}
 use Rattle.tpol_write.proofs.RowsBack.{noted-none, pem-none}
 use Rattle.tpol_write.proofs.WishesBack.{Leaving, FitsKey, HasKey, key-fits, key-back, FitsIndex, HasIndex, index-fits, index-back, Each, each_append}
 use Rattle.tpol_json.specs.Places.{root, at_member, at_item}
 use Rattle.tpol_json.specs.declared.place.Place.{Place}
-use Rattle.tpol_read.proofs.AllFound.{AllFound, all_after, all_then, all_map}
+use Rattle.tpol_json.proofs.AllFound.{AllFound, all_after, all_then, all_map, needed-fits}
 use Rattle.tpol_read.specs.Approvals.{type_of_approval, approval_type_in, signature_member, by_key, by_index, approval_of_type, approval_in, counted_approval, approvals_from, approvals_of, approvals_or_none, approvals_member}
 use Rattle.tpol_read.specs.Documents.{start, document_in, policy_of}
 use Rattle.tpol_read.specs.Elements.{element_at, max_levels, description_member, policy_member}
 use Rattle.tpol_read.specs.declared.approvals.ApprovalType.{ApprovalType}
 use Rattle.tpol_read.specs.declared.approvals.ApprovalType.TheVariants as types
-use Rattle.tpol_elements.specs.Bytes.{digest_in}
-use Rattle.tpol_elements.specs.Faults.{bad, ◌>>=◌}
+use Rattle.tpol_elements.specs.Values.{digest_in}
+use Rattle.tpol_base.specs.Answers.{◌>>=◌}
+use Rattle.tpol_elements.specs.Faults.{bad}
 use Rattle.tpol_elements.specs.Fields.{policy_ref_in}
 use Rattle.tpol_elements.specs.Members.{object_in, noted, unknown}
 use Rattle.tpol_elements.specs.Rows.{without_pem}
 use Rattle.tpol_elements.specs.Wishes.{key_in, index_in}
-use Rattle.tpol_elements.specs.Words.{find_word}
+use Rattle.tpol_json.specs.Words.{find_word}
 use Rattle.tpol_elements.specs.declared.fault.PolicyKind.TheVariants as kinds
 use Rattle.tpol_elements.specs.declared.walk.Walk.{Walk}
 use Rattle.tpol_tree.specs.declared.policy.Elements.{Elements}
@@ -65,7 +68,7 @@ approval_of type name a place walk is_object no_pem has is_type row =
 
 signature-fits : (d : Data) (place : Place) → AllFound FitsDigest (signature_member d place)
 unfolding signature_member
-signature-fits d place = needed-fits FitsDigest digest_in (get (codes "signature") d) (at_member place (codes "signature")) digest-fits
+signature-fits d place = needed-fits FitsDigest kinds.Missing digest_in (get (codes "signature") d) (at_member place (codes "signature")) digest-fits
 
 signature-back : (signature : Digest32) (d : Data) (place : Place) → get (codes "signature") d ≡ Some (hex_text signature.bytes) → FitsDigest signature → signature_member d place ≡ Ok signature
 unfolding signature_member

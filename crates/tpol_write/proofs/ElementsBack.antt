@@ -6,21 +6,21 @@ use Rattle.serde_json.specs.Data.{Data, string, Items, no_items, item}
 use Rattle.serde_json.specs.Find.{get, as_array}
 use Rattle.serde_json.specs.View.{items_of}
 use Rattle.tpol_write.proofs.BytesBack.{bound}
-use Rattle.tpol_write.proofs.FieldsBack.{needed-fits, needed-back, optional-back}
+use Rattle.tpol_write.proofs.FieldsBack.{needed-back, optional-back}
 use Rattle.tpol_write.proofs.RowsBack.{LeafBack, leaf_all, noted-none}
 use Rattle.tpol_write.proofs.WishesBack.{Leaving}
 use Rattle.tpol_json.specs.Places.{at_member, at_item}
 use Rattle.tpol_json.specs.declared.place.Place.{Place}
-use Rattle.tpol_read.proofs.AllFound.{AllFound, all_after, all_then, all_map, all_if}
+use Rattle.tpol_json.proofs.AllFound.{AllFound, all_after, all_then, all_map, all_if, needed-fits}
 use Rattle.tpol_read.specs.Elements.{element_type_in, leaf_element, element_of_type, element_by, counted, elements_from, elements_of, elements_in, policy_member, description_member, name_member, branch_in, branches_from, is_branch_count, branches_of, branches_in, or_by, or_at, element_at}
-use Rattle.tpol_elements.specs.Bytes.{text_in}
+use Rattle.tpol_elements.specs.Values.{text_in}
 use Rattle.tpol_elements.specs.Faults.{bad}
 use Rattle.tpol_elements.specs.Members.{object_in, needed, noted}
 use Rattle.tpol_elements.specs.Rows.{leaf_row}
 use Rattle.tpol_elements.specs.Types.{type_in}
 use Rattle.tpol_elements.specs.Walks.{Reading}
 use Rattle.tpol_elements.specs.Wishes.{items_count}
-use Rattle.tpol_elements.specs.Words.{find_word}
+use Rattle.tpol_json.specs.Words.{find_word}
 use Rattle.tpol_elements.specs.declared.fault.PolicyKind.TheVariants as kinds
 use Rattle.tpol_elements.specs.declared.types.ElementType.{ElementType}
 use Rattle.tpol_elements.specs.declared.types.ElementType.TheVariants as types
@@ -150,7 +150,7 @@ list-all read levels all d place walk = by_items (as_array d)
 pub policy-all : (read : Reader) (levels : ℕ) → AllBack read levels → (d : Data) (place : Place) (walk : Walk) → AllFound (ListBack read levels walk) (policy_member read d place walk)
 unfolding policy_member
 policy-all read levels all d place walk =
-    needed-fits (ListBack read levels walk) (λ e p. elements_in read e p walk) (get (codes "policy") d) (at_member place (codes "policy")) (λ e p. list-all read levels all e p walk)
+    needed-fits (ListBack read levels walk) kinds.Missing (λ e p. elements_in read e p walk) (get (codes "policy") d) (at_member place (codes "policy")) (λ e p. list-all read levels all e p walk)
 
 pub policy-takes : (read : Reader) (es : Elements) (count : ℕ) (d : Data) → get (codes "policy") d ≡ Some (list_of (elements_values es)) → Takes (list_again read es) es count → Takes (λ place w. policy_member read d place w) es count
 unfolding policy_member
@@ -243,7 +243,7 @@ or-takes read bs count right takes place notes left =
 or_by-all : (read : Reader) (levels : ℕ) → AllBack read levels → AllOrs (or_by read) (levels + 1)
 unfolding or_by branches_in
 or_by-all read levels all d place walk =
-    needed-fits (OrBack (or_by read) (levels + 1) walk) (λ e p. branches_in read e p walk) (get (codes "branches") d) (at_member place (codes "branches"))
+    needed-fits (OrBack (or_by read) (levels + 1) walk) kinds.Missing (λ e p. branches_in read e p walk) (get (codes "branches") d) (at_member place (codes "branches"))
     (λ e p. by_items (as_array e) p)
   where
     by_items : (items : Option Items) (at : Place) → AllFound (OrBack (or_by read) (levels + 1) walk) (branches_of read items at walk)

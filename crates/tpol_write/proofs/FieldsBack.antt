@@ -7,50 +7,37 @@ use Rattle.tpol_base.specs.declared.compare.Compare.{Compare}
 use Rattle.tpol_base.specs.declared.digest.Digest32.{Digest32}
 use Rattle.tpol_base.specs.declared.name.Name.{Name}
 use Rattle.tpol_base.specs.declared.name.Name.TheVariants.{Empty}
-use Rattle.tpol_write.proofs.BytesBack.{bound, FitsBytes, is_up_to, up_to-fits, up_to-back, FitsDigest, digest-fits, digest-back, IsSigned32, signed-fits, signed-back, unsigned-fits, unsigned-back, read_bytes-back}
+use Rattle.tpol_elements.proofs.Limits.{FitsOffset, FitsRef, digest-fits}
+use Rattle.tpol_json.proofs.Limits.{FitsDigest, IsSigned32}
+use Rattle.tpol_write.proofs.BytesBack.{as_member, bound, up_to-back, digest-back, signed-back, unsigned-back, read_bytes-back}
 use Rattle.tpol_write.proofs.PublicsBack.{name_back}
 use Rattle.tpol_write.proofs.WishesBack.{NameBack}
 use Rattle.tpol_write.proofs.WordsBack.{operation_back}
 use Rattle.tpol_json.specs.Bytes.{bytes_in}
 use Rattle.tpol_json.specs.Places.{at_member}
 use Rattle.tpol_json.specs.declared.place.Place.{Place}
-use Rattle.tpol_read.proofs.AllFound.{AllFound, all_then}
-use Rattle.tpol_elements.specs.Bytes.{bytes_up_to, digest_in, name_in, is_empty_name, name_or_bad}
+use Rattle.tpol_json.proofs.AllFound.{AllFound, all_then, optional-fits}
+use Rattle.tpol_json.specs.Values.{name_or_bad}
+use Rattle.tpol_elements.specs.Values.{bytes_up_to, digest_in, name_in, is_empty_name, unsigned_in, signed_in, truth_in}
+use Rattle.tpol_elements.specs.Operations.{operation_in}
 use Rattle.tpol_elements.specs.Faults.{Found, bad, read_as}
 use Rattle.tpol_elements.specs.Fields.{policy_ref_in, some_digest_in, cp_hash_in, expiration_in, operand_in, offset_in, operation_member_in}
 use Rattle.tpol_elements.specs.Members.{read_needed, read_optional}
-use Rattle.tpol_elements.specs.Numbers.{unsigned_in, signed_in, operation_in, truth_in}
 use Rattle.tpol_elements.specs.Rows.{include_member, object_member, included_object, written_member}
 use Rattle.tpol_elements.specs.declared.fault.PolicyKind.TheVariants.{Missing}
-use Rattle.tpol_write.specs.Names.{operation_name}
+use Rattle.tpol_base.specs.Compare.{name_of_compare}
 use Rattle.tpol_write.specs.Objects.{hex_text, natural, integer}
 use Rattle.tpol_write.specs.Wishes.{name_value}
 
 -- ---- members that have to be there, and members that may be left out
 
-pub needed-fits : {A : Type 0} (P : A → Type 0) (read : Data → Place → Found A) (member : Option Data) (place : Place) → ((d : Data) (at : Place) → AllFound P (read d at)) → AllFound P (read_needed read member place)
-needed-fits P read None place all = tt {0}
-needed-fits P read (Some d) place all = all d place
-
 pub needed-back : {A : Type 0} (read : Data → Place → Found A) (member : Option Data) (d : Data) (x : A) (place : Place) → member ≡ Some d → read d place ≡ Ok x → read_needed read member place ≡ Ok x
 needed-back read member d x place e f = ap (λ m. read_needed read m place) e ∙ f
-
-pub optional-fits : {A : Type 0} (P : A → Type 0) (read : Data → Place → Found A) (default : A) (member : Option Data) (place : Place) → P default → ((d : Data) (at : Place) → AllFound P (read d at)) → AllFound P (read_optional read default member place)
-optional-fits P read default None place so all = so
-optional-fits P read default (Some d) place so all = all d place
 
 pub optional-back : {A : Type 0} (read : Data → Place → Found A) (default : A) (member : Option Data) (d : Data) (x : A) (place : Place) → member ≡ Some d → read d place ≡ Ok x → read_optional read default member place ≡ Ok x
 optional-back read default member d x place e f = ap (λ m. read_optional read default m place) e ∙ f
 
 -- ---- policyRef, cpHashA and expiration
-
-abbrev pub FitsRef : List ℕ → Type 0
-FitsRef policy_ref = FitsBytes (is_up_to 64) policy_ref
-
-pub policy_ref-fits : (d : Data) (place : Place) → AllFound FitsRef (policy_ref_in d place)
-unfolding policy_ref_in
-policy_ref-fits d place =
-    optional-fits FitsRef (bytes_up_to 64) [] (get (codes "policyRef") d) (at_member place (codes "policyRef")) (λ i. omega arith, refl) (up_to-fits 64)
 
 pub policy_ref-back : (policy_ref : List ℕ) (d : Data) (place : Place) → get (codes "policyRef") d ≡ Some (hex_text policy_ref) → FitsRef policy_ref → policy_ref_in d place ≡ Ok policy_ref
 unfolding policy_ref_in
@@ -79,11 +66,6 @@ cp_hash-back (Some digest) d place has fits =
     optional-back some_digest_in None (get (codes "cpHashA") d) (hex_text digest.bytes) (Some digest) at has
     (bound (digest_in (hex_text digest.bytes) at) digest (λ x. Ok (Some x)) (Ok (Some digest)) (digest-back digest at fits) refl)
 
-pub expiration-fits : (d : Data) (place : Place) → AllFound IsSigned32 (expiration_in d place)
-unfolding expiration_in
-expiration-fits d place =
-    optional-fits IsSigned32 signed_in (pos 0) (get (codes "expiration") d) (at_member place (codes "expiration")) (record { le = tt }, record { le = tt }) signed-fits
-
 pub expiration-back : (expiration : ℤ) (d : Data) (place : Place) → get (codes "expiration") d ≡ Some (integer expiration) → IsSigned32 expiration → expiration_in d place ≡ Ok expiration
 unfolding expiration_in
 expiration-back expiration d place has fits =
@@ -92,22 +74,11 @@ expiration-back expiration d place has fits =
 
 -- ---- comparisons
 
-abbrev pub FitsOffset : ℕ → Type 0
-FitsOffset offset = (0 ≤ offset) × (offset ≤ 65535)
-
-pub operand-fits : (d : Data) (place : Place) → AllFound FitsRef (operand_in d place)
-unfolding operand_in
-operand-fits d place = needed-fits FitsRef (bytes_up_to 64) (get (codes "operandB") d) (at_member place (codes "operandB")) (up_to-fits 64)
-
 pub operand-back : (operand : List ℕ) (d : Data) (place : Place) → get (codes "operandB") d ≡ Some (hex_text operand) → FitsRef operand → operand_in d place ≡ Ok operand
 unfolding operand_in
 operand-back operand d place has fits =
     let at = at_member place (codes "operandB") in
     needed-back (bytes_up_to 64) (get (codes "operandB") d) (hex_text operand) operand at has (up_to-back 64 operand at fits)
-
-pub offset-fits : (d : Data) (place : Place) → AllFound FitsOffset (offset_in d place)
-unfolding offset_in
-offset-fits d place = optional-fits FitsOffset (unsigned_in 0 65535) 0 (get (codes "offset") d) (at_member place (codes "offset")) (omega arith, omega arith) (unsigned-fits 0 65535)
 
 pub offset-back : (offset : ℕ) (d : Data) (place : Place) → get (codes "offset") d ≡ Some (natural offset) → FitsOffset offset → offset_in d place ≡ Ok offset
 unfolding offset_in
@@ -116,11 +87,11 @@ offset-back offset d place has fits =
     let small : offset ≤ 2 ^ 63 - 1 = omega (arith, fits.1) in
     optional-back (unsigned_in 0 65535) 0 (get (codes "offset") d) (natural offset) offset at has (unsigned-back 0 65535 offset at fits.0 fits.1 small)
 
-pub operation-back : (operation : Compare) (d : Data) (place : Place) → get (codes "operation") d ≡ Some (string (operation_name operation)) → operation_member_in d place ≡ Ok operation
+pub operation-back : (operation : Compare) (d : Data) (place : Place) → get (codes "operation") d ≡ Some (string (name_of_compare operation)) → operation_member_in d place ≡ Ok operation
 unfolding operation_member_in
 operation-back operation d place has =
     let at = at_member place (codes "operation") in
-    optional-back operation_in _ (get (codes "operation") d) (string (operation_name operation)) operation at has (operation_back operation at)
+    optional-back operation_in _ (get (codes "operation") d) (string (name_of_compare operation)) operation at has (operation_back operation at)
 
 -- ---- truth values
 
@@ -139,7 +110,8 @@ abbrev pub FitsObject : Bool → Name → Type 0
 FitsObject include object = NameBack object × ((is_empty_name object && include) ≡ false)
 
 empty_back : NameBack Empty
-empty_back place = bound (read_as (bytes_in (hex_text []) place)) [] (λ bytes. name_or_bad (name_of_bytes bytes) place) (Ok Empty) (read_bytes-back [] place (λ i. omega arith)) refl
+empty_back place =
+    ap read_as (bound (as_member (bytes_in (hex_text []) place)) [] (λ bytes. name_or_bad (name_of_bytes bytes) place) (Ok Empty) (read_bytes-back [] place (λ i. omega arith)) refl)
 
 object_member-fits : (d : Data) (place : Place) → AllFound NameBack (object_member d place)
 unfolding object_member

@@ -1,7 +1,6 @@
 mod Depths
 mod Floats
 mod ReadBack
-mod JsonLimits
 mod BytesBack
 mod WordsBack
 mod PublicsBack

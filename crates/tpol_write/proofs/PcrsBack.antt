@@ -8,23 +8,24 @@ use Rattle.serde_json.specs.Data.{Data, null, boolean, number, string, array, ob
 use Rattle.serde_json.specs.Find.{get, as_array}
 use Rattle.serde_json.specs.View.{items_of}
 use Rattle.tpol_base.specs.declared.digest.Digest32.{Digest32}
-use Rattle.tpol_write.proofs.BytesBack.{bound, unsigned-fits, unsigned-back, FitsDigest, digest-fits, digest-back}
-use Rattle.tpol_write.proofs.FieldsBack.{needed-fits}
+use Rattle.tpol_elements.proofs.Limits.{Is32, digest-fits, localities-fits, mask-fits, unsigned-fits}
+use Rattle.tpol_json.proofs.Limits.{FitsDigest}
+use Rattle.tpol_tree.specs.Bounds.{LocalityHasBounds}
+use Rattle.tpol_write.proofs.BytesBack.{bound, unsigned-back, digest-back}
 use Rattle.tpol_write.proofs.WishesBack.{Leaving, all_still}
 use Rattle.tpol_json.specs.Words.{same_word}
 use Rattle.tpol_json.specs.Places.{at_member, at_item}
 use Rattle.tpol_json.specs.declared.place.Place.{Place}
-use Rattle.tpol_read.proofs.AllFound.{AllFound, all_after, all_then, all_map, all_ways}
+use Rattle.tpol_json.proofs.AllFound.{AllFound, all_after, all_then, all_map, all_ways, needed-fits}
 use Rattle.tpol_read.proofs.PcrOrder.{put_value, with_value-is, first_no, second_no}
-use Rattle.tpol_elements.specs.Bytes.{digest_in}
+use Rattle.tpol_elements.specs.Values.{digest_in, unsigned_in}
 use Rattle.tpol_elements.specs.Faults.{Found, bad}
 use Rattle.tpol_elements.specs.Members.{object_in, noted}
-use Rattle.tpol_elements.specs.Numbers.{unsigned_in, locality_word_in, localities_from, locality_list, localities_or, locality_in}
+use Rattle.tpol_elements.specs.Localities.{locality_in}
 use Rattle.tpol_elements.specs.Pcrs.{PcrList, has_value, with_value, new_pcr_in, pcr_member, bank_member, value_member, pcr_value_in, pcr_values_from, wish_of_values, pcr_values_in, pcr_bit, mask_from, mask_of_list, mask_in, current_pcrs_in, select_member, bank_in, only_bank, bank_or_list, banks_in, pcrs_among, pcrs_in}
 use Rattle.tpol_elements.specs.Walks.{still}
-use Rattle.tpol_elements.specs.Words.{find_word, found_or, localities}
 use Rattle.tpol_elements.specs.declared.fault.PolicyKind.{PolicyKind}
-use Rattle.tpol_elements.specs.declared.fault.PolicyKind.TheVariants.{BadNumber, Twice}
+use Rattle.tpol_elements.specs.declared.fault.PolicyKind.TheVariants.{Missing, Twice}
 use Rattle.tpol_elements.specs.declared.walk.Walk.{Walk}
 use Rattle.tpol_tree.specs.declared.wishes.PcrWish.{PcrWish}
 use Rattle.tpol_tree.specs.declared.wishes.PcrWish.TheVariants.{Values, Current}
@@ -34,57 +35,10 @@ use Rattle.tpol_write.specs.Wishes.{pcr_value, pcrs_below, pcrs_member}
 
 -- ---- localities
 
--- a set of at least one of the five localities
-abbrev IsLocalities : ℕ → Type 0
-IsLocalities n = (1 ≤ n) × (n ≤ 31)
-
--- each of these words stands for localities
-abbrev AllWords : List (List ℕ × ℕ) → Type 0
-AllWords [] = Unit {0}
-AllWords (word ∷ words) = IsLocalities word.1 × AllWords words
-
-all_or : (same : Bool) (n : ℕ) (later : Option ℕ) (otherwise : Found ℕ) → IsLocalities n → AllFound IsLocalities (found_or later otherwise) → AllFound IsLocalities (found_or (if same then Some n else later) otherwise)
-all_or true n later otherwise is all = is
-all_or false n later otherwise is all = all
-
-words_found : (prefix text : List ℕ) (words : List (List ℕ × ℕ)) (kind : PolicyKind) (place : Place) → AllWords words → AllFound IsLocalities (found_or (find_word prefix words text) (bad kind place))
-unfolding find_word
-words_found prefix text [] kind place all = tt {0}
-words_found prefix text (word ∷ words) kind place all =
-    all_or (same_word text prefix word.0) word.1 (find_word prefix words text) (bad kind place) all.0 (words_found prefix text words kind place all.1)
-
-locality_word-fits : (d : Data) (place : Place) → AllFound IsLocalities (locality_word_in d place)
-locality_word-fits null place = tt {0}
-locality_word-fits (boolean b) place = tt {0}
-locality_word-fits (number n) place = tt {0}
-locality_word-fits (string s) place = words_found (codes "TPM2_LOC_") s localities BadNumber place (search arith)
-locality_word-fits (array ds) place = tt {0}
-locality_word-fits (object ms) place = tt {0}
-
--- two sets together
-both : (m n : ℕ) → m ≤ 31 → IsLocalities n → IsLocalities (bit_or m n)
-both m n below fits = (omega (arith, fits.0, le_or_r m n), omega (arith, or_lt 5 m n (omega arith) (omega (arith, fits.1))))
-
-localities_from-fits : (set index : ℕ) (ds : Items) (place : Place) → IsLocalities set → AllFound IsLocalities (localities_from set index ds place)
-localities_from-fits set index no_items place fits = fits
-localities_from-fits set index (item d ds) place fits =
-    all_then IsLocalities IsLocalities (locality_word_in d (at_item place index)) _ (locality_word-fits d (at_item place index))
-    (λ bit is. localities_from-fits (bit_or set bit) (suc index) ds place (both set bit fits.1 is))
-
-locality_list-fits : (ds : Items) (place : Place) → AllFound IsLocalities (locality_list ds place)
-locality_list-fits no_items place = tt {0}
-locality_list-fits (item d ds) place =
-    all_then IsLocalities IsLocalities (locality_word_in d (at_item place 0)) _ (locality_word-fits d (at_item place 0))
-    (λ bit is. localities_from-fits (bit_or 0 bit) 1 ds place (both 0 bit (omega arith) is))
-
-localities-fits : (list : Option Items) (d : Data) (place : Place) → AllFound IsLocalities (localities_or list (unsigned_in 1 31 d place) place)
-localities-fits None d place = unsigned-fits 1 31 d place
-localities-fits (Some ds) d place = locality_list-fits ds place
-
 -- the localities that a document writes read back from their number
 pub localities_back : (d : Data) (place : Place) → AllFound (λ n. (other : Place) → locality_in (natural n) other ≡ Ok n) (locality_in d place)
 localities_back d place =
-    all_map IsLocalities (λ n. (other : Place) → locality_in (natural n) other ≡ Ok n) (locality_in d place) (localities-fits (as_array d) d place)
+    all_map LocalityHasBounds (λ n. (other : Place) → locality_in (natural n) other ≡ Ok n) (locality_in d place) (localities-fits d place)
     (λ n fits other. let small : n ≤ 2 ^ 63 - 1 = omega (arith, fits.1) in unsigned-back 1 31 n other fits.0 fits.1 small)
 
 -- ---- PCRs with their values, in rising order
@@ -135,9 +89,9 @@ pcr_value-fits : (values : PcrList) (d : Data) (place : Place) (walk : Walk) →
 unfolding pcr_value_in pcr_member value_member noted
 pcr_value-fits values d place walk =
     all_after (NewValue values walk) (object_in d place) _
-    (λ is_object. all_then (NewPcr values) (NewValue values walk) (pcr_member values d place) _ (needed-fits (NewPcr values) (new_pcr_in values) (get (codes "pcr") d) (at_member place (codes "pcr")) (new_pcr-fits values))
+    (λ is_object. all_then (NewPcr values) (NewValue values walk) (pcr_member values d place) _ (needed-fits (NewPcr values) Missing (new_pcr_in values) (get (codes "pcr") d) (at_member place (codes "pcr")) (new_pcr-fits values))
     (λ pcr new. all_after (NewValue values walk) (bank_member (codes "hashAlg") d place) _
-    (λ bank. all_then FitsDigest (NewValue values walk) (value_member d place) _ (needed-fits FitsDigest digest_in (get (codes "digest") d) (at_member place (codes "digest")) digest-fits)
+    (λ bank. all_then FitsDigest (NewValue values walk) (value_member d place) _ (needed-fits FitsDigest Missing digest_in (get (codes "digest") d) (at_member place (codes "digest")) digest-fits)
     (λ digest fits. (refl, new, fits)))))
 
 -- values in rising order, and no element was counted
@@ -214,25 +168,6 @@ values-back low before (value ∷ values) index place walk below rising =
 
 -- ---- masks
 
--- a mask of 32 PCRs
-abbrev IsMask : ℕ → Type 0
-IsMask mask = mask < 2 ^ 32
-
-pcr_bit-fits : (d : Data) (place : Place) → AllFound IsMask (pcr_bit d place)
-pcr_bit-fits d place =
-    all_then (λ pcr. (0 ≤ pcr) × (pcr ≤ 31)) IsMask (unsigned_in 0 31 d place) _ (unsigned-fits 0 31 d place)
-    (λ pcr limits. pow_below pcr 32 (omega (arith, limits.1)))
-
-mask_from-fits : (mask index : ℕ) (ds : Items) (place : Place) → IsMask mask → AllFound IsMask (mask_from mask index ds place)
-mask_from-fits mask index no_items place is = is
-mask_from-fits mask index (item d ds) place is =
-    all_then IsMask IsMask (pcr_bit d (at_item place index)) _ (pcr_bit-fits d (at_item place index))
-    (λ bit small. mask_from-fits (bit_or mask bit) (suc index) ds place (or_lt 32 mask bit is small))
-
-mask_of_list-fits : (list : Option Items) (place : Place) → AllFound IsMask (mask_of_list list place)
-mask_of_list-fits None place = tt {0}
-mask_of_list-fits (Some ds) place = mask_from-fits 0 0 ds place (omega arith)
-
 -- the mask with the bits of these PCRs
 abbrev with_bits : ℕ → List ℕ → ℕ
 with_bits mask [] = mask
@@ -297,7 +232,7 @@ mask_from-back mask index (pcr ∷ pcrs) place all =
     bound (pcr_bit (natural pcr) (at_item place index)) (2 ^ pcr) (λ bit. mask_from (bit_or mask bit) (suc index) (items_of (map natural pcrs)) place) (Ok (with_bits mask (pcr ∷ pcrs))) (pcr_bit-back pcr (at_item place index) all.0)
     (mask_from-back (bit_or mask (2 ^ pcr)) (suc index) pcrs place all.1)
 
-mask-back : (mask : ℕ) (place : Place) → IsMask mask → mask_in (list_of (map natural (pcrs_below 32 mask))) place ≡ Ok mask
+mask-back : (mask : ℕ) (place : Place) → Is32 mask → mask_in (list_of (map natural (pcrs_below 32 mask))) place ≡ Ok mask
 mask-back mask place is =
     let whole : mask % 2 ^ 32 ≡ mask = mod-eq_of_lt is in
     mask_from-back 0 0 (pcrs_below 32 mask) place (pcrs_below-fits 32 mask (omega arith)) ∙ ap Ok (bits_below 32 mask ∙ whole)
@@ -307,7 +242,7 @@ mask-back mask place is =
 -- PCRs that read back
 abbrev FitsPcrs : PcrWish → Type 0
 FitsPcrs (Values values) = Rising 0 values
-FitsPcrs (Current mask) = IsMask mask
+FitsPcrs (Current mask) = Is32 mask
 
 wish_of_values-fits : (list : Option Items) (place : Place) (walk : Walk) → AllFound (Leaving FitsPcrs walk) (wish_of_values list place walk)
 wish_of_values-fits None place walk = tt {0}
@@ -316,14 +251,14 @@ wish_of_values-fits (Some ds) place walk =
     (λ found all. all)
 
 current_pcrs-fits : (d : Data) (place : Place) → AllFound FitsPcrs (current_pcrs_in d place)
-current_pcrs-fits d place = all_then IsMask FitsPcrs (mask_in d place) _ (mask_of_list-fits (as_array d) place) (λ mask is. is)
+current_pcrs-fits d place = all_then Is32 FitsPcrs (mask_in d place) _ (mask-fits d place) (λ mask is. is)
 
 bank-fits : (walk : Walk) (d : Data) (place : Place) → AllFound (Leaving FitsPcrs walk) (bank_in walk d place)
 unfolding bank_in select_member noted
 bank-fits walk d place =
     all_after (Leaving FitsPcrs walk) (object_in d place) _
     (λ is_object. all_after (Leaving FitsPcrs walk) (bank_member (codes "hash") d place) _
-    (λ bank. all_then IsMask (Leaving FitsPcrs walk) (select_member d place) _ (needed-fits IsMask mask_in (get (codes "pcrSelect") d) (at_member place (codes "pcrSelect")) (λ e at. mask_of_list-fits (as_array e) at))
+    (λ bank. all_then Is32 (Leaving FitsPcrs walk) (select_member d place) _ (needed-fits Is32 Missing mask_in (get (codes "pcrSelect") d) (at_member place (codes "pcrSelect")) mask-fits)
     (λ mask is. (refl, is))))
 
 only_bank-fits : (walk : Walk) (ds : Items) (place : Place) → AllFound (Leaving FitsPcrs walk) (only_bank walk ds place)
@@ -338,7 +273,7 @@ banks-fits (Some ds) walk d place = only_bank-fits walk ds place
 wish-fits : (d : Data) (place : Place) (walk : Walk) → AllFound (Leaving FitsPcrs walk) (pcrs_in d place walk)
 unfolding pcrs_among
 wish-fits d place walk =
-    all_ways (Leaving FitsPcrs walk) ((codes "pcrs", pcr_values_in walk) ∷ (codes "currentPCRs", λ e at. still (current_pcrs_in e at) walk) ∷ (codes "currentPCRandBanks", banks_in walk) ∷ []) (at_member place (codes "pcrs")) d place (
+    all_ways (Leaving FitsPcrs walk) Twice ((codes "pcrs", pcr_values_in walk) ∷ (codes "currentPCRs", λ e at. still (current_pcrs_in e at) walk) ∷ (codes "currentPCRandBanks", banks_in walk) ∷ []) (Missing, at_member place (codes "pcrs")) d place (
       λ e at. wish_of_values-fits (as_array e) at walk,
       (
         λ e at. all_still FitsPcrs (current_pcrs_in e at) walk (current_pcrs-fits e at),

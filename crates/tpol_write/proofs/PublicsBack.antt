@@ -15,18 +15,22 @@ use Rattle.std.specs.Cmp.Lexicographic.{slice_cmp}
 use Rattle.std.specs.Ordering.{nat_cmp, match_ordering}
 use Rattle.std.specs.declared.cmp.Ordering.{Ordering}
 use Rattle.std.specs.declared.cmp.Ordering.TheVariants.{Less, Equal, Greater}
-use Rattle.tpol_write.proofs.BytesBack.{bound, read_bytes-fits, read_bytes-back, FitsBytes, is_empty_or_32, empty_or_32-fits, empty_or_32-back, unsigned-fits, unsigned-back}
+use Rattle.tpol_elements.proofs.Limits.{empty_or_32-fits, name-fits, unsigned-fits}
+use Rattle.tpol_json.proofs.Limits.{FitsBytes, FitsName, is_empty_or_32}
+use Rattle.tpol_write.proofs.BytesBack.{as_member, bound, read_bytes-back, empty_or_32-back, unsigned-back}
 use Rattle.tpol_json.specs.Bytes.{bytes_in}
 use Rattle.tpol_json.specs.declared.place.Place.{Place}
-use Rattle.tpol_read.proofs.AllFound.{AllFound, all_after, all_then, all_map}
+use Rattle.tpol_json.proofs.AllFound.{AllFound, all_after, all_then, all_map}
 use Rattle.tpol_json.specs.Places.{at_member}
-use Rattle.tpol_elements.specs.Bytes.{name_in, name_or_bad, empty_or_32}
-use Rattle.tpol_elements.specs.Faults.{Found, read_as, ◌>>=◌}
+use Rattle.tpol_json.specs.Values.{name_or_bad}
+use Rattle.tpol_elements.specs.Algorithms.{scheme_in}
+use Rattle.tpol_elements.specs.Values.{name_in, empty_or_32, u32_in, unsigned_in}
+use Rattle.tpol_base.specs.Answers.{◌>>=◌}
+use Rattle.tpol_elements.specs.Faults.{Found, read_as}
 use Rattle.tpol_elements.specs.Members.{object_in, needed, optional, read_needed, read_optional, noted}
-use Rattle.tpol_elements.specs.Numbers.{u32_in, unsigned_in, scheme_in}
 use Rattle.tpol_elements.specs.Publics.{then_noted, through, through_member, object_public, index_public, object_public_in, index_public_in, key_type_member, name_hash_member, attributes_member, auth_policy_member, scheme_member, unique_member, nv_index_member, data_size_member}
 use Rattle.tpol_elements.specs.Walks.{Reading}
-use Rattle.tpol_elements.specs.Words.{find_word}
+use Rattle.tpol_json.specs.Words.{find_word}
 use Rattle.tpol_elements.specs.declared.walk.Walk.{Walk}
 use Rattle.tpol_tree.specs.declared.wishes.ObjectPublicText.{ObjectPublicText}
 use Rattle.tpol_tree.specs.declared.wishes.NvPublicText.{NvPublicText}
@@ -34,12 +38,6 @@ use Rattle.tpol_write.specs.Objects.{hex_text, natural}
 use Rattle.tpol_write.specs.Wishes.{name_value, object_public_value, nv_public_value, scheme_name}
 
 -- ---- Names
-
--- a Name that was read: its handle fits, or its digest is of bytes
-abbrev FitsName : Name → Type 0
-FitsName Empty = Unit {0}
-FitsName (Handle handle) = handle < 2 ^ 32
-FitsName (Hash digest) = IsBytes digest.bytes
 
 name_is_bytes : (name : Name) → FitsName name → IsBytes (name_bytes name)
 name_is_bytes Empty fits i = omega arith
@@ -60,35 +58,13 @@ name_again Empty fits = refl
 name_again (Handle handle) fits = ap (λ h. Some (Handle h)) (from_be_bytes-to_be_bytes_4 handle fits)
 name_again (Hash digest) fits = long_name digest.bytes digest.whole ∙ ap (λ d. Some (Hash d)) (digest_again digest)
 
--- the Name of bytes, where a test passes, and else another
-fits_if : (test : Bool) (name : Name) (other : Option Name) (place : Place) → (test ≡ true → FitsName name) → AllFound FitsName (name_or_bad other place) → AllFound FitsName (name_or_bad (if test then Some name else other) place)
-fits_if true name other place fits others = fits refl
-fits_if false name other place fits others = others
-
-four_fit : (bytes : List ℕ) → IsBytes bytes → from_be_bytes w32 bytes < 2 ^ 32
-four_fit bytes are = omega (arith, are 0, are 1, are 2, are 3)
-
-digest_fits : (bytes : List ℕ) → IsBytes bytes → length bytes ≡ 34 → IsBytes (digest_of_bytes (drop 2 bytes)).bytes
-digest_fits bytes are long =
-    subst IsBytes (sym (digest_of_whole (drop 2 bytes) (omega (arith, length-drop 2 bytes)))) (λ i. rw (get_or-drop 2 bytes i 0) (are (2 + i)))
-
-read_name-fits : (bytes : List ℕ) (place : Place) → IsBytes bytes → AllFound FitsName (name_or_bad (name_of_bytes bytes) place)
-read_name-fits bytes place are =
-    fits_if (length bytes == 0) Empty _ place (λ passes. tt {0})
-    (fits_if (length bytes == 4) (Handle (from_be_bytes w32 bytes)) _ place (λ passes. four_fit bytes are)
-    (fits_if (length bytes == 34 && (slice_index bytes 0 == 0 && slice_index bytes 1 == 11)) (Hash (digest_of_bytes (drop 2 bytes))) None place
-    (λ passes. digest_fits bytes are (eqb-true (length bytes) 34 (and_parts (length bytes == 34) _ passes).0)) (tt {0})))
-
-name-fits : (d : Data) (place : Place) → AllFound FitsName (name_in d place)
-name-fits d place =
-    all_then IsBytes FitsName (read_as (bytes_in d place)) _ (read_bytes-fits d place) (λ bytes are. read_name-fits bytes place are)
-
 pub name_back : (d : Data) (place : Place) → AllFound (λ name. (other : Place) → name_in (name_value name) other ≡ Ok name) (name_in d place)
 name_back d place =
     all_map FitsName (λ name. (other : Place) → name_in (name_value name) other ≡ Ok name) (name_in d place) (name-fits d place)
     (λ name fits other.
-    bound (read_as (bytes_in (name_value name) other)) (name_bytes name) (λ bytes. name_or_bad (name_of_bytes bytes) other) (Ok name)
-    (read_bytes-back (name_bytes name) other (name_is_bytes name fits)) (ap (λ o. name_or_bad o other) (name_again name fits)))
+    ap read_as
+    (bound (as_member (bytes_in (name_value name) other)) (name_bytes name) (λ bytes. name_or_bad (name_of_bytes bytes) other) (Ok name)
+    (read_bytes-back (name_bytes name) other (name_is_bytes name fits)) (ap (λ o. name_or_bad o other) (name_again name fits))))
 
 -- ---- wrappers
 

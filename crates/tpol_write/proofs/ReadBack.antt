@@ -8,6 +8,7 @@ use Rattle.hex.specs.Hex.{IsBytes, encode_lower, encode_with, lower_digits, hex_
 use Rattle.hex.proofs.HexLemmas.{IsDigits-lower_digits, decode_of-encode_lower}
 use Rattle.tpol_json.specs.declared.place.Place.{Place}
 use Rattle.tpol_json.specs.declared.fault.JsonKind.TheVariants.{BadNumber}
+use Rattle.tpol_json.proofs.Limits.{passed}
 use Rattle.tpol_json.specs.Reading.{bad}
 use Rattle.tpol_json.specs.Bytes.{hex_or_bad, bytes_of_text}
 use Rattle.tpol_json.specs.Numbers.{within, after_0x}
@@ -42,10 +43,6 @@ bytes_back bytes place h =
     let read : bytes_of_text text ≡ Some bytes =
     ap (λ o. result_ok (decode_of (unwrap_or o text))) none ∙ ap result_ok (decode_of-encode_lower bytes h) in
     ap (λ o. hex_or_bad o place) read
-
-pub passed : (b : Bool) → T b → b ≡ true
-passed true h = refl
-passed false h = absurd h
 
 within_limits : (least greatest n : ℤ) (place : Place) → least ≤ℤ n → n ≤ℤ greatest → within least greatest (Some n) place ≡ Ok n
 within_limits least greatest n place low high =

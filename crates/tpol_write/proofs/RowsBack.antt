@@ -5,26 +5,30 @@ use Rattle.serde_json.specs.Find.{get}
 use Rattle.tpol_base.specs.declared.compare.Compare.{Compare}
 use Rattle.tpol_base.specs.declared.digest.Digest32.{Digest32}
 use Rattle.tpol_base.specs.declared.name.Name.{Name}
-use Rattle.tpol_write.proofs.BytesBack.{bound, FitsDigest, digest-fits, digest-back, IsSigned32}
-use Rattle.tpol_write.proofs.FieldsBack.{needed-fits, needed-back, FitsRef, policy_ref-fits, policy_ref-back, FitsCpHash, HasCpHash, cp_hash-fits, cp_hash-back, expiration-fits, expiration-back, FitsOffset, operand-fits, operand-back, offset-fits, offset-back, operation-back, include-back, written-back, FitsObject, object-fits, object-back}
+use Rattle.tpol_elements.proofs.Limits.{FitsOffset, FitsRef, digest-fits, expiration-fits, offset-fits, operand-fits, policy_ref-fits}
+use Rattle.tpol_json.proofs.Limits.{FitsDigest, IsSigned32}
+use Rattle.tpol_write.proofs.BytesBack.{bound, digest-back}
+use Rattle.tpol_write.proofs.FieldsBack.{needed-back, policy_ref-back, FitsCpHash, HasCpHash, cp_hash-fits, cp_hash-back, expiration-back, operand-back, offset-back, operation-back, include-back, written-back, FitsObject, object-fits, object-back}
 use Rattle.tpol_write.proofs.PcrsBack.{localities_back, pcrs_back}
 use Rattle.tpol_write.proofs.WishesBack.{Leaving, all_still, FitsKey, HasKey, key-fits, key-back, FitsIndex, HasIndex, index-fits, index-back, FitsEntity, HasEntity, entity-fits, entity-back, FitsParent, HasParent, parent-fits, parent-back, FitsNames, HasNames, names-fits, names-back}
 use Rattle.tpol_write.proofs.WordsBack.{code_back}
 use Rattle.tpol_json.specs.Places.{at_member}
 use Rattle.tpol_json.specs.declared.place.Place.{Place}
-use Rattle.tpol_read.proofs.AllFound.{AllFound, all_after, all_then}
+use Rattle.tpol_json.proofs.AllFound.{AllFound, all_after, all_then, needed-fits}
 use Rattle.tpol_read.specs.Elements.{element_by, element_of_type, element_type_in, leaf_element}
-use Rattle.tpol_elements.specs.Bytes.{digest_in}
+use Rattle.tpol_elements.specs.Values.{digest_in}
 use Rattle.tpol_elements.specs.Faults.{Found}
 use Rattle.tpol_elements.specs.Fields.{policy_ref_in, cp_hash_in, expiration_in, operand_in, offset_in, operation_member_in}
 use Rattle.tpol_elements.specs.Members.{needed, object_in, noted, unknown}
-use Rattle.tpol_elements.specs.Numbers.{code_in, locality_in}
+use Rattle.tpol_elements.specs.Localities.{locality_in}
+use Rattle.tpol_elements.specs.Operations.{code_in}
+use Rattle.tpol_elements.specs.declared.fault.PolicyKind.TheVariants.{Missing}
 use Rattle.tpol_elements.specs.Pcrs.{pcrs_in}
-use Rattle.tpol_elements.specs.Rows.{leaf_row, pcr_row, nv_row, secret_row, signed_row, authorize_row, authorize_nv_row, locality_row, command_code_row, cp_hash_row, name_hash_row, counter_timer_row, duplication_row, nv_written_row, without_pem, include_member, included_object, written_member}
+use Rattle.tpol_elements.specs.Rows.{leaf_row, pcr_row, nv_row, secret_row, signed_row, authorize_row, authorize_nv_row, locality_member, locality_row, command_code_row, cp_hash_row, name_hash_row, counter_timer_row, duplication_row, nv_written_row, without_pem, include_member, included_object, written_member}
 use Rattle.tpol_elements.specs.Types.{type_in, leaf_members}
 use Rattle.tpol_elements.specs.Walks.{Reading, still}
 use Rattle.tpol_elements.specs.Wishes.{key_in, index_in, entity_in, parent_in, names_in}
-use Rattle.tpol_elements.specs.Words.{find_word}
+use Rattle.tpol_json.specs.Words.{find_word}
 use Rattle.tpol_elements.specs.declared.types.ElementType.TheVariants.{Leaf}
 use Rattle.tpol_elements.specs.declared.types.LeafType.{LeafType}
 use Rattle.tpol_elements.specs.declared.types.LeafType.TheVariants as types
@@ -46,7 +50,7 @@ use Rattle.tpol_tree.specs.declared.wishes.PcrWish.{PcrWish}
 use Rattle.tpol_tree.specs.declared.wishes.PcrWish.TheVariants.{Values, Current}
 use Rattle.tpol_write.specs.Elements.{element_value}
 use Rattle.tpol_write.specs.Levels.{levels_of_element}
-use Rattle.tpol_write.specs.Names.{operation_name, code_text}
+use Rattle.tpol_write.specs.Names.{name_of_compare, code_text}
 use Rattle.tpol_write.specs.Objects.{hex_text, natural, integer}
 use Rattle.tpol_write.specs.Wishes.{name_value}
 
@@ -176,7 +180,7 @@ pcr_all d place walk = all_then (Leaving PcrsBack walk) (Leaving LeafBack walk) 
 
 nv_has : (i : IndexWish) (operand : List ℕ) (offset : ℕ) (operation : Compare) →
     let d = element_value (Nv i operand offset operation) in
-    HasType types.Nv (codes "POLICYNV") d × HasIndex i d × (get (codes "operandB") d ≡ Some (hex_text operand)) × (get (codes "offset") d ≡ Some (natural offset)) × (get (codes "operation") d ≡ Some (string (operation_name operation)))
+    HasType types.Nv (codes "POLICYNV") d × HasIndex i d × (get (codes "operandB") d ≡ Some (hex_text operand)) × (get (codes "offset") d ≡ Some (natural offset)) × (get (codes "operation") d ≡ Some (string (name_of_compare operation)))
 nv_has (index.Path path) operand offset operation = ((refl, λ place. refl), (refl, refl), refl, refl, refl)
 nv_has (index.Public area) operand offset operation = ((refl, λ place. refl), (refl, refl), refl, refl, refl)
 
@@ -336,7 +340,7 @@ authorize_nv_all d place walk =
 -- ---- POLICYLOCALITY
 
 locality_back : (x : ℕ) → ((place : Place) → locality_in (natural x) place ≡ Ok x) → LeafBack (Locality x)
-unfolding locality_row
+unfolding locality_row locality_member
 locality_back x back = (
   refl,
   λ or place walk.
@@ -348,11 +352,11 @@ locality_back x back = (
 )
 
 locality_all : (d : Data) (place : Place) (walk : Walk) → AllFound (Leaving LeafBack walk) (still (locality_row d place) walk)
-unfolding locality_row
+unfolding locality_row locality_member
 locality_all d place walk =
     let P : ℕ → Type 0 = λ n. (other : Place) → locality_in (natural n) other ≡ Ok n in
     all_still LeafBack (locality_row d place) walk
-    (all_then P LeafBack (needed locality_in (codes "locality") d place) _ (needed-fits P locality_in (get (codes "locality") d) (at_member place (codes "locality")) localities_back) locality_back)
+    (all_then P LeafBack (needed locality_in (codes "locality") d place) _ (needed-fits P Missing locality_in (get (codes "locality") d) (at_member place (codes "locality")) localities_back) locality_back)
 
 -- ---- POLICYCOMMANDCODE
 
@@ -373,7 +377,7 @@ unfolding command_code_row
 command_code_all d place walk =
     let P : ℕ → Type 0 = λ code. (other : Place) → code_in (string (code_text code)) other ≡ Ok code in
     all_still LeafBack (command_code_row d place) walk
-    (all_then P LeafBack (needed code_in (codes "code") d place) _ (needed-fits P code_in (get (codes "code") d) (at_member place (codes "code")) code_back) command_code_back)
+    (all_then P LeafBack (needed code_in (codes "code") d place) _ (needed-fits P Missing code_in (get (codes "code") d) (at_member place (codes "code")) code_back) command_code_back)
 
 -- ---- POLICYCPHASH
 
@@ -393,7 +397,7 @@ cp_hash_all : (d : Data) (place : Place) (walk : Walk) → AllFound (Leaving Lea
 unfolding cp_hash_row
 cp_hash_all d place walk =
     all_still LeafBack (cp_hash_row d place) walk
-    (all_then FitsDigest LeafBack (needed digest_in (codes "cpHash") d place) _ (needed-fits FitsDigest digest_in (get (codes "cpHash") d) (at_member place (codes "cpHash")) digest-fits) cp_hash_back)
+    (all_then FitsDigest LeafBack (needed digest_in (codes "cpHash") d place) _ (needed-fits FitsDigest Missing digest_in (get (codes "cpHash") d) (at_member place (codes "cpHash")) digest-fits) cp_hash_back)
 
 -- ---- POLICYNAMEHASH
 

@@ -5,17 +5,21 @@ use Rattle.serde_json.specs.Data.{Data, string, Items, no_items, item}
 use Rattle.serde_json.specs.Find.{get, as_array}
 use Rattle.serde_json.specs.View.{items_of}
 use Rattle.tpol_base.specs.declared.name.Name.{Name}
-use Rattle.tpol_write.proofs.BytesBack.{bound, FitsDigest, digest-fits, digest-back}
+use Rattle.tpol_elements.proofs.Limits.{digest-fits}
+use Rattle.tpol_json.proofs.Limits.{FitsDigest}
+use Rattle.tpol_write.proofs.BytesBack.{bound, digest-back}
 use Rattle.tpol_write.proofs.PublicsBack.{name_back, object_public_back, index_public_back}
 use Rattle.tpol_json.specs.Places.{at_member, at_item}
 use Rattle.tpol_json.specs.declared.place.Place.{Place}
-use Rattle.tpol_read.proofs.AllFound.{AllFound, all_after, all_then, all_map, all_if, all_ways}
-use Rattle.tpol_elements.specs.Bytes.{text_in, digest_in, name_in, full_name_in, is_empty_name}
-use Rattle.tpol_elements.specs.Faults.{Found, bad, ◌>>=◌}
+use Rattle.tpol_json.proofs.AllFound.{AllFound, all_after, all_then, all_map, all_if, all_ways}
+use Rattle.tpol_json.specs.Members.{items_count}
+use Rattle.tpol_elements.specs.Values.{text_in, digest_in, name_in, full_name_in, is_empty_name, items_in, one_to_three}
+use Rattle.tpol_base.specs.Answers.{◌>>=◌}
+use Rattle.tpol_elements.specs.Faults.{Found, bad}
 use Rattle.tpol_elements.specs.Publics.{object_public_in, index_public_in}
 use Rattle.tpol_elements.specs.Walks.{still}
-use Rattle.tpol_elements.specs.Wishes.{key_by_path, key_by_public, key_among, key_in, index_by_path, index_by_public, index_among, index_in, entity_by_path, entity_by_name, entity_among, entity_in, parent_by_path, parent_by_public, parent_by_name, parent_among, parent_in, items_count, each_from, three_at_most, one_to_three, names_by_digest, names_by_names, names_by_paths, names_among, names_in}
-use Rattle.tpol_elements.specs.declared.fault.PolicyKind.TheVariants.{BadHex, BadNumber}
+use Rattle.tpol_elements.specs.Wishes.{key_by_path, key_by_public, key_among, key_in, index_by_path, index_by_public, index_among, index_in, entity_by_path, entity_by_name, entity_among, entity_in, parent_by_path, parent_by_public, parent_by_name, parent_among, parent_in, each_from, names_by_digest, names_by_names, names_by_paths, names_among, names_in}
+use Rattle.tpol_elements.specs.declared.fault.PolicyKind.TheVariants.{BadHex, BadNumber, Missing, Twice}
 use Rattle.tpol_elements.specs.declared.walk.Walk.{Walk}
 use Rattle.tpol_tree.specs.declared.wishes.ObjectPublicText.{ObjectPublicText}
 use Rattle.tpol_tree.specs.declared.wishes.NvPublicText.{NvPublicText}
@@ -77,7 +81,7 @@ key_by_public-fits walk d place = all_then (Leaving ObjectBack walk) (Leaving Fi
 pub key-fits : (third : List ℕ) (d : Data) (place : Place) (walk : Walk) → AllFound (Leaving FitsKey walk) (key_in third d place walk)
 unfolding key_among
 key-fits third d place walk =
-    all_ways (Leaving FitsKey walk) ((codes "keyPath", λ e p. still (key_by_path e p) walk) ∷ (codes "keyPublic", key_by_public walk) ∷ (third, key_by_public walk) ∷ []) (at_member place (codes "keyPath")) d place
+    all_ways (Leaving FitsKey walk) Twice ((codes "keyPath", λ e p. still (key_by_path e p) walk) ∷ (codes "keyPublic", key_by_public walk) ∷ (third, key_by_public walk) ∷ []) (Missing, at_member place (codes "keyPath")) d place
     (λ e p. all_still FitsKey (key_by_path e p) walk (key_by_path-fits e p), (key_by_public-fits walk, (key_by_public-fits walk, tt)))
 
 pub key-back : (third : List ℕ) (k : KeyWish) (d : Data) (place : Place) (walk : Walk) → FitsKey k → HasKey third k d → key_in third d place walk ≡ Ok (k, walk)
@@ -104,7 +108,7 @@ index_by_public-fits walk d place = all_then (Leaving IndexAreaBack walk) (Leavi
 pub index-fits : (d : Data) (place : Place) (walk : Walk) → AllFound (Leaving FitsIndex walk) (index_in d place walk)
 unfolding index_among
 index-fits d place walk =
-    all_ways (Leaving FitsIndex walk) ((codes "nvPath", λ e p. still (index_by_path e p) walk) ∷ (codes "nvPublic", index_by_public walk) ∷ []) (at_member place (codes "nvPath")) d place
+    all_ways (Leaving FitsIndex walk) Twice ((codes "nvPath", λ e p. still (index_by_path e p) walk) ∷ (codes "nvPublic", index_by_public walk) ∷ []) (Missing, at_member place (codes "nvPath")) d place
     (λ e p. all_still FitsIndex (index_by_path e p) walk (index_by_path-fits e p), (index_by_public-fits walk, tt))
 
 pub index-back : (i : IndexWish) (d : Data) (place : Place) (walk : Walk) → FitsIndex i → HasIndex i d → index_in d place walk ≡ Ok (i, walk)
@@ -139,7 +143,7 @@ full_name-back d place =
 pub entity-fits : (d : Data) (place : Place) → AllFound FitsEntity (entity_in d place)
 unfolding entity_among
 entity-fits d place =
-    all_ways FitsEntity ((codes "objectPath", entity_by_path) ∷ (codes "objectName", entity_by_name) ∷ []) (at_member place (codes "objectPath")) d place (
+    all_ways FitsEntity Twice ((codes "objectPath", entity_by_path) ∷ (codes "objectName", entity_by_name) ∷ []) (Missing, at_member place (codes "objectPath")) d place (
       λ e p. all_after FitsEntity (text_in e p) _ (λ path. tt {0}),
       (λ e p. all_then (λ name. (other : Place) → full_name_in (name_value name) other ≡ Ok name) FitsEntity (full_name_in e p) _ (full_name-back e p) (λ name back. back), tt),
     )
@@ -173,9 +177,9 @@ parent_by_name-fits d place = all_then NameBack FitsParent (name_in d place) _ (
 pub parent-fits : (d : Data) (place : Place) (walk : Walk) → AllFound (Leaving FitsParent walk) (parent_in d place walk)
 unfolding parent_among
 parent-fits d place walk =
-    all_ways (Leaving FitsParent walk)
+    all_ways (Leaving FitsParent walk) Twice
     ((codes "newParentPath", λ e p. still (parent_by_path e p) walk) ∷ (codes "newParentPublic", parent_by_public walk) ∷ (codes "newParentName", λ e p. still (parent_by_name e p) walk) ∷ [])
-    (at_member place (codes "newParentPath")) d place (
+    (Missing, at_member place (codes "newParentPath")) d place (
       λ e p. all_still FitsParent (parent_by_path e p) walk (parent_by_path-fits e p),
       (parent_by_public-fits walk, (λ e p. all_still FitsParent (parent_by_name e p) walk (parent_by_name-fits e p), tt)),
     )
@@ -230,9 +234,10 @@ HasNames (names.Digest digest) d = (get (codes "nameHash") d ≡ Some (hex_text 
 HasNames (names.Names list) d = (get (codes "nameHash") d ≡ None) × (get (codes "objectNames") d ≡ Some (list_of (map name_value list))) × (get (codes "namePaths") d ≡ None)
 HasNames (names.Paths paths) d = (get (codes "nameHash") d ≡ None) × (get (codes "objectNames") d ≡ None) × (get (codes "namePaths") d ≡ Some (list_of (map string paths)))
 
-three-fits : (ds : Option Items) (place : Place) → AllFound (λ items. is_one_to_three (items_count items) ≡ true) (three_at_most ds place)
-three-fits None place = tt {0}
-three-fits (Some ds) place = all_if (λ items. is_one_to_three (items_count items) ≡ true) (is_one_to_three (items_count ds)) (Ok ds) _ (λ test. test) (tt {0})
+three-fits : (d : Data) (place : Place) → AllFound (λ items. is_one_to_three (items_count items) ≡ true) (one_to_three d place)
+three-fits d place =
+    all_after (λ items. is_one_to_three (items_count items) ≡ true) (items_in d place) _
+    (λ ds. all_if (λ items. is_one_to_three (items_count items) ≡ true) (is_one_to_three (items_count ds)) (Ok ds) _ (λ test. test) (tt {0}))
 
 three-back : {A : Type 0} (write : A → Data) (xs : List A) (place : Place) → is_one_to_three (length xs) ≡ true → one_to_three (list_of (map write xs)) place ≡ Ok (items_of (map write xs))
 three-back write xs place few =
@@ -240,7 +245,7 @@ three-back write xs place few =
 
 listed-fits : {A : Type 0} (P : A → Type 0) (read : Data → Place → Found A) → ((d : Data) (place : Place) → AllFound P (read d place)) → (d : Data) (place : Place) → AllFound (λ xs. Each P xs × (is_one_to_three (length xs) ≡ true)) (one_to_three d place >>= λ ds. each_from read [] 0 ds place)
 listed-fits P read reads d place =
-    all_then (λ items. is_one_to_three (items_count items) ≡ true) (λ xs. Each P xs × (is_one_to_three (length xs) ≡ true)) (one_to_three d place) _ (three-fits (as_array d) place)
+    all_then (λ items. is_one_to_three (items_count items) ≡ true) (λ xs. Each P xs × (is_one_to_three (length xs) ≡ true)) (one_to_three d place) _ (three-fits d place)
     (λ ds few. all_map (λ xs. Each P xs × (length xs ≡ 0 + items_count ds)) _ (each_from read [] 0 ds place) (each_from-fits P read reads [] 0 ds place (tt {0}))
     (λ xs are. let count : length xs ≡ items_count ds = omega (arith, are.1) in (are.0, ap is_one_to_three count ∙ few)))
 
@@ -264,7 +269,7 @@ names_by_paths-fits d place =
 pub names-fits : (d : Data) (place : Place) → AllFound FitsNames (names_in d place)
 unfolding names_among
 names-fits d place =
-    all_ways FitsNames ((codes "nameHash", names_by_digest) ∷ (codes "objectNames", names_by_names) ∷ (codes "namePaths", names_by_paths) ∷ []) (at_member place (codes "nameHash")) d place
+    all_ways FitsNames Twice ((codes "nameHash", names_by_digest) ∷ (codes "objectNames", names_by_names) ∷ (codes "namePaths", names_by_paths) ∷ []) (Missing, at_member place (codes "nameHash")) d place
     (λ e p. all_then FitsDigest FitsNames (digest_in e p) _ (digest-fits e p) (λ digest fits. fits), (names_by_names-fits, (names_by_paths-fits, tt)))
 
 names_by_names-back : (list : List Name) (place : Place) → FitsNames (names.Names list) → names_by_names (list_of (map name_value list)) place ≡ Ok (names.Names list)

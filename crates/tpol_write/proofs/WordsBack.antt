@@ -13,21 +13,26 @@ use Rattle.serde_json.specs.Data.{Data, string}
 use Rattle.serde_json.specs.Find.{as_str}
 use Rattle.tpol_base.specs.declared.compare.Compare.{Compare}
 use Rattle.tpol_base.specs.declared.compare.Compare.TheVariants.{Eq, Neq, SignedGt, UnsignedGt, SignedLt, UnsignedLt, SignedGe, UnsignedGe, SignedLe, UnsignedLe, BitSet, BitClear}
-use Rattle.tpol_write.proofs.BytesBack.{unsigned-fits}
+use Rattle.tpol_base.specs.CommandCode.{command_codes, find_name}
+use Rattle.tpol_base.specs.Compare.{name_of_compare}
+use Rattle.tpol_elements.proofs.Limits.{Is32, code-fits}
+use Rattle.tpol_write.proofs.BytesBack.{as_member}
 use Rattle.tpol_json.specs.Numbers.{number_of_text, is_hex_digit, within}
 use Rattle.tpol_json.specs.Reading as json
 use Rattle.tpol_json.specs.declared.fault.JsonKind.TheVariants.{BadNumber}
-use Rattle.tpol_json.specs.Words.{same_word}
+use Rattle.tpol_json.specs.Words.{find_word, same_word}
 use Rattle.tpol_json.specs.declared.place.Place.{Place}
-use Rattle.tpol_read.proofs.AllFound.{AllFound, all_map}
-use Rattle.tpol_elements.specs.Faults.{Found, ◌>>=◌, read_as}
-use Rattle.tpol_elements.specs.Numbers.{operation_in, code_in, u32_in}
-use Rattle.tpol_elements.specs.Words.{command_codes, find_word, found_or, word_in}
-use Rattle.tpol_write.specs.Names.{operation_name, code_text, find_name, name_or_digits}
+use Rattle.tpol_json.proofs.AllFound.{AllFound, all_map}
+use Rattle.tpol_base.specs.Answers.{◌>>=◌}
+use Rattle.tpol_elements.specs.Faults.{Found, read_as}
+use Rattle.tpol_elements.specs.Operations.{operation_in, code_in}
+use Rattle.tpol_elements.specs.Values.{u32_in}
+use Rattle.tpol_elements.specs.Words.{found_or}
+use Rattle.tpol_write.specs.Names.{code_text, name_or_digits}
 
 -- ---- comparisons
 
-pub operation_back : (operation : Compare) (place : Place) → operation_in (string (operation_name operation)) place ≡ Ok operation
+pub operation_back : (operation : Compare) (place : Place) → operation_in (string (name_of_compare operation)) place ≡ Ok operation
 unfolding find_word
 operation_back Eq place = refl
 operation_back Neq place = refl
@@ -42,49 +47,8 @@ operation_back UnsignedLe place = refl
 operation_back BitSet place = refl
 operation_back BitClear place = refl
 
--- ---- what is read as a code has 32 bits
-
 abbrev Table : Type 0
 Table = List (List ℕ × ℕ)
-
--- a number of 32 bits
-abbrev Is32 : ℕ → Type 0
-Is32 n = n < 2 ^ 32
-
--- what is there, if anything, is so
-abbrev AllSome : {A : Type 0} → (A → Type 0) → Option A → Type 0
-AllSome P (Some x) = P x
-AllSome P None = Unit {0}
-
-some_if : {A : Type 0} (P : A → Type 0) (test : Bool) (one other : Option A) → AllSome P one → AllSome P other → AllSome P (if test then one else other)
-some_if P true one other all others = all
-some_if P false one other all others = others
-
-all_found_or : {A : Type 0} (P : A → Type 0) (o : Option A) (otherwise : Found A) → AllSome P o → AllFound P otherwise → AllFound P (found_or o otherwise)
-all_found_or P (Some x) otherwise all others = all
-all_found_or P None otherwise all others = others
-
--- each number of the table has 32 bits
-abbrev all_32 : Table → Bool
-all_32 [] = true
-all_32 (word ∷ words) = nat_lt word.1 (2 ^ 32) && all_32 words
-
-word-fits : (prefix : List ℕ) (words : Table) (text : List ℕ) → all_32 words ≡ true → AllSome Is32 (find_word prefix words text)
-unfolding find_word
-word-fits prefix [] text h = tt {0}
-word-fits prefix (word ∷ words) text h =
-    let parts = and_parts (nat_lt word.1 (2 ^ 32)) (all_32 words) h in
-    some_if Is32 (same_word text prefix word.0) (Some word.1) (find_word prefix words text) (ltb-true word.1 (2 ^ 32) parts.0) (word-fits prefix words text parts.1)
-
-text-fits : (prefix : List ℕ) (words : Table) (o : Option (List ℕ)) → all_32 words ≡ true → AllSome Is32 (option_and_then (find_word prefix words) o)
-text-fits prefix words (Some text) h = word-fits prefix words text h
-text-fits prefix words None h = tt {0}
-
-code-fits : (d : Data) (place : Place) → AllFound Is32 (code_in d place)
-code-fits d place =
-    all_found_or Is32 (word_in (codes "TPM2_CC_") command_codes d) (u32_in d place)
-    (text-fits (codes "TPM2_CC_") command_codes (as_str d) refl)
-    (all_map (λ n. (0 ≤ n) × (n ≤ 2 ^ 32 - 1)) Is32 (u32_in d place) (unsigned-fits 0 (2 ^ 32 - 1) d place) (λ n limits. omega (arith, limits.1)))
 
 -- ---- names of codes
 
@@ -176,8 +140,8 @@ code_number code small =
 
 digits-back : (code : ℕ) (place : Place) → Is32 code → u32_in (string (digits_text code)) place ≡ Ok code
 digits-back code place small =
-    ap (λ o. read_as (within (pos 0) (pos (2 ^ 32 - 1)) o place) >>= λ n. Ok (unsigned_abs n)) (code_number code small)
-    ∙ ap (λ r. read_as r >>= λ n. Ok (unsigned_abs n))
+    ap (λ o. read_as (as_member (within (pos 0) (pos (2 ^ 32 - 1)) o place) >>= λ n. Ok (unsigned_abs n))) (code_number code small)
+    ∙ ap (λ r. read_as (as_member r >>= λ n. Ok (unsigned_abs n)))
     (cond-true (nat_le 0 code && nat_le code (2 ^ 32 - 1)) (Ok (pos code)) (json.bad BadNumber place)
     (and_from (nat_le 0 code) (nat_le code (2 ^ 32 - 1)) (le-leb 0 code (omega arith)) (le-leb code (2 ^ 32 - 1) (omega arith))))
 

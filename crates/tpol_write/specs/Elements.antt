@@ -10,7 +10,8 @@ use Rattle.tpol_tree.specs.declared.policy.Element.{Element}
 use Rattle.tpol_tree.specs.declared.policy.Element.TheVariants.{Or, Pcr, Nv, Secret, Signed, Authorize, AuthorizeNv, Locality, CommandCode, CpHash, NameHash, CounterTimer, Duplication, NvWritten, AuthValue, Password, PhysicalPresence}
 use Rattle.tpol_tree.specs.declared.policy.Elements.{Elements}
 use Rattle.tpol_tree.specs.declared.policy.Elements.TheVariants.{End as no_elements, More' as one_element}
-use Rattle.tpol_write.specs.Names.{operation_name, code_text}
+use Rattle.tpol_base.specs.Compare.{name_of_compare}
+use Rattle.tpol_write.specs.Names.{code_text}
 use Rattle.tpol_write.specs.Objects.{Entry, object_of, hex_text, natural, integer, list_of}
 use Rattle.tpol_write.specs.Wishes.{name_value, key_member, index_member, entity_member, parent_member, names_member, pcrs_member, cp_hash_members}
 
@@ -21,7 +22,7 @@ typed name entries = object_of ((codes "type", string name) ∷ entries)
 abbrev pub comparison_members : List ℕ → ℕ → Compare → List Entry
 comparison_members operand offset operation =
     (codes "operandB", hex_text operand) ∷ (codes "offset", natural offset)
-    ∷ (codes "operation", string (operation_name operation)) ∷ []
+    ∷ (codes "operation", string (name_of_compare operation)) ∷ []
 
 abbrev pub signing_members : List ℕ → Option Digest32 → ℤ → List Entry
 signing_members policy_ref cp_hash expiration =

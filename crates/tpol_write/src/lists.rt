@@ -50,7 +50,7 @@ fn name_list(alloc: Global, names: &[Name]) -> Result<Value, NoMemory>
 {
     let mut list = Vec::new(alloc);
     for name in names {
-        let text = hex::encode(alloc, name.to_bytes(alloc)?.as_slice())?;
+        let text = hex::encode(alloc, name.bytes().as_slice())?;
         list.push(Value::String(text))?;
     }
     Ok(Value::Array(list))

@@ -8,7 +8,7 @@ ghost use Rattle.tpol_write.specs.Elements.{comparison_members, element_value, s
 ghost use Rattle.tpol_write.specs.Objects.{with_members};
 
 use crate::lists::{put_names, put_pcrs};
-use crate::names::{code_text, operation_name};
+use crate::names::code_text;
 use crate::object::{Object, put_hex, put_number, put_text, put_truth};
 use crate::wishes::{put_cp_hash, put_entity, put_index, put_key, put_name, put_parent};
 use serde_json::Value;
@@ -203,7 +203,7 @@ fn put_comparison(
 {
     put_hex(object, alloc, "operandB", operand.as_slice())?;
     put_number(object, alloc, "offset", u32::from(offset))?;
-    put_text(object, alloc, "operation", operation_name(operation))
+    put_text(object, alloc, "operation", operation.name())
 }
 
 // The members of PolicySecret and PolicySigned but for the entity or key.

@@ -1,249 +1,121 @@
-//! The canonical text of policies that are written out by hand.
+//! Documents in other spellings, each with the canonical text that is written out by hand.
 
 use crate::write_policy;
-use std::alloc::{AllocError, Global};
-use std::process::Abort;
+use std::alloc::Global;
 use std::test::Fail;
-use tpol_base::{Blob, Compare, Digest32, Name, Sequence, Text};
-use tpol_tree::{
-    ApprovalWish, Branch, Branches, Element, Elements, EntityWish, IndexWish, KeyWish, NamesWish,
-    NvPublicText, ObjectPublicText, ParentWish, PcrWish, Policy,
-};
+use tpol_base::Blob;
+use tpol_read::read_policy;
 
-const ONES: Digest32 = Digest32 { bytes: [0x11; 32] };
-
-fn before(alloc: Global, element: Element, rest: Elements) -> Result<Elements, AllocError> {
-    Ok(Elements::More(Box::new(alloc, element)?, Box::new(alloc, rest)?))
+// The canonical text of a document.
+fn canonical(alloc: Global, document: &str) -> Result<Blob, Fail> {
+    let (policy, _notes) = read_policy(alloc, document.as_bytes())
+        .ok()
+        .ok_or("refused")?;
+    Ok(write_policy(alloc, &policy)?)
 }
 
-fn policy(alloc: Global, elements: Elements) -> Policy {
-    Policy {
-        description: Text::new(alloc),
-        elements,
-        approvals: Sequence::new(alloc),
-    }
-}
-
-#[test]
-fn small_policies(rt: HostRuntime) -> Result<(), Fail> {
-    let alloc = rt.alloc();
-    let elements = before(alloc, Element::AuthValue, Elements::End)?;
-    assert_eq!(rt;
-        write_policy(alloc, &policy(alloc, elements))?.as_slice(),
-        b"{\"description\":\"\",\"policy\":[{\"type\":\"POLICYAUTHVALUE\"}]}".as_slice()
-    );
-    let elements = before(alloc, Element::CommandCode(0x15e), Elements::End)?;
-    assert_eq!(rt;
-        write_policy(alloc, &policy(alloc, elements))?.as_slice(),
-        b"{\"description\":\"\",\"policy\":[{\"code\":\"Unseal\",\"type\":\"POLICYCOMMANDCODE\"}]}".as_slice()
-    );
-    Ok(())
-}
-
-fn key(alloc: Global) -> Result<KeyWish, Fail> {
-    Ok(KeyWish::Public(ObjectPublicText {
-        attributes: 0x40040,
-        auth_policy: Blob::new(alloc),
-        hmac: true,
-        unique: Blob::from_slice(alloc, &[0x11; 32])?,
-    }))
-}
-
-fn check(rt: &(impl Abort + AllocGlobal), element: Element, members: &str) -> Result<(), Fail> {
-    let alloc = rt.alloc();
-    let elements = before(alloc, element, Elements::End)?;
-    let text = write_policy(alloc, &policy(alloc, elements))?;
-    let wanted = format!(in alloc; "{{\"description\":\"\",\"policy\":[{{{members}}}]}}")?;
-    assert!(rt; text.as_slice() == wanted.as_bytes(), "{members}");
-    Ok(())
-}
-
-#[test]
-fn comparisons_and_signatures(rt: HostRuntime) -> Result<(), Fail> {
-    let alloc = rt.alloc();
-    let element = Element::Pcr(PcrWish::Current(0x8000_0101));
-    check(
-        &rt,
-        element,
-        "\"currentPCRs\":[0,8,31],\"type\":\"POLICYPCR\"",
-    )?;
-    let element = Element::Nv {
-        index: IndexWish::Path(Text::from_str(alloc, "/nv/a")?),
-        operand: Blob::from_slice(alloc, &[0xab, 1])?,
-        offset: 3,
-        operation: Compare::UnsignedGe,
-    };
-    check(
-        &rt,
-        element,
-        "\"nvPath\":\"/nv/a\",\"offset\":3,\"operandB\":\"ab01\",\"operation\":\"UNSIGNED_GE\",\"type\":\"POLICYNV\"",
-    )?;
-    let element = Element::Secret {
-        entity: EntityWish::Named(Name::Handle(0x4000000b)),
-        policy_ref: Blob::from_slice(alloc, &[0xff])?,
-        cp_hash: None,
-        expiration: -1,
-    };
-    check(
-        &rt,
-        element,
-        "\"expiration\":-1,\"objectName\":\"4000000b\",\"policyRef\":\"ff\",\"type\":\"POLICYSECRET\"",
-    )?;
-    let element = Element::Signed {
-        key: key(alloc)?,
-        policy_ref: Blob::new(alloc),
-        cp_hash: Some(ONES),
-        expiration: 0,
-    };
-    check(
-        &rt,
-        element,
-        "\"cpHashA\":\"1111111111111111111111111111111111111111111111111111111111111111\",\"expiration\":0,\"keyPublic\":{\"authPolicy\":\"\",\"nameAlg\":\"SHA256\",\"objectAttributes\":262208,\"scheme\":\"HMAC\",\"type\":\"KEYEDHASH\",\"unique\":\"1111111111111111111111111111111111111111111111111111111111111111\"},\"policyRef\":\"\",\"type\":\"POLICYSIGNED\"",
-    )?;
-    let element = Element::Authorize {
-        key: KeyWish::Path(Text::from_str(alloc, "a\"b")?),
-        policy_ref: Blob::new(alloc),
-    };
-    check(
-        &rt,
-        element,
-        "\"keyPath\":\"a\\\"b\",\"policyRef\":\"\",\"type\":\"POLICYAUTHORIZE\"",
-    )?;
-    Ok(())
-}
-
-#[test]
-fn authorizations_and_codes(rt: HostRuntime) -> Result<(), Fail> {
-    let alloc = rt.alloc();
-    let element = Element::AuthorizeNv {
-        index: IndexWish::Public(NvPublicText {
-            index: 0x01000001,
-            attributes: 6,
-            auth_policy: Blob::new(alloc),
-            size: 34,
-        }),
-    };
-    check(
-        &rt,
-        element,
-        "\"nvPublic\":{\"attributes\":6,\"authPolicy\":\"\",\"dataSize\":34,\"nameAlg\":\"SHA256\",\"nvIndex\":16777217},\"type\":\"POLICYAUTHORIZENV\"",
-    )?;
-    let element = Element::Locality(31);
-    check(&rt, element, "\"locality\":31,\"type\":\"POLICYLOCALITY\"")?;
-    let element = Element::CommandCode(0x18e);
-    check(
-        &rt,
-        element,
+// The members of an element in another spelling, and as canonical text has them.
+const ELEMENTS: [(&str, &str); 21] = [
+    ("\"type\":\"authvalue\"", "\"type\":\"POLICYAUTHVALUE\""),
+    (
+        "\"type\":\"CommandCode\",\"code\":\"tpm2_cc_UNSEAL\"",
+        "\"code\":\"Unseal\",\"type\":\"POLICYCOMMANDCODE\"",
+    ),
+    (
+        "\"type\":\"CommandCode\",\"code\":398",
         "\"code\":\"0x0000018e\",\"type\":\"POLICYCOMMANDCODE\"",
-    )?;
-    let element = Element::CpHash(ONES);
-    check(
-        &rt,
-        element,
-        "\"cpHash\":\"1111111111111111111111111111111111111111111111111111111111111111\",\"type\":\"POLICYCPHASH\"",
-    )?;
-    let element = Element::NameHash(NamesWish::Digest(ONES));
-    check(
-        &rt,
-        element,
-        "\"nameHash\":\"1111111111111111111111111111111111111111111111111111111111111111\",\"type\":\"POLICYNAMEHASH\"",
-    )?;
-    Ok(())
-}
-
-#[test]
-fn other_rows(rt: HostRuntime) -> Result<(), Fail> {
-    let alloc = rt.alloc();
-    let element = Element::CounterTimer {
-        operand: Blob::new(alloc),
-        offset: 0,
-        operation: Compare::Eq,
-    };
-    check(
-        &rt,
-        element,
-        "\"offset\":0,\"operandB\":\"\",\"operation\":\"EQ\",\"type\":\"POLICYCOUNTERTIMER\"",
-    )?;
-    let element = Element::Duplication {
-        object: Name::Empty,
-        parent: ParentWish::Named(Name::Hash(ONES)),
-        include: false,
-    };
-    check(
-        &rt,
-        element,
-        "\"includeObject\":false,\"newParentName\":\"000b1111111111111111111111111111111111111111111111111111111111111111\",\"objectName\":\"\",\"type\":\"POLICYDUPLICATIONSELECT\"",
-    )?;
-    let element = Element::NvWritten(true);
-    check(
-        &rt,
-        element,
-        "\"type\":\"POLICYNVWRITTEN\",\"writtenSet\":true",
-    )?;
-    let element = Element::Password;
-    check(&rt, element, "\"type\":\"POLICYPASSWORD\"")?;
-    let element = Element::PhysicalPresence;
-    check(&rt, element, "\"type\":\"POLICYPHYSICALPRESENCE\"")?;
-    Ok(())
-}
-
-#[test]
-fn lists_and_branches(rt: HostRuntime) -> Result<(), Fail> {
-    let alloc = rt.alloc();
-    let mut values = Sequence::new(alloc);
-    values.push((7u8, ONES))?;
-    let pcrs = Element::Pcr(PcrWish::Values(values));
-    check(
-        &rt,
-        pcrs,
+    ),
+    (
+        "\"type\":\"PCR\",\"currentPCRs\":[31,8,0]",
+        "\"currentPCRs\":[0,8,31],\"type\":\"POLICYPCR\"",
+    ),
+    (
+        "\"type\":\"PCR\",\"pcrs\":[{\"pcr\":7,\"hashAlg\":11,\"digest\":\"1111111111111111111111111111111111111111111111111111111111111111\"}]",
         "\"pcrs\":[{\"digest\":\"1111111111111111111111111111111111111111111111111111111111111111\",\"hashAlg\":\"SHA256\",\"pcr\":7}],\"type\":\"POLICYPCR\"",
-    )?;
-    let mut names = Sequence::new(alloc);
-    names.push(Name::Handle(0x40000001))?;
-    names.push(Name::Empty)?;
-    let names = Element::NameHash(NamesWish::Names(names));
-    check(
-        &rt,
-        names,
+    ),
+    (
+        "\"type\":\"NV\",\"nvPath\":\"/nv/a\",\"operandB\":[171,1],\"offset\":3,\"operation\":7",
+        "\"nvPath\":\"/nv/a\",\"offset\":3,\"operandB\":\"ab01\",\"operation\":\"UNSIGNED_GE\",\"type\":\"POLICYNV\"",
+    ),
+    (
+        "\"type\":\"SECRET\",\"objectName\":\"0x4000000B\",\"policyRef\":\"FF\",\"expiration\":-1",
+        "\"expiration\":-1,\"objectName\":\"4000000b\",\"policyRef\":\"ff\",\"type\":\"POLICYSECRET\"",
+    ),
+    (
+        "\"type\":\"SIGNED\",\"publicKey\":{\"publicArea\":{\"type\":8,\"nameAlg\":\"sha256\",\"objectAttributes\":262208,\"scheme\":\"tpm2_alg_hmac\",\"unique\":\"1111111111111111111111111111111111111111111111111111111111111111\"}},\"cpHashA\":\"1111111111111111111111111111111111111111111111111111111111111111\"",
+        "\"cpHashA\":\"1111111111111111111111111111111111111111111111111111111111111111\",\"expiration\":0,\"keyPublic\":{\"authPolicy\":\"\",\"nameAlg\":\"SHA256\",\"objectAttributes\":262208,\"scheme\":\"HMAC\",\"type\":\"KEYEDHASH\",\"unique\":\"1111111111111111111111111111111111111111111111111111111111111111\"},\"policyRef\":\"\",\"type\":\"POLICYSIGNED\"",
+    ),
+    (
+        "\"type\":\"AUTHORIZE\",\"keyPath\":\"a\\\"b\"",
+        "\"keyPath\":\"a\\\"b\",\"policyRef\":\"\",\"type\":\"POLICYAUTHORIZE\"",
+    ),
+    (
+        "\"type\":\"AUTHORIZENV\",\"nvPublic\":{\"nvIndex\":\"0x1000001\",\"nameAlg\":11,\"attributes\":6,\"dataSize\":34}",
+        "\"nvPublic\":{\"attributes\":6,\"authPolicy\":\"\",\"dataSize\":34,\"nameAlg\":\"SHA256\",\"nvIndex\":16777217},\"type\":\"POLICYAUTHORIZENV\"",
+    ),
+    (
+        "\"type\":\"LOCALITY\",\"locality\":[\"four\",\"THREE\",\"TPM2_LOC_TWO\",\"ONE\",\"ZERO\"]",
+        "\"locality\":31,\"type\":\"POLICYLOCALITY\"",
+    ),
+    (
+        "\"type\":\"CPHASH\",\"cpHash\":\"1111111111111111111111111111111111111111111111111111111111111111\"",
+        "\"cpHash\":\"1111111111111111111111111111111111111111111111111111111111111111\",\"type\":\"POLICYCPHASH\"",
+    ),
+    (
+        "\"type\":\"NAMEHASH\",\"nameHash\":\"1111111111111111111111111111111111111111111111111111111111111111\"",
+        "\"nameHash\":\"1111111111111111111111111111111111111111111111111111111111111111\",\"type\":\"POLICYNAMEHASH\"",
+    ),
+    (
+        "\"type\":\"NAMEHASH\",\"objectNames\":[\"40000001\",\"\"]",
         "\"objectNames\":[\"40000001\",\"\"],\"type\":\"POLICYNAMEHASH\"",
-    )?;
-    let mut paths = Sequence::new(alloc);
-    paths.push(Text::from_str(alloc, "HS/key")?)?;
-    let paths = Element::NameHash(NamesWish::Paths(paths));
-    check(
-        &rt,
-        paths,
+    ),
+    (
+        "\"type\":\"NAMEHASH\",\"namePaths\":[\"HS/key\"]",
         "\"namePaths\":[\"HS/key\"],\"type\":\"POLICYNAMEHASH\"",
-    )?;
-    let branch = Branch {
-        name: Text::from_str(alloc, "a")?,
-        description: Text::new(alloc),
-        elements: before(alloc, Element::AuthValue, Elements::End)?,
-    };
-    let end = Box::new(alloc, Branches::End)?;
-    let or = Element::Or(Branches::More(Box::new(alloc, branch)?, end));
-    check(
-        &rt,
-        or,
-        "\"branches\":[{\"description\":\"\",\"name\":\"a\",\"policy\":[{\"type\":\"POLICYAUTHVALUE\"}]}],\"type\":\"POLICYOR\"",
-    )
+    ),
+    (
+        "\"type\":\"COUNTERTIMER\",\"operandB\":\"\"",
+        "\"offset\":0,\"operandB\":\"\",\"operation\":\"EQ\",\"type\":\"POLICYCOUNTERTIMER\"",
+    ),
+    (
+        "\"type\":\"DUPLICATIONSELECT\",\"newParentName\":\"000b1111111111111111111111111111111111111111111111111111111111111111\"",
+        "\"includeObject\":false,\"newParentName\":\"000b1111111111111111111111111111111111111111111111111111111111111111\",\"objectName\":\"\",\"type\":\"POLICYDUPLICATIONSELECT\"",
+    ),
+    (
+        "\"type\":\"NVWRITTEN\"",
+        "\"type\":\"POLICYNVWRITTEN\",\"writtenSet\":true",
+    ),
+    ("\"type\":\"PASSWORD\"", "\"type\":\"POLICYPASSWORD\""),
+    (
+        "\"type\":\"PHYSICALPRESENCE\"",
+        "\"type\":\"POLICYPHYSICALPRESENCE\"",
+    ),
+    (
+        "\"type\":\"OR\",\"branches\":[{\"name\":\"a\",\"policy\":[{\"type\":\"AUTHVALUE\"}]},{\"policy\":[{\"type\":\"PASSWORD\"}]}]",
+        "\"branches\":[{\"description\":\"\",\"name\":\"a\",\"policy\":[{\"type\":\"POLICYAUTHVALUE\"}]},{\"description\":\"\",\"name\":\"\",\"policy\":[{\"type\":\"POLICYPASSWORD\"}]}],\"type\":\"POLICYOR\"",
+    ),
+];
+
+#[test]
+fn each_type_of_element(rt: HostRuntime) -> Result<(), Fail> {
+    let alloc = rt.alloc();
+    for (members, wanted) in ELEMENTS {
+        let document = format!(in alloc; "{{\"policy\":[{{{members}}}]}}")?;
+        let wanted = format!(in alloc; "{{\"description\":\"\",\"policy\":[{{{wanted}}}]}}")?;
+        let text = canonical(alloc, document.as_str())?;
+        assert!(rt; text.as_slice() == wanted.as_bytes(), "{members}");
+    }
+    Ok(())
 }
 
 #[test]
-fn approvals(rt: HostRuntime) -> Result<(), Fail> {
-    let alloc = rt.alloc();
-    let mut policy = policy(alloc, before(alloc, Element::AuthValue, Elements::End)?);
-    policy.approvals.push(ApprovalWish::ByKey {
-        key: KeyWish::Path(Text::from_str(alloc, "k")?),
-        policy_ref: Blob::new(alloc),
-        signature: ONES,
-    })?;
-    policy.approvals.push(ApprovalWish::ByIndex {
-        index: IndexWish::Path(Text::from_str(alloc, "n")?),
-    })?;
-    let text = write_policy(alloc, &policy)?;
+fn authorizations(rt: HostRuntime) -> Result<(), Fail> {
+    let text = canonical(
+        rt.alloc(),
+        "{\"policyAuthorizations\":[{\"type\":\"TPM\",\"keyPath\":\"k\",\"signature\":\"1111111111111111111111111111111111111111111111111111111111111111\"},{\"type\":\"nv\",\"nvPath\":\"n\"}],\"policy\":[{\"type\":\"AUTHVALUE\"}],\"description\":\"d\"}",
+    )?;
     let wanted =
-        "{\"description\":\"\",\"policy\":[{\"type\":\"POLICYAUTHVALUE\"}],\"policyAuthorizations\":[{\"keyPath\":\"k\",\"policyRef\":\"\",\"signature\":\"1111111111111111111111111111111111111111111111111111111111111111\",\"type\":\"tpm\"},{\"nvPath\":\"n\",\"type\":\"nv\"}]}";
+        "{\"description\":\"d\",\"policy\":[{\"type\":\"POLICYAUTHVALUE\"}],\"policyAuthorizations\":[{\"keyPath\":\"k\",\"policyRef\":\"\",\"signature\":\"1111111111111111111111111111111111111111111111111111111111111111\",\"type\":\"tpm\"},{\"nvPath\":\"n\",\"type\":\"nv\"}]}";
     assert!(rt; text.as_slice() == wanted.as_bytes());
     Ok(())
 }

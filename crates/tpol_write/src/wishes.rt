@@ -74,7 +74,7 @@ pub fn put_name(
     ensures { OnOk result (members_view object.new.entries
         ≡ with_member member.now (name_value name.now) (members_view object.old.entries)) }
 {
-    put_hex(object, alloc, member, name.to_bytes(alloc)?.as_slice())
+    put_hex(object, alloc, member, name.bytes().as_slice())
 }
 
 /// Sets `cpHashA`, where it is there.

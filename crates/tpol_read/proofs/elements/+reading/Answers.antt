@@ -1,7 +1,8 @@
 use Rattle.std.proofs.Common.{◌∙◌, sym, ap, subst}
 use Rattle.serde_json.proofs.Views.{view-Array}
 use Rattle.serde_json.specs.View.{view}
-use Rattle.tpol_read.specs.Elements.{LeavesAs, element_at}
+use Rattle.tpol_read.specs.Elements.{element_at}
+use Rattle.tpol_elements.specs.Walks.{LeavesAs}
 use Rattle.tpol_read.proofs.ItemLists.{elements_in-each}
 use Rattle.tpol_read.proofs.elements.+reading.Goals as goal
 use Rattle.tpol_elements.specs.Faults.{Found}

@@ -2,7 +2,7 @@
 use Rattle.std.proofs.Common.{◌≡◌, suc, List, [], ◌∷◌, length, refl, ap}
 use Rattle.serde_json.specs.View.{items_view}
 use Rattle.serde_json.specs.declared.value.Value.{Value}
-use Rattle.tpol_elements.specs.Wishes.{items_count}
+use Rattle.tpol_json.specs.Members.{items_count}
 
 pub items_count-items_view : (values : List Value) → items_count (items_view values) ≡ length values
 items_count-items_view [] = refl

@@ -1,16 +1,17 @@
--- Each OR of what is read has 2 to 8 branches, and each list of PCR values is rising.
+-- Each element of what is read is sound: an OR has 2 to 64 branches, PCR values rise, and fields are within bounds.
 use Rattle.std.proofs.Common.{◌≡◌, ℕ, zero, suc, ◌+◌, ◌-◌, ◌==◌, ◌&&◌, Bool, true, false, nat_le, codes, List, Option, Some, None, Ok, refl, sym, ap, subst, arith}
 use Rattle.std.proofs.lemmas.Bool.{leb-true}
 use Rattle.serde_json.specs.Data.{Data, Items, no_items, item}
 use Rattle.serde_json.specs.Find.{get, as_array}
+use Rattle.tpol_json.specs.Members.{items_count}
 use Rattle.tpol_json.specs.declared.place.Place.{Place}
 use Rattle.tpol_json.specs.Places.{root, at_member, at_item}
-use Rattle.tpol_read.proofs.AllFound.{AllFound, all_after, all_then, all_map, all_if}
-use Rattle.tpol_read.proofs.Leaves.{LeavesLeaf, leaf_row-leaf}
+use Rattle.tpol_json.proofs.AllFound.{AllFound, all_after, all_then, all_map, all_if}
+use Rattle.tpol_read.proofs.Leaves.{IsSound, LeavesLeaf, leaf_row-leaf}
 use Rattle.tpol_read.specs.Approvals.{approvals_member}
 use Rattle.tpol_read.specs.Documents.{start, document_in, policy_of}
 use Rattle.tpol_read.specs.Elements.{element_type_in, leaf_element, element_of_type, element_by, counted, elements_from, elements_of, elements_in, policy_member, description_member, name_member, branch_in, branches_from, is_branch_count, branches_of, branches_in, or_by, or_at, element_at, max_levels}
-use Rattle.tpol_read.specs.RisingPcrs.{HasRisingPcrs, ElementHasRisingPcrs, BranchesHaveRisingPcrs}
+use Rattle.tpol_read.specs.RisingPcrs.{HasRisingPcrs}
 use Rattle.tpol_elements.specs.declared.types.ElementType.{ElementType}
 use Rattle.tpol_elements.specs.declared.types.ElementType.TheVariants as types
 use Rattle.tpol_elements.specs.declared.types.LeafType.{LeafType}
@@ -18,9 +19,9 @@ use Rattle.tpol_elements.specs.declared.walk.Walk.{Walk}
 use Rattle.tpol_elements.specs.Members.{object_in, read_needed}
 use Rattle.tpol_elements.specs.Rows.{leaf_row}
 use Rattle.tpol_elements.specs.Walks.{Reading}
-use Rattle.tpol_elements.specs.Wishes.{items_count}
-use Rattle.tpol_tree.specs.BranchCounts.{branch_count, EachOrHasBranches, ElementHasBranches, BranchesHaveBranches}
-use Rattle.tpol_tree.specs.Closed.{IsBranchCount}
+use Rattle.tpol_tree.proofs.EachElement.{EachElement-map}
+use Rattle.tpol_tree.specs.Bounds.{ElementHasBounds}
+use Rattle.tpol_tree.specs.Elements.{EachElement, EachElementWithin, EachElementOfBranches, HasBranchCounts, IsBranchCount, branch_count}
 use Rattle.tpol_tree.specs.Erased.{erased_element, erased_elements, erased_branches}
 use Rattle.tpol_tree.specs.declared.policy.Branch.{Branch}
 use Rattle.tpol_tree.specs.declared.policy.Branches.{Branches}
@@ -38,76 +39,48 @@ branch_count-erased (branches.More' p name description es q rest) = ap (λ n. n 
 
 -- wherever a policy lies
 mutual
-  pub elements-lying : (es : Elements) → EachOrHasBranches (erased_elements es) → EachOrHasBranches es
-  elements-lying elements.End has = tt {0}
-  elements-lying (elements.More' p e q rest) has = (element-lying e has.0, elements-lying rest has.1)
+  elements-lying : (es : Elements) → EachElement IsSound (erased_elements es) → EachElement IsSound es
+  elements-lying elements.End is = tt {0}
+  elements-lying (elements.More' p e q rest) is = (element-lying e is.0, elements-lying rest is.1)
 
-  element-lying : (e : Element) → ElementHasBranches (erased_element e) → ElementHasBranches e
-  element-lying (Or bs) has = (subst IsBranchCount (branch_count-erased bs) has.0, branches-lying bs has.1)
-  element-lying (Pcr wish) has = tt {0}
-  element-lying (Nv index operand offset operation) has = tt {0}
-  element-lying (Secret entity policy_ref cp_hash expiration) has = tt {0}
-  element-lying (Signed key policy_ref cp_hash expiration) has = tt {0}
-  element-lying (Authorize key policy_ref) has = tt {0}
-  element-lying (AuthorizeNv index) has = tt {0}
-  element-lying (Locality localities) has = tt {0}
-  element-lying (CommandCode code) has = tt {0}
-  element-lying (CpHash digest) has = tt {0}
-  element-lying (NameHash wish) has = tt {0}
-  element-lying (CounterTimer operand offset operation) has = tt {0}
-  element-lying (Duplication object parent include) has = tt {0}
-  element-lying (NvWritten written) has = tt {0}
-  element-lying AuthValue has = tt {0}
-  element-lying Password has = tt {0}
-  element-lying PhysicalPresence has = tt {0}
+  element-lying : (e : Element) → EachElementWithin IsSound (erased_element e) → EachElementWithin IsSound e
+  element-lying (Or bs) is = ((subst IsBranchCount (branch_count-erased bs) is.0.0, tt {0}, tt {0}), branches-lying bs is.1)
+  element-lying (Pcr wish) is = is
+  element-lying (Nv index operand offset operation) is = is
+  element-lying (Secret entity policy_ref cp_hash expiration) is = is
+  element-lying (Signed key policy_ref cp_hash expiration) is = is
+  element-lying (Authorize key policy_ref) is = is
+  element-lying (AuthorizeNv index) is = is
+  element-lying (Locality localities) is = is
+  element-lying (CommandCode code) is = is
+  element-lying (CpHash digest) is = is
+  element-lying (NameHash wish) is = is
+  element-lying (CounterTimer operand offset operation) is = is
+  element-lying (Duplication object parent include) is = is
+  element-lying (NvWritten written) is = is
+  element-lying AuthValue is = is
+  element-lying Password is = is
+  element-lying PhysicalPresence is = is
 
-  branches-lying : (bs : Branches) → BranchesHaveBranches (erased_branches bs) → BranchesHaveBranches bs
-  branches-lying branches.End has = tt {0}
-  branches-lying (branches.More' p name description es q rest) has = (elements-lying es has.0, branches-lying rest has.1)
-
-mutual
-  elements-rising : (es : Elements) → HasRisingPcrs (erased_elements es) → HasRisingPcrs es
-  elements-rising elements.End rising = tt {0}
-  elements-rising (elements.More' p e q rest) rising = (element-rising e rising.0, elements-rising rest rising.1)
-
-  element-rising : (e : Element) → ElementHasRisingPcrs (erased_element e) → ElementHasRisingPcrs e
-  element-rising (Or bs) rising = branches-rising bs rising
-  element-rising (Pcr wish) rising = rising
-  element-rising (Nv index operand offset operation) rising = tt {0}
-  element-rising (Secret entity policy_ref cp_hash expiration) rising = tt {0}
-  element-rising (Signed key policy_ref cp_hash expiration) rising = tt {0}
-  element-rising (Authorize key policy_ref) rising = tt {0}
-  element-rising (AuthorizeNv index) rising = tt {0}
-  element-rising (Locality localities) rising = tt {0}
-  element-rising (CommandCode code) rising = tt {0}
-  element-rising (CpHash digest) rising = tt {0}
-  element-rising (NameHash wish) rising = tt {0}
-  element-rising (CounterTimer operand offset operation) rising = tt {0}
-  element-rising (Duplication object parent include) rising = tt {0}
-  element-rising (NvWritten written) rising = tt {0}
-  element-rising AuthValue rising = tt {0}
-  element-rising Password rising = tt {0}
-  element-rising PhysicalPresence rising = tt {0}
-
-  branches-rising : (bs : Branches) → BranchesHaveRisingPcrs (erased_branches bs) → BranchesHaveRisingPcrs bs
-  branches-rising branches.End rising = tt {0}
-  branches-rising (branches.More' p name description es q rest) rising = (elements-rising es rising.0, branches-rising rest rising.1)
+  branches-lying : (bs : Branches) → EachElementOfBranches IsSound (erased_branches bs) → EachElementOfBranches IsSound bs
+  branches-lying branches.End is = tt {0}
+  branches-lying (branches.More' p name description es q rest) is = (elements-lying es is.0, branches-lying rest is.1)
 
 -- what an element, a list of elements, a branch, a list of so many branches and an OR are to be, each with a walk
 abbrev pub ElementIsSo : Element × Walk → Type 0
-ElementIsSo found = ElementHasBranches found.0 × ElementHasRisingPcrs found.0
+ElementIsSo found = EachElementWithin IsSound found.0
 
 abbrev pub ElementsAreSo : Elements × Walk → Type 0
-ElementsAreSo found = EachOrHasBranches found.0 × HasRisingPcrs found.0
+ElementsAreSo found = EachElement IsSound found.0
 
 abbrev pub BranchIsSo : Branch × Walk → Type 0
-BranchIsSo found = EachOrHasBranches found.0.elements × HasRisingPcrs found.0.elements
+BranchIsSo found = EachElement IsSound found.0.elements
 
 abbrev pub BranchesAreSo : ℕ → Branches × Walk → Type 0
-BranchesAreSo count found = (branch_count found.0 ≡ count) × BranchesHaveBranches found.0 × BranchesHaveRisingPcrs found.0
+BranchesAreSo count found = (branch_count found.0 ≡ count) × EachElementOfBranches IsSound found.0
 
 abbrev pub OrIsSo : Branches × Walk → Type 0
-OrIsSo found = IsBranchCount (branch_count found.0) × BranchesHaveBranches found.0 × BranchesHaveRisingPcrs found.0
+OrIsSo found = IsBranchCount (branch_count found.0) × EachElementOfBranches IsSound found.0
 
 -- a reading that finds only such elements
 abbrev pub ReadsSo : (Data → Place → Reading Element) → Type 0
@@ -119,10 +92,10 @@ counted-so read so d place walk = all_if ElementIsSo (walk.left == 0) _ _ (λ _.
 
 elements_from-so : (read : Data → Place → Reading Element) → ReadsSo read → (index : ℕ) (ds : Items) (place : Place) (walk : Walk) → AllFound ElementsAreSo (elements_from read index ds place walk)
 unfolding elements_from
-elements_from-so read so index no_items place walk = (tt {0}, tt {0})
+elements_from-so read so index no_items place walk = tt {0}
 elements_from-so read so index (item d ds) place walk =
     all_then ElementIsSo ElementsAreSo (counted read d (at_item place index) walk) _ (counted-so read so d (at_item place index) walk)
-    (λ first is. all_then ElementsAreSo ElementsAreSo (elements_from read (suc index) ds place first.1) _ (elements_from-so read so (suc index) ds place first.1) (λ rest are. ((is.0, are.0), (is.1, are.1))))
+    (λ first is. all_then ElementsAreSo ElementsAreSo (elements_from read (suc index) ds place first.1) _ (elements_from-so read so (suc index) ds place first.1) (λ rest are. (is, are)))
 
 elements_of-so : (read : Data → Place → Reading Element) → ReadsSo read → (items : Option Items) (place : Place) (walk : Walk) → AllFound ElementsAreSo (elements_of read items place walk)
 elements_of-so read so None place walk = tt {0}
@@ -145,11 +118,11 @@ branch_in-so read so d place walk =
 
 branches_from-so : (read : Data → Place → Reading Element) → ReadsSo read → (index : ℕ) (ds : Items) (place : Place) (walk : Walk) → AllFound (BranchesAreSo (items_count ds)) (branches_from read index ds place walk)
 unfolding branches_from
-branches_from-so read so index no_items place walk = (refl, tt {0}, tt {0})
+branches_from-so read so index no_items place walk = (refl, tt {0})
 branches_from-so read so index (item d ds) place walk =
     all_then BranchIsSo (BranchesAreSo (suc (items_count ds))) (branch_in read d (at_item place index) walk) _ (branch_in-so read so d (at_item place index) walk)
     (λ first is. all_then (BranchesAreSo (items_count ds)) (BranchesAreSo (suc (items_count ds))) (branches_from read (suc index) ds place first.1) _ (branches_from-so read so (suc index) ds place first.1)
-    (λ rest are. (let same : branch_count rest.0 ≡ items_count ds = are.0 in omega arith, (is.0, are.1), (is.1, are.2))))
+    (λ rest are. (let same : branch_count rest.0 ≡ items_count ds = are.0 in omega arith, (is, are.1))))
 
 first_test : (x y : Bool) → (x && y) ≡ true → x ≡ true
 first_test true y both = refl
@@ -160,13 +133,13 @@ second_test true y both = both
 second_test false y both = cc
 
 within : (count : ℕ) → is_branch_count count ≡ true → IsBranchCount count
-within count test = (leb-true 2 count (first_test (nat_le 2 count) (nat_le count 8) test), leb-true count 8 (second_test (nat_le 2 count) (nat_le count 8) test))
+within count test = (leb-true 2 count (first_test (nat_le 2 count) (nat_le count 64) test), leb-true count 64 (second_test (nat_le 2 count) (nat_le count 64) test))
 
 branches_of-so : (read : Data → Place → Reading Element) → ReadsSo read → (items : Option Items) (place : Place) (walk : Walk) → AllFound OrIsSo (branches_of read items place walk)
 branches_of-so read so None place walk = tt {0}
 branches_of-so read so (Some ds) place walk =
     all_if OrIsSo (is_branch_count (items_count ds)) (branches_from read 0 ds place walk) _
-    (λ test. all_map (BranchesAreSo (items_count ds)) OrIsSo (branches_from read 0 ds place walk) (branches_from-so read so 0 ds place walk) (λ found are. (subst IsBranchCount (sym are.0) (within (items_count ds) test), are.1, are.2)))
+    (λ test. all_map (BranchesAreSo (items_count ds)) OrIsSo (branches_from read 0 ds place walk) (branches_from-so read so 0 ds place walk) (λ found are. (subst IsBranchCount (sym are.0) (within (items_count ds) test), are.1)))
     (tt {0})
 
 branches-so : (read : Data → Place → Reading Element) → ReadsSo read → (list : Option Data) (place : Place) (walk : Walk) → AllFound OrIsSo (read_needed (λ e p. branches_in read e p walk) list place)
@@ -177,11 +150,11 @@ branches-so read so (Some d) place walk = branches_of-so read so (as_array d) pl
 leaf_element-so : (leaf : LeafType) (d : Data) (place : Place) (walk : Walk) → AllFound ElementIsSo (leaf_element leaf d place walk)
 unfolding leaf_element
 leaf_element-so leaf d place walk =
-    all_then LeavesLeaf ElementIsSo (leaf_row leaf d place walk) _ (leaf_row-leaf leaf d place walk) (λ found is. (is.1, is.2))
+    all_then LeavesLeaf ElementIsSo (leaf_row leaf d place walk) _ (leaf_row-leaf leaf d place walk) (λ found is. is.1)
 
 element_of_type-so : (or : Data → Place → Reading Branches) → ((d : Data) (place : Place) (walk : Walk) → AllFound OrIsSo (or d place walk)) → (type : ElementType) → ReadsSo (element_of_type or type)
 unfolding element_of_type
-element_of_type-so or so types.Or d place walk = all_then OrIsSo ElementIsSo (or d place walk) _ (so d place walk) (λ found is. ((is.0, is.1), is.2))
+element_of_type-so or so types.Or d place walk = all_then OrIsSo ElementIsSo (or d place walk) _ (so d place walk) (λ found is. ((is.0, tt {0}, tt {0}), is.1))
 element_of_type-so or so (types.Leaf leaf) d place walk = leaf_element-so leaf d place walk
 element_of_type-so or so types.Unsupported d place walk = tt {0}
 
@@ -196,7 +169,7 @@ or_at-so (suc levels) d place walk =
     branches-so (element_by (or_at levels)) (element_by-so (or_at levels) (or_at-so levels)) (get (codes "branches") d) (at_member place (codes "branches")) walk
 
 abbrev pub PolicyIsSo : Policy × Walk → Type 0
-PolicyIsSo found = EachOrHasBranches found.0.elements × HasRisingPcrs found.0.elements
+PolicyIsSo found = EachElement IsSound found.0.elements
 
 document_in-so : (d : Data) (place : Place) (walk : Walk) → AllFound PolicyIsSo (document_in d place walk)
 unfolding document_in policy_member
@@ -208,13 +181,22 @@ document_in-so d place walk =
     (λ found are. all_after PolicyIsSo (approvals_member d place found.1) _ (λ _. are))))
 
 -- the elements that a document says, wherever they lie
-pub elements-so : (d : Data) (place : Place) (walk after : Walk) (es : Elements) (description : List ℕ) (approvals : List ApprovalWish) → document_in d place walk ≡ Ok (record { description = description; elements = erased_elements es; approvals = approvals }, after) → EachOrHasBranches es × HasRisingPcrs es
-elements-so d place walk after es description approvals says =
-    let so = subst (AllFound PolicyIsSo) says (document_in-so d place walk) in (elements-lying es so.0, elements-rising es so.1)
+pub elements-so : (d : Data) (place : Place) (walk after : Walk) (es : Elements) (description : List ℕ) (approvals : List ApprovalWish) → document_in d place walk ≡ Ok (record { description = description; elements = erased_elements es; approvals = approvals }, after) → EachElement IsSound es
+elements-so d place walk after es description approvals says = elements-lying es (subst (AllFound PolicyIsSo) says (document_in-so d place walk))
 
 -- the same of a policy with the notes on it
-pub policy_of-so : (d : Data) (found : Policy × List Place) → policy_of d ≡ Ok found → EachOrHasBranches found.0.elements × HasRisingPcrs found.0.elements
+pub policy_of-so : (d : Data) (found : Policy × List Place) → policy_of d ≡ Ok found → EachElement IsSound found.0.elements
 unfolding policy_of
 policy_of-so d found says =
-    subst (AllFound (λ (f : Policy × List Place). EachOrHasBranches f.0.elements × HasRisingPcrs f.0.elements)) says
-    (all_then PolicyIsSo (λ (f : Policy × List Place). EachOrHasBranches f.0.elements × HasRisingPcrs f.0.elements) (document_in d root start) _ (document_in-so d root start) (λ found is. is))
+    subst (AllFound (λ (f : Policy × List Place). EachElement IsSound f.0.elements)) says
+    (all_then PolicyIsSo (λ (f : Policy × List Place). EachElement IsSound f.0.elements) (document_in d root start) _ (document_in-so d root start) (λ found is. is))
+
+-- its three facts
+pub has_branch_counts : (es : Elements) → EachElement IsSound es → HasBranchCounts es
+has_branch_counts = EachElement-map (λ element is. is.0)
+
+pub has_rising_pcrs : (es : Elements) → EachElement IsSound es → HasRisingPcrs es
+has_rising_pcrs = EachElement-map (λ element is. is.1)
+
+pub has_bounds : (es : Elements) → EachElement IsSound es → EachElement ElementHasBounds es
+has_bounds = EachElement-map (λ element is. is.2)

@@ -1,7 +1,7 @@
 use Rattle.std.proofs.Common.{◌≡◌, drop}
 use Rattle.serde_json.specs.View.{items_view}
-use Rattle.tpol_elements.specs.Numbers.{localities_from}
-use Rattle.tpol_elements.proofs.numbers.locality_list.Given as goal
+use Rattle.tpol_elements.specs.Localities.{localities_from}
+use Rattle.tpol_elements.proofs.localities.locality_list.Given as goal
 
 -- the localities so far with those to come are all of them
 abbrev pub invariant-loop-index : goal.invariant-loop-index
