@@ -1,0 +1,4 @@
+pub mod CounterLemmas
+pub mod FillLemmas
+pub mod SceneIndices
+pub mod TableLemmas

@@ -1,0 +1,5 @@
+pub mod Contents
+pub mod Counters
+pub mod Indices
+pub mod Rules
+pub mod Tables
