@@ -1,7 +1,7 @@
 -- A table by handle, read and written by key, against the list of its indices.
-use Rattle.std.proofs.Common.{◌≡◌, ℕ, zero, suc, ◌+◌, ◌/◌, ◌%◌, ◌^◌, ◌<◌, ◌≤◌, ◌==◌, nat_eq, Bool, true, false, cond, List, [], ◌∷◌, ◌++◌, length, map, take, drop, get_or, Option, Some, None, IsSome, refl, sym, ap, subst, ◌∙◌, arith}
+use Rattle.std.proofs.Common.{◌≡◌, ℕ, zero, suc, ◌+◌, ◌/◌, ◌%◌, ◌^◌, ◌≤◌, nat_eq, Bool, true, false, cond, List, [], ◌∷◌, ◌++◌, length, take, drop, Option, Some, None, IsSome, refl, sym, ap, subst, ◌∙◌, arith}
 use Rattle.std.specs.Option.{option_copied}
-use Rattle.std.specs.Prelude.{All, bit_or, find, if◌then◌else◌}
+use Rattle.std.specs.Prelude.{All, bit_or}
 use Rattle.std.specs.List.{AllByRecursion, IsDistinct}
 use Rattle.std.specs.Map.{keys_of, values_of, lookup, set_value}
 use Rattle.std.proofs.lemmas.Bool.{eqb-true}
@@ -9,10 +9,10 @@ use Rattle.std.proofs.lemmas.List.{length-append, length-drop, length-take-le}
 use Rattle.std.proofs.lemmas.Nat.{or_mod, or_shr}
 use Rattle.std.specs.Borrow.{Bor}
 use Rattle.std.specs.Int.Bits.{or_zero_r}
-use Rattle.tpol_base.specs.Attributes.{index_type, nt_counter, nv_written}
+use Rattle.tpol_base.specs.Attributes.{index_type, nv_written}
 use Rattle.tpol_name.specs.declared.entries.IndexEntry.{IndexEntry}
 use Rattle.tpm_nv.specs.Contents.{HasContent, spliced, written_entry}
-use Rattle.tpm_nv.specs.Indices.{changed_at, index_of, written_at}
+use Rattle.tpm_nv.specs.Indices.{changed_at, index_of}
 use Rattle.tpm_nv.specs.Tables.{IsByHandle, IsUnderHandle}
 
 -- what holds of each of a list holds of its first, and of each of the rest

@@ -1,5 +1,5 @@
 -- The rules of NV_Read, NV_Write and NV_Increment (TPM 2.0 Part 3): the code of the first that is broken.
-use Rattle.std.specs.Prelude.{ℕ, ◌+◌, ◌-◌, ◌^◌, ◌==◌, ◌&&◌, ◌||◌, not, nat_lt, Option, Some, None, if◌then◌else◌}
+use Rattle.std.specs.Prelude.{ℕ, ◌+◌, ◌-◌, ◌^◌, ◌==◌, ◌&&◌, not, nat_lt, Option, Some, None, if◌then◌else◌}
 use Rattle.tpol_base.specs.Attributes.{has_attribute, index_type, nt_counter, nt_ordinary, nv_writeall}
 use Rattle.tpol_base.specs.ResponseCode.{of_handle, of_parameter, rc_attributes, rc_nv_range, rc_nv_uninitialized, rc_value}
 use Rattle.tpol_name.specs.declared.entries.IndexEntry.{IndexEntry}

@@ -1,4 +1,4 @@
-use Rattle.std.proofs.Common.{◌∙◌, sym, ap, Some}
+use Rattle.std.proofs.Common.{◌∙◌, sym, ap}
 use Rattle.std.specs.Option.{option_copied}
 use Rattle.tpm_nv.proofs.TableLemmas.{found_under, found_index, is_copied}
 use Rattle.tpm_nv.proofs.table.NvTable.entry_at.Goals as goal

@@ -1,4 +1,4 @@
-use Rattle.std.proofs.Common.{◌≡◌, ◌≤◌, ◌+◌, ◌∙◌, length, sym, ap, subst, true≢false, Option, Some, None, IsSome}
+use Rattle.std.proofs.Common.{◌≤◌, ◌+◌, ◌∙◌, length, sym, ap, subst, true≢false, Option, Some, None}
 use Rattle.std.specs.Option.{is_some}
 use Rattle.std.specs.Prelude.{IfSome}
 use Rattle.tpol_name.specs.declared.entries.IndexEntry.{IndexEntry}
