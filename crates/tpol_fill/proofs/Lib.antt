@@ -1,4 +1,7 @@
+pub mod BoundLemmas
 pub mod EachFault
-pub mod ErasedLemmas
+pub mod FilledErased
+pub mod GroupLemmas
+pub mod MaskLemmas
 pub mod WellFormedLemmas
 mod Worked

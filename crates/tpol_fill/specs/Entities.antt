@@ -1,6 +1,6 @@
 -- The Names of what a policy names by a path or by a public area. Without a sight only the hierarchies are
 -- there.
-use Rattle.std.specs.Prelude.{ℕ, Bool, true, false, ◌&&◌, ◌==◌, not, List, [], Option, Some, None, Result, Ok, Err, find, codes, bit_and, if◌then◌else◌}
+use Rattle.std.specs.Prelude.{ℕ, Bool, true, false, List, [], Option, Some, None, Result, Ok, Err, if◌then◌else◌}
 use Rattle.std.specs.Result.{result_unwrap_or}
 use Rattle.tpol_base.specs.declared.name.Name.{Name}
 use Rattle.tpol_base.specs.declared.name.Name.TheVariants.{Empty, Handle}
@@ -13,8 +13,8 @@ use Rattle.tpol_name.specs.declared.areas.Scheme.TheVariants.{Sealed, HmacKey}
 use Rattle.tpol_name.specs.declared.entries.IndexEntry.{IndexEntry}
 use Rattle.tpol_name.specs.declared.entries.ObjectEntry.{ObjectEntry}
 use Rattle.tpol_name.specs.declared.sight.Sight.{Sight}
-use Rattle.tpol_name.specs.Areas.{index_name, object_name, with_written}
-use Rattle.tpol_name.specs.Paths.{is_same_path}
+use Rattle.tpol_name.specs.Areas.{index_name, is_signing_key, object_name, with_written}
+use Rattle.tpol_name.specs.Entities.{hierarchy_at, index_at, object_at}
 use Rattle.tpol_tree.specs.declared.wishes.EntityWish.{EntityWish}
 use Rattle.tpol_tree.specs.declared.wishes.EntityWish.TheVariants.{Path as EntityPath, Named as EntityNamed}
 use Rattle.tpol_tree.specs.declared.wishes.IndexWish.{IndexWish}
@@ -26,13 +26,6 @@ use Rattle.tpol_tree.specs.declared.wishes.ObjectPublicText.{ObjectPublicText}
 use Rattle.tpol_tree.specs.declared.wishes.ParentWish.{ParentWish}
 use Rattle.tpol_tree.specs.declared.wishes.ParentWish.TheVariants.{Path as ParentPath, Public as ParentPublic, Named as ParentNamed}
 
--- the handle of the hierarchy that has this path: owner, endorsement, lockout
-abbrev pub hierarchy_at : List ℕ → Option ℕ
-hierarchy_at path =
-    if is_same_path (codes "HS") path then Some 0x40000001
-    else (if is_same_path (codes "HE") path then Some 0x4000000b
-    else (if is_same_path (codes "LOCKOUT") path then Some 0x4000000a else None))
-
 -- the objects and the indices that are there
 abbrev pub objects_of : Option Sight → List ObjectEntry
 objects_of None = []
@@ -41,13 +34,6 @@ objects_of (Some sight) = sight.objects
 abbrev pub indices_of : Option Sight → List IndexEntry
 indices_of None = []
 indices_of (Some sight) = sight.indices
-
--- the first object and the first index that have this path
-abbrev pub object_at : Option Sight → List ℕ → Option ObjectEntry
-object_at sight path = find (λ object. is_same_path object.path path) (objects_of sight)
-
-abbrev pub index_at : Option Sight → List ℕ → Option IndexEntry
-index_at sight path = find (λ index. is_same_path index.path path) (indices_of sight)
 
 -- public areas as they are written
 abbrev pub scheme_of : Bool → Scheme
@@ -70,15 +56,6 @@ index_area_of text = record {
   size = text.size;
 }
 
--- whether an object is an HMAC key that may sign: its attribute sign is bit 18 (TPM 2.0 Part 2,
--- TPMA_OBJECT)
-abbrev pub is_hmac : Scheme → Bool
-is_hmac Sealed = false
-is_hmac HmacKey = true
-
-abbrev pub is_signing_key : ObjectPublic → Bool
-is_signing_key public = is_hmac public.scheme && not (bit_and public.attributes 0x40000 == 0)
-
 -- a Name, or why there is none
 abbrev pub Named : Type 0
 Named = Result Name FillKind
@@ -97,7 +74,7 @@ found_key_name (Some object) = signing_key_name object.public
 
 -- the Name of a key
 abbrev pub key_name : KeyWish → Option Sight → Named
-key_name (KeyPath path) sight = found_key_name (object_at sight path)
+key_name (KeyPath path) sight = found_key_name (object_at (objects_of sight) path)
 key_name (KeyPublic text) sight = signing_key_name (object_area_of text)
 
 abbrev pub found_index_name : Option IndexEntry → Named
@@ -106,7 +83,7 @@ found_index_name (Some index) = Ok (index_name (with_written index.public))
 
 -- the Name of an index: of one named by path that of the written index, of a public area as it is given
 abbrev pub name_of_index_wish : IndexWish → Option Sight → Named
-name_of_index_wish (IndexPath path) sight = found_index_name (index_at sight path)
+name_of_index_wish (IndexPath path) sight = found_index_name (index_at (indices_of sight) path)
 name_of_index_wish (IndexPublic text) sight = Ok (index_name (index_area_of text))
 
 abbrev pub found_object_name : Option ObjectEntry → Named → Named
@@ -121,7 +98,7 @@ found_hierarchy_name (Some handle) other = Ok (Handle handle)
 abbrev pub path_name : List ℕ → Option Sight → Named
 path_name path sight =
     found_hierarchy_name (hierarchy_at path)
-    (found_object_name (object_at sight path) (found_index_name (index_at sight path)))
+    (found_object_name (object_at (objects_of sight) path) (found_index_name (index_at (indices_of sight) path)))
 
 -- the Name of an entity
 abbrev pub entity_name : EntityWish → Option Sight → Named
@@ -130,6 +107,6 @@ entity_name (EntityNamed name) sight = Ok name
 
 -- the Name of a new parent, which may be any object
 abbrev pub parent_name : ParentWish → Option Sight → Named
-parent_name (ParentPath path) sight = found_object_name (object_at sight path) (Err NoSuchPath)
+parent_name (ParentPath path) sight = found_object_name (object_at (objects_of sight) path) (Err NoSuchPath)
 parent_name (ParentPublic text) sight = Ok (object_name (object_area_of text))
 parent_name (ParentNamed name) sight = Ok name

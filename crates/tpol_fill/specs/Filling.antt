@@ -1,14 +1,14 @@
 -- What a policy is with every wish given, and each place that has no value.
-use Rattle.std.specs.Prelude.{◌≡◌, ⊤, ℕ, ◌+◌, ◌%◌, ◌/◌, ◌^◌, ◌==◌, Bool, true, false, List, [], ◌∷◌, ◌++◌, Option, Some, None, Result, Ok, Err, codes, map, filter, nat_lt, slice_get, fold, bit_or, if◌then◌else◌}
-use Rattle.std.specs.List.{flat_map, range_with_len}
+use Rattle.std.specs.Prelude.{◌≡◌, ⊤, ℕ, ◌+◌, ◌^◌, Bool, true, false, List, [], ◌∷◌, ◌++◌, Option, Some, None, Result, Ok, Err, codes, map, slice_get, fold, bit_or, if◌then◌else◌}
+use Rattle.std.specs.List.{flat_map}
 use Rattle.std.specs.Result.{result_unwrap_or}
 use Rattle.tpol_base.specs.declared.digest.Digest32.{Digest32}
 use Rattle.tpol_base.specs.declared.name.Name.{Name}
+use Rattle.tpol_base.specs.Handle.{is_pcr}
 use Rattle.tpol_base.specs.Name.{name_bytes}
+use Rattle.tpol_base.specs.Pcr.{pcrs_of_mask}
 use Rattle.tpol_digest.specs.Digest.{zero_digest}
 use Rattle.tpol_digest.specs.Update.{joined}
-use Rattle.tpol_fill.specs.declared.fault.FillFault.{FillFault}
-use Rattle.tpol_fill.specs.declared.fault.FillFault.TheVariants.{Bad}
 use Rattle.tpol_fill.specs.declared.fault.FillKind.{FillKind}
 use Rattle.tpol_fill.specs.declared.fault.FillKind.TheVariants.{NoSuchPcr, VoidPrefix}
 use Rattle.tpol_hash.specs.Sha256.{sha256_digest}
@@ -19,7 +19,6 @@ use Rattle.tpol_tree.specs.declared.closed.Assertion.{Assertion}
 use Rattle.tpol_tree.specs.declared.closed.Assertion.TheVariants as closed
 use Rattle.tpol_tree.specs.declared.closed.Closed.{Closed}
 use Rattle.tpol_tree.specs.declared.closed.ClosedBranches.{ClosedBranches}
-use Rattle.tpol_tree.specs.declared.closed.ClosedBranches.TheVariants.{More' as MoreClosedBranches', End as EndClosedBranches}
 use Rattle.tpol_tree.specs.declared.closed.ClosedElement.{ClosedElement}
 use Rattle.tpol_tree.specs.declared.closed.ClosedElement.TheVariants.{Assert, Or as ClosedOr, Authorize as ClosedAuthorize, AuthorizeNv as ClosedAuthorizeNv}
 use Rattle.tpol_tree.specs.declared.closed.ClosedElements.{ClosedElements}
@@ -40,18 +39,13 @@ use Rattle.tpol_tree.specs.declared.wishes.NamesWish.TheVariants.{Digest, Names,
 use Rattle.tpol_tree.specs.declared.wishes.PcrWish.{PcrWish}
 use Rattle.tpol_tree.specs.declared.wishes.PcrWish.TheVariants.{Values, Current}
 use Rattle.tpol_fill.specs.Entities.{entity_name, key_name, name_of_index_wish, or_empty, parent_name, path_name}
-use Rattle.tpol_fill.specs.Erased.{erased, erased_branches, erased_element, erased_elements}
+use Rattle.tpol_tree.specs.ClosedErased.{erased_element, erased_elements}
 use Rattle.tpol_tree.specs.Erased.{nowhere}
-use Rattle.tpol_fill.specs.Outcome.{Fills, each_fault, faults_of}
+use Rattle.tpol_fill.specs.Groups.{NamedBranch, branches_in, branches_of, grouped}
+use Rattle.tpol_fill.specs.declared.fault.FillFault.{FillFault}
+use Rattle.tpol_fill.specs.Outcome.{Fault, Fills, each_fault, faults_of, first_of}
 
 -- ---- PCRs
-
--- the numbers of a set's PCRs, in rising order: bit n for PCR n, 0 to 31
-abbrev pub is_in_mask : ℕ → ℕ → Bool
-is_in_mask mask pcr = mask / 2 ^ pcr % 2 == 1
-
-unfoldable pub pcrs_of_mask : ℕ → List ℕ
-pcrs_of_mask mask = filter (is_in_mask mask) (range_with_len 0 32)
 
 -- the set of these PCRs
 abbrev pub mask_of_pcrs : List ℕ → ℕ
@@ -69,7 +63,7 @@ found_value (Some value) = Ok value
 -- the current value of a PCR, of which there are 24
 abbrev pub current_value : Option Sight → ℕ → Result Digest32 FillKind
 current_value sight pcr =
-    if nat_lt pcr 24 then found_value (slice_get (pcr_values_of sight) pcr) else Err NoSuchPcr
+    if is_pcr pcr then found_value (slice_get (pcr_values_of sight) pcr) else Err NoSuchPcr
 
 abbrev pub or_zero : Result Digest32 FillKind → Digest32
 or_zero value = result_unwrap_or value zero_digest
@@ -84,14 +78,14 @@ filled_pcrs (Values values) sight = pcr_assertion (mask_of_pcrs (map (λ v. v.0)
 filled_pcrs (Current mask) sight = pcr_assertion mask (map (λ pcr. or_zero (current_value sight pcr)) (pcrs_of_mask mask))
 
 -- a written value has to be that of one of 24 PCRs
-abbrev pub value_faults : Place → ℕ → ℕ × Digest32 → List FillFault
+abbrev pub value_faults : Place → ℕ → ℕ × Digest32 → List Fault
 value_faults list n value =
-    if nat_lt value.0 24 then [] else Bad NoSuchPcr (at_member (at_item list n) (codes "pcr")) ∷ []
+    if is_pcr value.0 then [] else (NoSuchPcr, at_member (at_item list n) (codes "pcr")) ∷ []
 
-abbrev pub current_faults : Option Sight → Place → ℕ → ℕ → List FillFault
+abbrev pub current_faults : Option Sight → Place → ℕ → ℕ → List Fault
 current_faults sight list n pcr = faults_of (current_value sight pcr) (at_item list n)
 
-abbrev pub pcr_faults : Option Sight → Place → PcrWish → List FillFault
+abbrev pub pcr_faults : Option Sight → Place → PcrWish → List Fault
 pcr_faults sight place (Values values) = each_fault (value_faults (at_member place (codes "pcrs"))) 0 values
 pcr_faults sight place (Current mask) =
     each_fault (current_faults sight (at_member place (codes "currentPCRs"))) 0 (pcrs_of_mask mask)
@@ -107,10 +101,10 @@ filled_names (Digest digest) sight = digest
 filled_names (Names names) sight = names_digest names
 filled_names (Paths paths) sight = names_digest (map (λ path. or_empty (path_name path sight)) paths)
 
-abbrev pub path_faults : Option Sight → Place → ℕ → List ℕ → List FillFault
+abbrev pub path_faults : Option Sight → Place → ℕ → List ℕ → List Fault
 path_faults sight list n path = faults_of (path_name path sight) (at_item list n)
 
-abbrev pub names_faults : Option Sight → Place → NamesWish → List FillFault
+abbrev pub names_faults : Option Sight → Place → NamesWish → List Fault
 names_faults sight place (Digest digest) = []
 names_faults sight place (Names names) = []
 names_faults sight place (Paths paths) = each_fault (path_faults sight (at_member place (codes "namePaths"))) 0 paths
@@ -124,15 +118,16 @@ abbrev pub index_member : IndexWish → List ℕ
 index_member (IndexPath path) = codes "nvPath"
 index_member (IndexPublic text) = codes "nvPublic"
 
-abbrev pub key_faults : Option Sight → Place → KeyWish → List FillFault
+abbrev pub key_faults : Option Sight → Place → KeyWish → List Fault
 key_faults sight place wish = faults_of (key_name wish sight) (at_member place (key_member wish))
 
-abbrev pub index_faults : Option Sight → Place → IndexWish → List FillFault
+abbrev pub index_faults : Option Sight → Place → IndexWish → List Fault
 index_faults sight place wish = faults_of (name_of_index_wish wish sight) (at_member place (index_member wish))
 
 -- ---- policies
 
--- the same policy with every wish given; what has no value is empty or zero
+-- the same policy with every wish given, and each OR of more than eight branches as an OR of groups; what
+-- has no value is empty or zero
 abbrev mutual
   pub filled_elements : Option Sight → Elements → ClosedElements
   filled_elements sight End = EndClosed
@@ -140,7 +135,7 @@ abbrev mutual
       MoreClosed' nowhere (filled_element sight element) nowhere (filled_elements sight rest)
 
   pub filled_element : Option Sight → Element → ClosedElement
-  filled_element sight (Or branches) = ClosedOr (filled_branches sight branches)
+  filled_element sight (Or branches) = ClosedOr (branches_of (grouped (filled_branches sight branches)))
   filled_element sight (Authorize key policy_ref) = ClosedAuthorize (or_empty (key_name key sight)) policy_ref
   filled_element sight (AuthorizeNv index) = ClosedAuthorizeNv (or_empty (name_of_index_wish index sight))
   filled_element sight (Pcr wish) = Assert (filled_pcrs wish sight)
@@ -163,29 +158,29 @@ abbrev mutual
   filled_element sight Password = Assert closed.Password
   filled_element sight PhysicalPresence = Assert closed.PhysicalPresence
 
-  pub filled_branches : Option Sight → Branches → ClosedBranches
-  filled_branches sight EndBranches = EndClosedBranches
+  pub filled_branches : Option Sight → Branches → List NamedBranch
+  filled_branches sight EndBranches = []
   filled_branches sight (MoreBranches' p name description elements q rest) =
-      MoreClosedBranches' nowhere name (filled_elements sight elements) nowhere (filled_branches sight rest)
+      (name, filled_elements sight elements) ∷ filled_branches sight rest
 
 abbrev pub filled : Policy → Option Sight → Closed
 filled policy sight = record { elements = filled_elements sight policy.elements }
 
 -- an approval has no element before it in its list, nor before an OR that encloses it
-abbrev pub void_prefix : Bool → Place → List FillFault
+abbrev pub void_prefix : Bool → Place → List Fault
 void_prefix true place = []
-void_prefix false place = Bad VoidPrefix place ∷ []
+void_prefix false place = (VoidPrefix, place) ∷ []
 
 -- each place that has no value, in the order of the document: of a list of elements that stands at a place,
 -- from the item n on. `leads` says whether no element stands before these, in the list or before an OR
 -- that encloses it.
 abbrev mutual
-  pub elements_faults : Option Sight → Bool → Place → ℕ → Elements → List FillFault
+  pub elements_faults : Option Sight → Bool → Place → ℕ → Elements → List Fault
   elements_faults sight leads list n End = []
   elements_faults sight leads list n (More' p element q rest) =
       element_faults sight leads (at_item list n) element ++ elements_faults sight false list (n + 1) rest
 
-  pub element_faults : Option Sight → Bool → Place → Element → List FillFault
+  pub element_faults : Option Sight → Bool → Place → Element → List Fault
   element_faults sight leads place (Or branches) = branches_faults sight leads (at_member place (codes "branches")) 0 branches
   element_faults sight leads place (Authorize key policy_ref) = void_prefix leads place ++ key_faults sight place key
   element_faults sight leads place (AuthorizeNv index) = void_prefix leads place ++ index_faults sight place index
@@ -206,7 +201,7 @@ abbrev mutual
   element_faults sight leads place Password = []
   element_faults sight leads place PhysicalPresence = []
 
-  pub branches_faults : Option Sight → Bool → Place → ℕ → Branches → List FillFault
+  pub branches_faults : Option Sight → Bool → Place → ℕ → Branches → List Fault
   branches_faults sight leads list n EndBranches = []
   branches_faults sight leads list n (MoreBranches' p name description elements q rest) =
       elements_faults sight leads (at_member (at_item list n) (codes "policy")) 0 elements
@@ -232,8 +227,12 @@ NamesEntity (Signed key policy_ref cp_hash expiration) = ⊤
 NamesEntity _ = ⊥
 
 -- the faults of a policy
-abbrev pub fill_faults : Policy → Option Sight → List FillFault
+abbrev pub fill_faults : Policy → Option Sight → List Fault
 fill_faults policy sight = elements_faults sight true (at_member root (codes "policy")) 0 policy.elements
+
+-- the first of them
+abbrev pub first_fault : Policy → Option Sight → Option Fault
+first_fault policy sight = first_of (fill_faults policy sight)
 
 -- what a call that fills an element, elements or branches answers
 abbrev pub FillsElement : Option Sight → Bool → Place → Element → Result ClosedElement FillFault → Type 0
@@ -249,8 +248,4 @@ FillsElements sight leads list n elements =
 abbrev pub FillsBranches : Option Sight → Bool → Place → ℕ → Branches → Result ClosedBranches FillFault → Type 0
 FillsBranches sight leads list n branches =
     Fills (branches_faults sight leads list n branches)
-    (λ closed. erased_branches closed ≡ filled_branches sight branches)
-
-abbrev pub FillsPolicy : Option Sight → Policy → Result Closed FillFault → Type 0
-FillsPolicy sight policy =
-    Fills (fill_faults policy sight) (λ closed. erased closed ≡ filled policy sight)
+    (λ closed. branches_in closed ≡ filled_branches sight branches)

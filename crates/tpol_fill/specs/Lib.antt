@@ -1,4 +1,5 @@
 pub mod Entities
-pub mod Erased
 pub mod Filling
+pub mod Groups
+pub mod Laws
 pub mod Outcome

@@ -1,29 +1,32 @@
 //! Policies, element after element.
 
-ghost use Rattle.std.specs.Prelude.{◌≡◌, true, IfOk, IfErr, List};
+ghost use Rattle.std.specs.Prelude.{◌≡◌, ◌∷◌, [], true, IfOk, IfErr, List};
 ghost use Rattle.std.specs.Option.{option_copied};
+ghost use Rattle.tpol_base.specs.Answers.{IsRefusal};
 ghost use Rattle.tpol_digest.specs.Digest.{policy_digest};
 ghost use Rattle.tpol_digest.specs.Paths.{paths_of};
 ghost use Rattle.tpol_digest.specs.WellFormed.{HasPcrDigest, IsWellFormedPolicy};
-ghost use Rattle.tpol_tree.specs.BranchCounts.{EachOrHasBranches};
-ghost use Rattle.tpol_tree.specs.Closed.{ApprovalsLead, EachAssertion};
+ghost use Rattle.tpol_tree.specs.Bounds.{HasBounds, HasClosedBounds};
+ghost use Rattle.tpol_tree.specs.Closed.{ApprovalsLead, EachAssertion, HasBranchCounts};
+ghost use Rattle.tpol_tree.specs.Elements as written;
 ghost use Rattle.tpol_fill.specs.declared.fault.FillFault.TheVariants.{NoMemory as no_memory};
-ghost use Rattle.tpol_fill.specs.Erased.{erased_branches, erased_element, erased_elements};
+ghost use Rattle.tpol_tree.specs.ClosedErased.{erased, erased_element, erased_elements};
+ghost use Rattle.tpol_fill.specs.Groups.{branches_in};
+ghost use Rattle.tpol_fill.specs.Outcome.{cause};
 ghost use Rattle.tpol_tree.specs.Erased.{nowhere};
-ghost use Rattle.tpol_fill.specs.Filling.{FillsBranches, FillsElement, FillsElements, FillsPolicy, filled};
-ghost use Rattle.tpol_tree.specs.declared.closed.ClosedBranches.TheVariants.{More' as MoreBranches'};
+ghost use Rattle.tpol_fill.specs.Filling.{FillsBranches, FillsElement, FillsElements, fill_faults, filled, first_fault};
 ghost use Rattle.tpol_tree.specs.declared.path.ApprovedDoc.{ApprovedDoc as ApprovedDocument};
 ghost use Rattle.tpol_tree.specs.declared.closed.ClosedElements.TheVariants.{More'};
 
 use crate::FillFault;
-use crate::fault::place_of_item;
+use crate::groups::grouped;
 use crate::leaves::{
     fill_authorize, fill_authorize_nv, fill_duplication, fill_entity, fill_name_hash, fill_pcr,
     fill_written,
 };
 use std::alloc::Global;
 use tpol_base::Text;
-use tpol_json::Place;
+use tpol_json::{Place, PlaceRef};
 use tpol_name::Sight;
 use tpol_tree::{
     Branches, Closed, ClosedBranch, ClosedBranches, ClosedElement, ClosedElements, Element,
@@ -41,16 +44,22 @@ use tpol_tree::{
 /// - `VoidPrefix`: a POLICYAUTHORIZE or POLICYAUTHORIZENV has an element before it in its list, or before a
 ///   POLICYOR that encloses it. It comes before the other kinds at that element.
 pub fn fill(alloc: Global, policy: &Policy, sight: Option<&Sight>) -> Result<Closed, FillFault>
-    ensures fills { FillsPolicy (option_copied sight.entry) policy.now result }
+    ensures filled { IfOk result (λ closed. erased closed ≡ filled policy.now (option_copied sight.entry)) }
+    ensures clear { IfOk result (λ _. fill_faults policy.now (option_copied sight.entry) ≡ []) }
+    ensures refused { IfErr result (λ fault. IsRefusal (cause fault) (first_fault policy.now (option_copied sight.entry))) }
+    ensures branches { written.HasBranchCounts policy.now.elements → IfOk result (λ closed. HasBranchCounts closed.elements) }
     ensures approvals_lead { IfOk result (λ closed. ApprovalsLead true closed.elements) }
     ensures pcr_digests { IfOk result (λ closed. EachAssertion HasPcrDigest closed.elements) }
-    ensures well_formed { EachOrHasBranches policy.now.elements → IfOk result IsWellFormedPolicy }
+    ensures well_formed { written.HasBranchCounts policy.now.elements → IfOk result IsWellFormedPolicy }
+    ensures bounded { HasBounds policy.now → IfOk result HasClosedBounds }
     ensures digest { IfOk result (λ closed.
         policy_digest closed ≡ policy_digest (filled policy.now (option_copied sight.entry))) }
     ensures paths { IfOk result (λ closed. (documents : List ApprovedDocument) →
         paths_of closed documents ≡ paths_of (filled policy.now (option_copied sight.entry)) documents) }
 {
-    let list = Place::root(alloc).member(alloc, "policy")?;
+    let root = Place::root(alloc);
+    let document = PlaceRef::at(&root);
+    let list = document.member("policy");
     let elements = fill_elements(alloc, &policy.elements, sight, true, &list, 0)?;
     Ok(Closed { elements })
 }
@@ -63,7 +72,7 @@ fn fill_elements(
     elements: &Elements,
     sight: Option<&Sight>,
     leads: bool,
-    list: &Place,
+    list: &PlaceRef<'_>,
     index: usize,
 ) -> Result<ClosedElements, FillFault>
     ensures { FillsElements (option_copied sight.entry) leads list.now index elements.now result }
@@ -71,7 +80,7 @@ fn fill_elements(
     match elements {
         Elements::End => Ok(ClosedElements::End),
         Elements::More(element, rest) => {
-            let place = place_of_item(alloc, list, index)?;
+            let place = (&*list).item(index);
             let Some(next) = index.checked_add(1) else {
                 return Err(FillFault::NoMemory);
             };
@@ -84,20 +93,21 @@ fn fill_elements(
 
 // An element that stands at `place`.
 #[cycle(fill)]
+#[tactic(auto, using(crate::proofs::GroupLemmas::branches_of_branches_in))]
 fn fill_element(
     alloc: Global,
     element: &Element,
     sight: Option<&Sight>,
     leads: bool,
-    place: &Place,
+    place: &PlaceRef<'_>,
 ) -> Result<ClosedElement, FillFault>
     ensures { FillsElement (option_copied sight.entry) leads place.now element.now result }
 {
     match element {
         Element::Or(branches) => {
-            let list = place.member(alloc, "branches")?;
+            let list = (&*place).member("branches");
             let closed = fill_branches(alloc, branches, sight, leads, &list, 0)?;
-            Ok(ClosedElement::Or(closed))
+            Ok(ClosedElement::Or(grouped(alloc, closed)?))
         }
         Element::Authorize { key, policy_ref } => {
             fill_authorize(alloc, key, policy_ref, sight, leads, place)
@@ -131,7 +141,7 @@ fn fill_branches(
     branches: &Branches,
     sight: Option<&Sight>,
     leads: bool,
-    list: &Place,
+    list: &PlaceRef<'_>,
     index: usize,
 ) -> Result<ClosedBranches, FillFault>
     ensures { FillsBranches (option_copied sight.entry) leads list.now index branches.now result }
@@ -139,7 +149,8 @@ fn fill_branches(
     match branches {
         Branches::End => Ok(ClosedBranches::End),
         Branches::More(branch, rest) => {
-            let place = place_of_item(alloc, list, index)?.member(alloc, "policy")?;
+            let item = (&*list).item(index);
+            let place = item.member("policy");
             let Some(next) = index.checked_add(1) else {
                 return Err(FillFault::NoMemory);
             };
@@ -170,8 +181,8 @@ fn join_branches(
     elements: ClosedElements,
     others: ClosedBranches,
 ) -> Result<ClosedBranches, FillFault>
-    ensures value { IfOk result (λ closed. erased_branches closed
-        ≡ MoreBranches' nowhere name.now (erased_elements elements) nowhere (erased_branches others)) }
+    ensures value { IfOk result (λ closed. branches_in closed
+        ≡ (name.now, erased_elements elements) ∷ branches_in others) }
     ensures memory { IfErr result (λ fault. fault ≡ no_memory) }
 {
     let branch = ClosedBranch {

@@ -1,31 +1,19 @@
 //! The Names of what a policy names by a path or by a public area.
 
-ghost use Rattle.std.specs.Prelude.{◌≡◌, find};
+ghost use Rattle.std.specs.Prelude.{◌≡◌};
 ghost use Rattle.std.specs.Option.{option_copied};
 ghost use Rattle.std.specs.Result.{result_ok};
-ghost use Rattle.tpol_fill.specs.Entities.{entity_name, hierarchy_at, index_area_of, index_at, key_name, name_of_index_wish, object_area_of, object_at, parent_name, path_name, scheme_of, signing_key_name};
+ghost use Rattle.tpol_fill.specs.Entities.{entity_name, index_area_of, indices_of, key_name, name_of_index_wish, object_area_of, objects_of, parent_name, path_name, scheme_of, signing_key_name};
 ghost use Rattle.tpol_name.specs.Areas.{index_name, object_name};
-ghost use Rattle.tpol_name.specs.Paths.{is_same_path};
+ghost use Rattle.tpol_name.specs.Entities.{index_at, object_at};
 
 use crate::FillKind;
 use tpol_base::Name;
 use tpol_name::{
-    IndexEntry, ObjectEntry, ObjectPublic, Scheme, Sight, index_name_of_parts,
-    nv_name_once_written, object_name, object_name_of_parts, same_path,
+    IndexEntry, ObjectEntry, ObjectPublic, Scheme, Sight, hierarchy_at, index_name_of_parts,
+    is_signing_key, may_sign, nv_name_once_written, object_name, object_name_of_parts,
 };
 use tpol_tree::{EntityWish, IndexWish, KeyWish, NvPublicText, ObjectPublicText, ParentWish};
-
-/// The attribute TPMA_OBJECT_SIGN: bit 18 (TPM 2.0 Part 2, TPMA_OBJECT).
-const SIGN: u32 = 0x0004_0000;
-
-/// The handle of the owner hierarchy (TPM 2.0 Part 2, TPM_RH).
-const OWNER: u32 = 0x4000_0001;
-
-/// The handle of the endorsement hierarchy.
-const ENDORSEMENT: u32 = 0x4000_000b;
-
-/// The handle of the lockout authorization.
-const LOCKOUT: u32 = 0x4000_000a;
 
 /// The Name of a key: of an object named by path, or made of a public area as it is given. `None` exactly
 /// where no object of the sight has the path, or the object or the area is not an HMAC key with the
@@ -110,68 +98,38 @@ pub fn name_at(path: &str, sight: Option<&Sight>) -> Result<Name, FillKind>
     }
 }
 
-fn hierarchy_at(path: &str) -> Option<u32>
-    ensures { result ≡ hierarchy_at path.now }
-{
-    if same_path("HS", path) {
-        return Some(OWNER);
-    }
-    if same_path("HE", path) {
-        return Some(ENDORSEMENT);
-    }
-    if same_path("LOCKOUT", path) {
-        return Some(LOCKOUT);
-    }
-    None
-}
-
 fn object_at<'a>(sight: Option<&'a Sight>, path: &str) -> Option<&'a ObjectEntry>
-    ensures { option_copied result ≡ object_at (option_copied sight.entry) path.now }
+    ensures { option_copied result ≡ object_at (objects_of (option_copied sight.entry)) path.now }
 {
     match sight {
-        Some(sight) => find_object(sight.objects.as_slice(), path),
+        Some(sight) => tpol_name::object_at(sight.objects.as_slice(), path),
         None => None,
     }
 }
 
 fn index_at<'a>(sight: Option<&'a Sight>, path: &str) -> Option<&'a IndexEntry>
-    ensures { option_copied result ≡ index_at (option_copied sight.entry) path.now }
+    ensures { option_copied result ≡ index_at (indices_of (option_copied sight.entry)) path.now }
 {
     match sight {
-        Some(sight) => find_index(sight.indices.as_slice(), path),
+        Some(sight) => tpol_name::index_at(sight.indices.as_slice(), path),
         None => None,
     }
-}
-
-fn find_object<'a>(objects: &'a [ObjectEntry], path: &str) -> Option<&'a ObjectEntry>
-    ensures { option_copied result ≡ find (λ object. is_same_path object.path path.now) objects.now }
-{
-    objects
-        .iter()
-        .find(|object| same_path(object.path.as_str(), path))
-}
-
-fn find_index<'a>(indices: &'a [IndexEntry], path: &str) -> Option<&'a IndexEntry>
-    ensures { option_copied result ≡ find (λ index. is_same_path index.path path.now) indices.now }
-{
-    indices
-        .iter()
-        .find(|index| same_path(index.path.as_str(), path))
 }
 
 fn name_of_signing_key(public: &ObjectPublic) -> Result<Name, FillKind>
     ensures { result ≡ signing_key_name public.now }
 {
-    match public.scheme {
-        Scheme::HmacKey if public.attributes & SIGN != 0 => Ok(object_name(public)),
-        _ => Err(FillKind::NotKeyedHash),
+    if is_signing_key(public) {
+        Ok(object_name(public))
+    } else {
+        Err(FillKind::NotKeyedHash)
     }
 }
 
 fn name_of_key_text(text: &ObjectPublicText) -> Result<Name, FillKind>
     ensures { result ≡ signing_key_name (object_area_of text.now) }
 {
-    if text.hmac && text.attributes & SIGN != 0 {
+    if may_sign(scheme_of(text.hmac), text.attributes) {
         Ok(name_of_object_text(text))
     } else {
         Err(FillKind::NotKeyedHash)

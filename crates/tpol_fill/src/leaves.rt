@@ -9,13 +9,13 @@ ghost use Rattle.tpol_tree.specs.declared.policy.Element.TheVariants.{Authorize,
 use crate::entities::{
     name_of_entity_wish, name_of_index_wish, name_of_key_wish, name_of_parent_wish,
 };
-use crate::fault::{fault_at, fault_at_member};
+use crate::fault::fault_at;
 use crate::names::fill_names;
 use crate::pcrs::fill_pcrs;
 use crate::{FillFault, FillKind};
 use std::alloc::Global;
 use tpol_base::{Blob, Compare, Digest32, Name};
-use tpol_json::Place;
+use tpol_json::PlaceRef;
 use tpol_name::Sight;
 use tpol_tree::{
     Assertion, ClosedElement, Element, EntityWish, IndexWish, KeyWish, NamesWish, ParentWish,
@@ -27,7 +27,7 @@ pub fn fill_pcr(
     alloc: Global,
     wish: &PcrWish,
     sight: Option<&Sight>,
-    place: &Place,
+    place: &PlaceRef<'_>,
 ) -> Result<ClosedElement, FillFault>
     ensures { FillsElement (option_copied sight.entry) true place.now (Pcr wish.now) result }
 {
@@ -40,7 +40,7 @@ pub fn fill_name_hash(
     alloc: Global,
     wish: &NamesWish,
     sight: Option<&Sight>,
-    place: &Place,
+    place: &PlaceRef<'_>,
 ) -> Result<ClosedElement, FillFault>
     ensures { FillsElement (option_copied sight.entry) true place.now (NameHash wish.now) result }
 {
@@ -53,7 +53,7 @@ pub fn fill_entity(
     alloc: Global,
     element: &Element,
     sight: Option<&Sight>,
-    place: &Place,
+    place: &PlaceRef<'_>,
 ) -> Result<ClosedElement, FillFault>
     requires { NamesEntity element.now }
     ensures { FillsElement (option_copied sight.entry) true place.now element.now result }
@@ -125,7 +125,7 @@ fn fill_nv(
     offset: u16,
     operation: Compare,
     sight: Option<&Sight>,
-    place: &Place,
+    place: &PlaceRef<'_>,
 ) -> Result<ClosedElement, FillFault>
     ensures { FillsElement (option_copied sight.entry) true place.now
         (Nv index.now operand.now offset operation) result }
@@ -137,7 +137,7 @@ fn fill_nv(
             offset,
             operation,
         })),
-        Err(kind) => Err(fault_at_member(alloc, kind, place, index_member(index))),
+        Err(kind) => Err(fault_at(alloc, kind, &place.member(index_member(index)))),
     }
 }
 
@@ -149,7 +149,7 @@ fn fill_secret(
     cp_hash: Option<Digest32>,
     expiration: i32,
     sight: Option<&Sight>,
-    place: &Place,
+    place: &PlaceRef<'_>,
 ) -> Result<ClosedElement, FillFault>
     ensures { FillsElement (option_copied sight.entry) true place.now
         (Secret entity.now policy_ref.now cp_hash expiration) result }
@@ -161,7 +161,7 @@ fn fill_secret(
             cp_hash,
             expiration,
         })),
-        Err(kind) => Err(fault_at_member(alloc, kind, place, "objectPath")),
+        Err(kind) => Err(fault_at(alloc, kind, &place.member("objectPath"))),
     }
 }
 
@@ -173,7 +173,7 @@ fn fill_signed(
     cp_hash: Option<Digest32>,
     expiration: i32,
     sight: Option<&Sight>,
-    place: &Place,
+    place: &PlaceRef<'_>,
 ) -> Result<ClosedElement, FillFault>
     ensures { FillsElement (option_copied sight.entry) true place.now
         (Signed key.now policy_ref.now cp_hash expiration) result }
@@ -185,7 +185,7 @@ fn fill_signed(
             cp_hash,
             expiration,
         })),
-        Err(kind) => Err(fault_at_member(alloc, kind, place, key_member(key))),
+        Err(kind) => Err(fault_at(alloc, kind, &place.member(key_member(key)))),
     }
 }
 
@@ -196,7 +196,7 @@ pub fn fill_duplication(
     parent: &ParentWish,
     include: bool,
     sight: Option<&Sight>,
-    place: &Place,
+    place: &PlaceRef<'_>,
 ) -> Result<ClosedElement, FillFault>
     ensures { FillsElement (option_copied sight.entry) true place.now
         (Duplication object parent.now include) result }
@@ -207,7 +207,7 @@ pub fn fill_duplication(
             parent: name,
             include,
         })),
-        Err(kind) => Err(fault_at_member(alloc, kind, place, "newParentPath")),
+        Err(kind) => Err(fault_at(alloc, kind, &place.member("newParentPath"))),
     }
 }
 
@@ -219,7 +219,7 @@ pub fn fill_authorize(
     policy_ref: &Blob,
     sight: Option<&Sight>,
     leads: bool,
-    place: &Place,
+    place: &PlaceRef<'_>,
 ) -> Result<ClosedElement, FillFault>
     ensures { FillsElement (option_copied sight.entry) leads place.now
         (Authorize key.now policy_ref.now) result }
@@ -232,7 +232,7 @@ pub fn fill_authorize(
             key: name,
             policy_ref: Blob::from_slice(alloc, policy_ref.as_slice())?,
         }),
-        Err(kind) => Err(fault_at_member(alloc, kind, place, key_member(key))),
+        Err(kind) => Err(fault_at(alloc, kind, &place.member(key_member(key)))),
     }
 }
 
@@ -243,7 +243,7 @@ pub fn fill_authorize_nv(
     index: &IndexWish,
     sight: Option<&Sight>,
     leads: bool,
-    place: &Place,
+    place: &PlaceRef<'_>,
 ) -> Result<ClosedElement, FillFault>
     ensures { FillsElement (option_copied sight.entry) leads place.now (AuthorizeNv index.now) result }
 {
@@ -252,7 +252,7 @@ pub fn fill_authorize_nv(
     }
     match name_of_index_wish(index, sight) {
         Ok(name) => Ok(ClosedElement::AuthorizeNv { index: name }),
-        Err(kind) => Err(fault_at_member(alloc, kind, place, index_member(index))),
+        Err(kind) => Err(fault_at(alloc, kind, &place.member(index_member(index)))),
     }
 }
 

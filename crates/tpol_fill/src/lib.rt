@@ -8,6 +8,8 @@
 mod elements;
 mod entities;
 mod fault;
+mod groups;
+mod laws;
 mod leaves;
 mod names;
 mod pcrs;
@@ -17,3 +19,4 @@ mod tests;
 pub use elements::fill;
 pub use entities::{name_of_index, name_of_key};
 pub use fault::{FillFault, FillKind};
+pub use laws::boxes_of_policies_are_ignored;

@@ -9,11 +9,11 @@ ghost use Rattle.tpol_json.specs.Places.{at_member};
 
 use crate::FillFault;
 use crate::entities::name_at;
-use crate::fault::place_of_item;
+use crate::fault::fault_at;
 use std::alloc::Global;
 use tpol_base::{Digest32, Name, Text};
 use tpol_hash::Hasher;
-use tpol_json::Place;
+use tpol_json::PlaceRef;
 use tpol_name::Sight;
 use tpol_tree::NamesWish;
 
@@ -22,7 +22,7 @@ pub fn fill_names(
     alloc: Global,
     wish: &NamesWish,
     sight: Option<&Sight>,
-    place: &Place,
+    place: &PlaceRef<'_>,
 ) -> Result<Digest32, FillFault>
     ensures { Fills (names_faults (option_copied sight.entry) place.now wish.now)
         (λ digest. digest ≡ filled_names wish.now (option_copied sight.entry)) result }
@@ -31,7 +31,7 @@ pub fn fill_names(
         NamesWish::Digest(digest) => Ok(*digest),
         NamesWish::Names(names) => Ok(digest_of_names(names.as_slice())),
         NamesWish::Paths(paths) => {
-            let list = place.member(alloc, "namePaths")?;
+            let list = place.member("namePaths");
             digest_of_paths(alloc, paths.as_slice(), sight, &list)
         }
     }
@@ -42,7 +42,7 @@ fn digest_of_paths(
     alloc: Global,
     paths: &[Text],
     sight: Option<&Sight>,
-    list: &Place,
+    list: &PlaceRef<'_>,
 ) -> Result<Digest32, FillFault>
     ensures { Fills (each_fault (path_faults (option_copied sight.entry) list.now) 0 paths.now)
         (λ digest. digest ≡ names_digest (map (λ path. or_empty (path_name path (option_copied sight.entry))) paths.now)) result }
@@ -52,10 +52,7 @@ fn digest_of_paths(
         match name_at(path.as_str(), sight) {
             Ok(name) => hasher.put_name(&name),
             Err(kind) => {
-                return Err(FillFault::Bad {
-                    kind,
-                    place: place_of_item(alloc, list, index)?,
-                });
+                return Err(fault_at(alloc, kind, &list.item(index)));
             }
         }
     }

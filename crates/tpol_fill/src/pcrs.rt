@@ -1,43 +1,42 @@
 //! The PCRs of a POLICYPCR: the values as written, or the current ones.
 
-ghost use Rattle.std.specs.Prelude.{◌≡◌, ◌<◌, ℕ, All, IfOk, codes, map};
+ghost use Rattle.std.specs.Prelude.{◌≡◌, codes, map};
 ghost use Rattle.std.specs.Option.{option_copied};
+ghost use Rattle.tpol_base.specs.Pcr.{pcrs_of_mask};
 ghost use Rattle.tpol_digest.specs.Update.{joined};
-ghost use Rattle.tpol_fill.specs.Filling.{current_faults, current_value, filled_pcrs, mask_of_pcrs, pcr_assertion, pcr_faults, pcrs_of_mask, value_faults, or_zero};
+ghost use Rattle.tpol_fill.specs.Filling.{current_faults, current_value, filled_pcrs, mask_of_pcrs, pcr_assertion, pcr_faults, value_faults, or_zero};
 ghost use Rattle.tpol_fill.specs.Outcome.{Fills, each_fault};
 ghost use Rattle.tpol_hash.specs.Sha256.{sha256_digest};
 ghost use Rattle.tpol_json.specs.Places.{at_member};
 ghost use Rattle.tpol_tree.specs.declared.wishes.PcrWish.TheVariants.{Current};
 
-use crate::fault::place_of_item;
+use crate::fault::fault_at;
 use crate::{FillFault, FillKind};
 use std::alloc::Global;
-use tpol_base::{Digest32, Digests, NoMemory};
+use tpol_base::pcr::{self, pcrs_of_mask};
+use tpol_base::{Digest32, Digests};
 use tpol_hash::Hasher;
-use tpol_json::Place;
+use tpol_json::PlaceRef;
 use tpol_name::Sight;
 use tpol_tree::{Assertion, PcrWish};
-
-/// The number of PCRs.
-const PCRS: u8 = 24;
 
 /// The assertion of the PCRs of an element that stands at `place`.
 pub fn fill_pcrs(
     alloc: Global,
     wish: &PcrWish,
     sight: Option<&Sight>,
-    place: &Place,
+    place: &PlaceRef<'_>,
 ) -> Result<Assertion, FillFault>
     ensures { Fills (pcr_faults (option_copied sight.entry) place.now wish.now)
         (λ assertion. assertion ≡ filled_pcrs wish.now (option_copied sight.entry)) result }
 {
     match wish {
         PcrWish::Values(values) => {
-            let list = place.member(alloc, "pcrs")?;
+            let list = place.member("pcrs");
             written_pcrs(alloc, values.as_slice(), &list)
         }
         PcrWish::Current(mask) => {
-            let list = place.member(alloc, "currentPCRs")?;
+            let list = place.member("currentPCRs");
             current_pcrs(alloc, *mask, sight, &list)
         }
     }
@@ -48,7 +47,7 @@ fn current_pcrs(
     alloc: Global,
     mask: u32,
     sight: Option<&Sight>,
-    list: &Place,
+    list: &PlaceRef<'_>,
 ) -> Result<Assertion, FillFault>
     ensures { Fills (each_fault (current_faults (option_copied sight.entry) list.now) 0 (pcrs_of_mask mask))
         (λ assertion. assertion ≡ filled_pcrs (Current mask) (option_copied sight.entry)) result }
@@ -62,7 +61,7 @@ fn current_pcrs(
 fn written_pcrs(
     alloc: Global,
     values: &[(u8, Digest32)],
-    list: &Place,
+    list: &PlaceRef<'_>,
 ) -> Result<Assertion, FillFault>
     ensures { Fills (each_fault (value_faults list.now) 0 values.now)
         (λ assertion. assertion ≡ pcr_assertion (mask_of_pcrs (map (λ v. v.0) values.now)) (map (λ v. v.1) values.now)) result }
@@ -70,12 +69,9 @@ fn written_pcrs(
     let mut mask = 0;
     let mut digests = Digests::new(alloc);
     for (index, (pcr, digest)) in values.iter().enumerate() {
-        if *pcr >= PCRS {
-            let place = place_of_item(alloc, list, index)?.member(alloc, "pcr")?;
-            return Err(FillFault::Bad {
-                kind: FillKind::NoSuchPcr,
-                place,
-            });
+        if usize::from(*pcr) >= pcr::COUNT {
+            let item = list.item(index);
+            return Err(fault_at(alloc, FillKind::NoSuchPcr, &item.member("pcr")));
         }
         mask |= 1u32 << *pcr;
         digests.push(*digest)?;
@@ -88,7 +84,7 @@ fn current_values(
     alloc: Global,
     pcrs: &[u8],
     sight: Option<&Sight>,
-    list: &Place,
+    list: &PlaceRef<'_>,
 ) -> Result<Digests, FillFault>
     ensures { Fills (each_fault (current_faults (option_copied sight.entry) list.now) 0 pcrs.now)
         (λ values. values ≡ map (λ pcr. or_zero (current_value (option_copied sight.entry) pcr)) pcrs.now) result }
@@ -98,10 +94,7 @@ fn current_values(
         match current_value(sight, *pcr) {
             Ok(value) => values.push(value)?,
             Err(kind) => {
-                return Err(FillFault::Bad {
-                    kind,
-                    place: place_of_item(alloc, list, index)?,
-                });
+                return Err(fault_at(alloc, kind, &list.item(index)));
             }
         }
     }
@@ -112,7 +105,7 @@ fn current_values(
 fn current_value(sight: Option<&Sight>, pcr: u8) -> Result<Digest32, FillKind>
     ensures { result ≡ current_value (option_copied sight.entry) pcr }
 {
-    if pcr >= PCRS {
+    if usize::from(pcr) >= pcr::COUNT {
         return Err(FillKind::NoSuchPcr);
     }
     match sight {
@@ -122,18 +115,6 @@ fn current_value(sight: Option<&Sight>, pcr: u8) -> Result<Digest32, FillKind>
         },
         None => Err(FillKind::NoSuchPcr),
     }
-}
-
-// The numbers of a set's PCRs in rising order.
-#[tactic(auto, unfolding(crate::specs::Filling::pcrs_of_mask))]
-fn pcrs_of_mask(alloc: Global, mask: u32) -> Result<Vec<u8>, NoMemory>
-    ensures { IfOk result (λ pcrs. pcrs.items ≡ pcrs_of_mask mask) }
-{
-    Ok(
-        (0..32)
-            .filter(|pcr| (mask >> *pcr) % 2 == 1)
-            .collect(alloc)?,
-    )
 }
 
 fn pcr_assertion(mask: u32, values: Digests) -> Assertion

@@ -3,16 +3,12 @@
 use crate::{FillFault, FillKind, fill};
 use std::alloc::Global;
 use std::test::Fail;
-use tpol_base::{Blob, Compare, Digest32, Digests, NoMemory, Sequence, Text};
+use tpol_base::{Blob, Compare, Digest32, NoMemory, Sequence, Text};
 use tpol_digest::digest_of;
 use tpol_json::place_text;
-use tpol_name::{
-    IndexEntry, Indices, NvPublic, ObjectEntry, ObjectPublic, Objects, Scheme, Setup, Sight,
-    opening_sight,
-};
+use tpol_name::{IndexEntry, NvPublic, ObjectEntry, ObjectPublic, Scheme, Sight};
 use tpol_tree::{
-    Element, Elements, EntityWish, IndexWish, KeyWish, NvPublicText, ObjectPublicText, PcrWish,
-    Policy,
+    Branch, Branches, Element, Elements, EntityWish, IndexWish, KeyWish, PcrWish, Policy,
 };
 
 /// PolicySecret of the endorsement hierarchy, the authPolicy of endorsement keys.
@@ -20,12 +16,12 @@ const ENDORSEMENT_POLICY: &[u8; 32] =
     b"\x83\x71\x97\x67\x44\x84\xb3\xf8\x1a\x90\xcc\x8d\x46\xa5\xd7\x24\
       \xfd\x52\xd7\x6e\x06\x52\x0b\x64\xf2\xa1\xda\x1b\x33\x14\x69\xaa";
 
-/// PolicyAuthorize by the key of `signing_key`, then PolicyCommandCode of Unseal.
+/// PolicyAuthorize by the key of `approver`, then PolicyCommandCode of Unseal.
 const APPROVED_UNSEAL: &[u8; 32] =
     b"\x34\x05\x2b\xda\xc7\x36\x4d\xd4\xed\xdf\xc2\x83\xdd\xdb\xb4\x75\
       \xf2\x7f\x4e\x20\x13\x19\x86\x81\x5e\x05\xe7\x1a\x7d\x7f\xe1\x54";
 
-/// PolicyNV of the index of `policy_index`: its content has the highest bit set.
+/// PolicyNV of the index of `owner_index`: its content has the highest bit set.
 const HIGHEST_BIT_SET: &[u8; 32] =
     b"\xbf\x3b\x68\x99\xa0\x4b\x37\x17\x3e\x68\xb0\x74\x52\x01\x33\x81\
       \xbc\x01\x68\x52\x31\x81\xd5\xf9\xfc\xd2\xf4\x4a\xc2\x2b\xa7\xdd";
@@ -35,35 +31,39 @@ const PCR_23_AT_ZERO: &[u8; 32] =
     b"\x3c\x87\xa4\xb3\xfb\x85\xeb\xee\xa5\x8c\x5f\xb3\x6a\xc2\x2d\x3f\
       \x28\x0c\xec\x27\xa9\xf6\xdd\x0f\xa2\x3b\xe9\xce\x56\x0d\xee\xc8";
 
+/// PolicyOR of two: PolicyOR of eight times PolicyAuthValue, and PolicyAuthValue.
+const ONE_OF_NINE: &[u8; 32] = b"\x7c\xa6\xb9\xb6\x27\x65\x1d\xb7\xcb\xbd\x17\x73\xc5\xad\x34\x0e\
+      \xd5\xb8\xb3\x9c\xae\xae\xa7\x1f\x27\xa2\xca\x44\x59\x95\x4a\xbe";
+
 /// What a policy in a test is made of.
 enum Part {
     Secret(&'static str),
     ApprovedBy(&'static str),
-    ApprovedByPublic,
-    NvPublic,
     NvPath(&'static str),
     Unseal,
     AuthValue,
-    Pcr(u8),
     Current(u32),
+    /// An OR of so many branches, each with PolicyAuthValue alone.
+    OneOf(u8),
 }
 
-fn signing_key(alloc: Global) -> Result<ObjectPublicText, NoMemory> {
-    Ok(ObjectPublicText {
-        attributes: 0x0004_0040,
-        auth_policy: Blob::new(alloc),
-        hmac: true,
-        unique: Blob::from_slice(alloc, &[0x11; 32])?,
-    })
+fn one(alloc: Global, element: Element, rest: Elements) -> Result<Elements, NoMemory> {
+    let first = Box::new(alloc, element)?;
+    Ok(Elements::More(first, Box::new(alloc, rest)?))
 }
 
-fn policy_index(alloc: Global) -> Result<NvPublicText, NoMemory> {
-    Ok(NvPublicText {
-        index: 0x01c0_7f01,
-        attributes: 0x220f_1008,
-        auth_policy: Blob::from_slice(alloc, ENDORSEMENT_POLICY)?,
-        size: 34,
-    })
+fn branches(alloc: Global, count: u8) -> Result<Branches, NoMemory> {
+    let mut branches = Branches::End;
+    for _ in 0..count {
+        let branch = Branch {
+            name: Text::from_str(alloc, "b")?,
+            description: Text::new(alloc),
+            elements: one(alloc, Element::AuthValue, Elements::End)?,
+        };
+        let first = Box::new(alloc, branch)?;
+        branches = Branches::More(first, Box::new(alloc, branches)?);
+    }
+    Ok(branches)
 }
 
 fn element(alloc: Global, part: &Part) -> Result<Element, NoMemory> {
@@ -78,16 +78,6 @@ fn element(alloc: Global, part: &Part) -> Result<Element, NoMemory> {
             key: KeyWish::Path(Text::from_str(alloc, path)?),
             policy_ref: Blob::new(alloc),
         }),
-        Part::ApprovedByPublic => Ok(Element::Authorize {
-            key: KeyWish::Public(signing_key(alloc)?),
-            policy_ref: Blob::new(alloc),
-        }),
-        Part::NvPublic => Ok(Element::Nv {
-            index: IndexWish::Public(policy_index(alloc)?),
-            operand: Blob::from_slice(alloc, &[0x80])?,
-            offset: 0,
-            operation: Compare::BitSet,
-        }),
         Part::NvPath(path) => Ok(Element::Nv {
             index: IndexWish::Path(Text::from_str(alloc, path)?),
             operand: Blob::from_slice(alloc, &[0x80])?,
@@ -96,19 +86,15 @@ fn element(alloc: Global, part: &Part) -> Result<Element, NoMemory> {
         }),
         Part::Unseal => Ok(Element::CommandCode(0x15e)),
         Part::AuthValue => Ok(Element::AuthValue),
-        Part::Pcr(pcr) => Ok(Element::Pcr(PcrWish::Values(Sequence::from_slice(
-            alloc,
-            &[(*pcr, Digest32::ZERO)],
-        )?))),
         Part::Current(mask) => Ok(Element::Pcr(PcrWish::Current(*mask))),
+        Part::OneOf(count) => Ok(Element::Or(branches(alloc, *count)?)),
     }
 }
 
-fn policy(alloc: Global, parts: &[Part]) -> Result<Policy, Fail> {
+fn policy(alloc: Global, parts: &[Part]) -> Result<Policy, NoMemory> {
     let mut elements = Elements::End;
     for part in parts.iter().rev() {
-        let first = Box::new(alloc, element(alloc, part)?)?;
-        elements = Elements::More(first, Box::new(alloc, elements)?);
+        elements = one(alloc, element(alloc, part)?, elements)?;
     }
     Ok(Policy {
         description: Text::new(alloc),
@@ -117,94 +103,67 @@ fn policy(alloc: Global, parts: &[Part]) -> Result<Policy, Fail> {
     })
 }
 
-/// The digest of a policy that is filled, or what has no value and where.
-enum Answer {
-    Digest([u8; 32]),
-    Fault(FillKind, Text),
-}
-
-fn outcome_of(alloc: Global, parts: &[Part], sight: Option<&Sight>) -> Result<Answer, Fail> {
-    match fill(alloc, &policy(alloc, parts)?, sight) {
-        Ok(closed) => Ok(Answer::Digest(digest_of(&closed).bytes)),
-        Err(FillFault::Bad { kind, place }) => Ok(Answer::Fault(kind, place_text(alloc, &place)?)),
-        Err(FillFault::NoMemory) => Err(Fail::new("no memory")),
-    }
-}
-
 fn approver(alloc: Global) -> Result<ObjectEntry, NoMemory> {
-    let path = Text::from_str(alloc, "/HS/SRK/approver")?;
-    let unique = Blob::from_slice(alloc, &[0x11; 32])?;
-    let secret = Blob::from_slice(alloc, b"key")?;
     Ok(ObjectEntry {
-        path,
+        path: Text::from_str(alloc, "/HS/SRK/approver")?,
         handle: 0x8000_0001,
         public: ObjectPublic {
             attributes: 0x0004_0040,
             auth_policy: Blob::new(alloc),
             scheme: Scheme::HmacKey,
-            unique,
+            unique: Blob::from_slice(alloc, &[0x11; 32])?,
         },
         auth: Blob::new(alloc),
-        secret,
+        secret: Blob::new(alloc),
     })
 }
 
 fn owner_index(alloc: Global) -> Result<IndexEntry, NoMemory> {
-    let path = Text::from_str(alloc, "/nv/Owner/policy")?;
-    let auth_policy = Blob::from_slice(alloc, ENDORSEMENT_POLICY)?;
-    let content = Blob::from_slice(alloc, &[0; 34])?;
     Ok(IndexEntry {
-        path,
+        path: Text::from_str(alloc, "/nv/Owner/policy")?,
         public: NvPublic {
             index: 0x01c0_7f01,
             attributes: 0x020f_1008,
-            auth_policy,
+            auth_policy: Blob::from_slice(alloc, ENDORSEMENT_POLICY)?,
             size: 34,
         },
         auth: Blob::new(alloc),
-        content,
+        content: Blob::new(alloc),
     })
 }
 
-fn setup(alloc: Global, objects: Objects, indices: Indices, pcrs: Digests) -> Setup {
-    Setup {
-        seed: Digest32::ZERO,
+fn started(alloc: Global) -> Result<Sight, NoMemory> {
+    let mut objects = Sequence::new(alloc);
+    objects.push(approver(alloc)?)?;
+    let mut indices = Sequence::new(alloc);
+    indices.push(owner_index(alloc)?)?;
+    Ok(Sight {
+        objects,
+        indices,
         owner: Blob::new(alloc),
         endorsement: Blob::new(alloc),
         lockout: Blob::new(alloc),
-        pcrs,
+        pcrs: Sequence::from_slice(alloc, &[Digest32::ZERO; 24])?,
         pcr_counter: 0,
-        objects,
-        indices,
         time: 0,
         reset_count: 0,
         restart_count: 0,
         safe: true,
         presence: false,
-    }
-}
-
-fn started(alloc: Global) -> Result<Sight, NoMemory> {
-    let pcrs = Sequence::from_slice(alloc, &[Digest32::ZERO; 24])?;
-    let mut objects = Sequence::new(alloc);
-    objects.push(approver(alloc)?)?;
-    let mut indices = Sequence::new(alloc);
-    indices.push(owner_index(alloc)?)?;
-    opening_sight(alloc, &setup(alloc, objects, indices, pcrs))
+        free_sessions: 64,
+    })
 }
 
 // Policies, each with the digest that a TPM gives it.
-const FILLED: [(&[Part], &[u8; 32]); 7] = [
+const FILLED: [(&[Part], &[u8; 32]); 5] = [
     (&[Part::Secret("/HE")], ENDORSEMENT_POLICY),
-    (&[Part::ApprovedByPublic, Part::Unseal], APPROVED_UNSEAL),
     (
         &[Part::ApprovedBy("P_RSA/HS/SRK/approver"), Part::Unseal],
         APPROVED_UNSEAL,
     ),
-    (&[Part::NvPublic], HIGHEST_BIT_SET),
     (&[Part::NvPath("/nv/Owner/policy")], HIGHEST_BIT_SET),
-    (&[Part::Pcr(23)], PCR_23_AT_ZERO),
     (&[Part::Current(0x80_0000)], PCR_23_AT_ZERO),
+    (&[Part::OneOf(9)], ONE_OF_NINE),
 ];
 
 #[test]
@@ -212,40 +171,25 @@ fn digests_of_a_tpm(rt: HostRuntime) -> Result<(), Fail> {
     let alloc = rt.alloc();
     let sight = started(alloc)?;
     for (parts, digest) in &FILLED {
-        match outcome_of(alloc, parts, Some(&sight))? {
-            Answer::Digest(filled) => assert_eq!(rt; &filled, *digest),
-            Answer::Fault(_, place) => assert_eq!(rt; place.as_str(), "no fault"),
+        match fill(alloc, &policy(alloc, parts)?, Some(&sight)) {
+            Ok(closed) => assert_eq!(rt; &digest_of(&closed).bytes, *digest),
+            Err(_) => return Err(Fail::new("not filled")),
         }
     }
     Ok(())
 }
 
 // Policies without a machine, each with its first place that has no value.
-const WITHOUT_A_VALUE: [(&[Part], FillKind, &str); 7] = [
+const WITHOUT_A_VALUE: [(&[Part], FillKind, &str); 4] = [
     (
         &[Part::AuthValue, Part::ApprovedBy("/k")],
         FillKind::VoidPrefix,
         "policy[1]",
     ),
     (
-        &[Part::ApprovedBy("/k")],
-        FillKind::NoSuchPath,
-        "policy[0].keyPath",
-    ),
-    (
-        &[Part::ApprovedBy("/HS")],
-        FillKind::NoSuchPath,
-        "policy[0].keyPath",
-    ),
-    (
         &[Part::NvPath("/HE")],
         FillKind::NoSuchPath,
         "policy[0].nvPath",
-    ),
-    (
-        &[Part::Pcr(24)],
-        FillKind::NoSuchPcr,
-        "policy[0].pcrs[0].pcr",
     ),
     (
         &[Part::Current(0x80_0000)],
@@ -262,13 +206,13 @@ const WITHOUT_A_VALUE: [(&[Part], FillKind, &str); 7] = [
 #[test]
 fn first_places_without_a_value(rt: HostRuntime) -> Result<(), Fail> {
     let alloc = rt.alloc();
-    for (parts, kind, place) in &WITHOUT_A_VALUE {
-        match outcome_of(alloc, parts, None)? {
-            Answer::Fault(found, text) => {
-                assert_eq!(rt; found, *kind);
-                assert_eq!(rt; text.as_str(), *place);
+    for (parts, wanted, at) in &WITHOUT_A_VALUE {
+        match fill(alloc, &policy(alloc, parts)?, None) {
+            Err(FillFault::Bad { kind, place }) => {
+                assert_eq!(rt; kind, *wanted);
+                assert_eq!(rt; place_text(alloc, &place)?.as_str(), *at);
             }
-            Answer::Digest(_) => assert_eq!(rt; "a digest", *place),
+            _ => return Err(Fail::new("filled")),
         }
     }
     Ok(())

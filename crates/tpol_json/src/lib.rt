@@ -16,7 +16,7 @@ mod truth_values;
 mod values;
 mod words;
 
-pub use bytes::bytes_of;
+pub use bytes::{bytes_at, bytes_of};
 pub use document::{ParseFault, parse};
 pub use fault::{JsonFault, JsonKind, MemberFault, MemberKind};
 pub use members::{check_limit, items, member, needed, note_unknown, optional, without};

@@ -6,5 +6,4 @@ pub mod Losses
 pub mod NoCommand
 pub mod OwnPaths
 pub mod PathLines
-pub mod PathsErased
 pub mod Prefixes

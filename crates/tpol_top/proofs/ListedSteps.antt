@@ -3,9 +3,9 @@ use Rattle.std.proofs.Common.{◌≡◌, ◌<◌, ◌≤◌, List, [], true, fal
 use Rattle.std.proofs.lemmas.Bool.Decides.{nat_tests}
 use Rattle.std.specs.List.{list_any}
 use Rattle.tpol_digest.specs.Paths.{paths_of}
-use Rattle.tpol_fill.specs.Erased.{erased}
+use Rattle.tpol_tree.specs.ClosedErased.{erased}
 use Rattle.tpol_top.proofs.FilledErased.{policy_digest_erased}
-use Rattle.tpol_top.proofs.PathsErased.{paths_of_erased}
+use Rattle.tpol_digest.proofs.Erasures.{paths_of-erased}
 use Rattle.tpol_top.specs.Listed.{is_too_long, listed, path_outcome, too_long_path, too_many_paths, within_limits}
 use Rattle.tpol_tree.specs.declared.closed.Closed.{Closed}
 use Rattle.tpol_tree.specs.declared.path.Path.{Path}
@@ -19,7 +19,7 @@ few paths h = grind (arith, nat_tests)
 -- the listing does not depend on where the boxes lie
 listed_as_it_lies : (closed : Closed) → listed (erased closed) ≡ within_limits (paths_of closed []) (path_outcome closed (paths_of closed []))
 unfolding listed
-listed_as_it_lies closed = rw (paths_of_erased closed [], policy_digest_erased closed)
+listed_as_it_lies closed = rw (paths_of-erased closed [], policy_digest_erased closed)
 
 pub listed_too_many : (closed : Closed) → 4096 < length (paths_of closed []) → listed (erased closed) ≡ Err too_many_paths
 listed_too_many closed h = listed_as_it_lies closed ∙ rw (many (paths_of closed []) h)

@@ -1,8 +1,7 @@
 -- The step that fills a document.
 use Rattle.std.specs.Prelude.{List, [], ◌∷◌, Option, Ok, Err}
-use Rattle.tpol_fill.specs.declared.fault.FillFault.{FillFault}
-use Rattle.tpol_fill.specs.declared.fault.FillFault.TheVariants.{Bad, NoMemory}
 use Rattle.tpol_fill.specs.Filling.{filled, fill_faults}
+use Rattle.tpol_fill.specs.Outcome.{Fault}
 use Rattle.tpol_name.specs.declared.sight.Sight.{Sight}
 use Rattle.tpol_tree.specs.declared.closed.Closed.{Closed}
 use Rattle.tpol_tree.specs.declared.policy.Policy.{Policy}
@@ -10,10 +9,9 @@ use Rattle.tpol_top.specs.Refusals.{bad_policy, fill_kind_name}
 use Rattle.tpol_top.specs.Steps.{Step}
 
 -- the closed policy, unless there is a fault: then the first one ends the run
-abbrev pub unless_fault : List FillFault → Closed → Step Closed
+abbrev pub unless_fault : List Fault → Closed → Step Closed
 unless_fault [] closed = Ok closed
-unless_fault (Bad kind place ∷ rest) closed = Err (bad_policy (fill_kind_name kind) place)
-unless_fault (NoMemory ∷ rest) closed = Ok closed
+unless_fault (fault ∷ rest) closed = Err (bad_policy (fill_kind_name fault.0) fault.1)
 
 -- the policy with every wish given
 unfoldable pub filled_step : Policy → Option Sight → Step Closed

@@ -1,6 +1,6 @@
 ghost use Rattle.std.specs.Prelude.{◌≡◌, ◌≤◌, ◌⊎◌, false, is_some, IfSome, IfOk, IsOk, IsSome, IsErrOf};
 ghost use Rattle.tpol_base.specs.Causes.{Rose};
-ghost use Rattle.tpol_fill.specs.Erased.{erased};
+ghost use Rattle.tpol_tree.specs.ClosedErased.{erased};
 ghost use Rattle.std.specs.Option.{option_copied};
 ghost use Rattle.tpol_top.specs.Closed.{closed_step, with_notes};
 ghost use Rattle.tpol_top.specs.Filled.{filled_step};

@@ -1,5 +1,5 @@
 ghost use Rattle.std.specs.Prelude.{◌≡◌, ◌++◌, IfOk, OnOk, map};
-ghost use Rattle.tpol_fill.specs.Erased.{erased};
+ghost use Rattle.tpol_tree.specs.ClosedErased.{erased};
 ghost use Rattle.tpol_top.specs.Compile.{compiled};
 ghost use Rattle.tpol_top.specs.Lines.{note_line};
 ghost use Rattle.tpol_top.specs.Outcome.{line_of};

@@ -1,5 +1,5 @@
 ghost use Rattle.std.specs.Option.{option_copied};
-ghost use Rattle.tpol_fill.specs.Erased.{erased};
+ghost use Rattle.tpol_tree.specs.ClosedErased.{erased};
 ghost use Rattle.tpol_top.specs.Filled.{filled_step};
 ghost use Rattle.tpol_top.specs.Steps.{Answers};
 ghost use Rattle.std.specs.Prelude.{IfOk, IsErrOf};

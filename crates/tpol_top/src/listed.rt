@@ -1,7 +1,7 @@
 ghost use Rattle.std.specs.Prelude.{◌≡◌, ◌<◌, ◌≤◌, ◌++◌, [], true, false, length, IfOk, OnOk, IsErrOf};
 ghost use Rattle.std.specs.List.{list_any};
 ghost use Rattle.tpol_digest.specs.Paths.{paths_of};
-ghost use Rattle.tpol_fill.specs.Erased.{erased};
+ghost use Rattle.tpol_tree.specs.ClosedErased.{erased};
 ghost use Rattle.tpol_top.specs.Listed.{is_too_long, listed, path_lines, path_outcome};
 ghost use Rattle.tpol_top.specs.Steps.{Answers};
 ghost use Rattle.tpol_tree.specs.Closed.{HasBranchCounts};

@@ -1,9 +1,10 @@
 use Rattle.std.proofs.Common.{ap, sym, ◌∙◌}
 use Rattle.std.specs.Option.{option_copied}
 use Rattle.tpol_digest.specs.Digest.{digest_at, zero_digest}
-use Rattle.tpol_digest.specs.Paths.{document_paths, paths_at}
-use Rattle.tpol_fill.proofs.ErasedLemmas.{digest_at-erased, paths_at-erased}
-use Rattle.tpol_fill.proofs.WellFormedLemmas.{approvals_lead-filled, pcr_digests-filled, well_formed-filled}
+use Rattle.tpol_digest.specs.Paths.{paths_of}
+use Rattle.tpol_digest.proofs.Erasures.{digest_at-erased, paths_of-erased}
+use Rattle.tpol_fill.proofs.WellFormedLemmas.{approvals_lead-filled, branches-filled, pcr_digests-filled, well_formed-filled}
+use Rattle.tpol_fill.proofs.BoundLemmas.{bounded-filled}
 use Rattle.tpol_fill.proofs.elements.fill.Goals as goal
 
 pub returns-clause-well_formed : goal.returns-clause-well_formed
@@ -25,4 +26,12 @@ returns-clause-digest c =
 
 pub returns-clause-paths : goal.returns-clause-paths
 returns-clause-paths c = λ documents.
-    sym (paths_at-erased (document_paths documents 4) documents c.in_ok-elements.elements zero_digest) ∙ ap (λ elements. paths_at (document_paths documents 4) documents elements zero_digest) c.in_ok-elements.ensures.1
+    sym (paths_of-erased (record { elements = c.in_ok-elements.elements }) documents) ∙ ap (λ elements. paths_of (record { elements = elements }) documents) c.in_ok-elements.ensures.1
+
+pub returns-clause-branches : goal.returns-clause-branches
+returns-clause-branches c = λ counts.
+    branches-filled c.args.policy.now.elements (option_copied c.args.sight) _ counts c.in_ok-elements.ensures.1
+
+pub returns-clause-bounded : goal.returns-clause-bounded
+returns-clause-bounded c = λ bounds.
+    bounded-filled _ c.args.policy.now.elements (option_copied c.args.sight) _ bounds c.in_ok-elements.ensures.0 c.in_ok-elements.ensures.1

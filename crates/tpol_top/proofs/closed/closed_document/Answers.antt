@@ -1,4 +1,4 @@
-use Rattle.tpol_fill.specs.Erased.{erased}
+use Rattle.tpol_tree.specs.ClosedErased.{erased}
 use Rattle.tpol_tree.specs.Erased.{erased_policy}
 use Rattle.tpol_top.proofs.ClosedSteps.{answer_after, halts_after}
 use Rattle.tpol_top.proofs.closed.closed_document.Goals as goal
