@@ -97,7 +97,7 @@ set_by_handle index (e ∷ es) w all handle content =
     by false test rest = all_of IsUnderHandle e (set_value (nat_eq index) es w) (first_of IsUnderHandle e es all) rest
 
 -- WRITTEN is no part of the type
-index_type-written : (attributes : ℕ) → index_type (bit_or attributes nv_written) ≡ index_type attributes
+pub index_type-written : (attributes : ℕ) → index_type (bit_or attributes nv_written) ≡ index_type attributes
 index_type-written attributes =
     ap (λ n. n % 2 ^ 4) (or_shr attributes nv_written 4) ∙ or_mod (attributes / 2 ^ 4) (nv_written / 2 ^ 4) 4 ∙ or_zero_r (attributes / 2 ^ 4 % 2 ^ 4)
 
