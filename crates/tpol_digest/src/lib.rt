@@ -33,7 +33,7 @@ pub use at_position::path_at;
 pub use fault::TreeFault;
 pub use inputs::{inputs_of, inputs_of_facts};
 pub use laws::{boxes_are_ignored, paths_have_bounds, paths_have_pcr_digests};
-pub use limits::{PathLimit, check_paths, count_paths};
+pub use limits::{MAX_LEVELS, PathLimit, check_paths, count_paths};
 pub use moves::{digest_after_move, run_facts, run_path};
 pub use policy::{
     approve_digest, approve_nv_digest, digest_after_element, digest_of, or_digest,

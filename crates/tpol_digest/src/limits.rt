@@ -8,7 +8,7 @@ use crate::extent::{MAX_MOVES, MAX_PATHS};
 use thiserror::Error;
 use tpol_tree::{Approvals, Closed};
 
-// How many approvals may lie inside one another.
+/// How many approvals may lie inside one another.
 pub const MAX_LEVELS: u8 = 4;
 
 /// Why the ways through a policy are not walked.

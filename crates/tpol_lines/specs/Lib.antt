@@ -1,0 +1,4 @@
+pub mod Lines
+pub mod PathLine
+pub mod Pen
+pub mod Texts

@@ -1,0 +1,94 @@
+-- The choices and the kinds of paths, as text.
+use Rattle.std.specs.Prelude.{◌≡◌, ℕ, ◌+◌, List, [], ◌∷◌, ◌++◌, codes, length, map, is_some, if◌then◌else◌}
+use Rattle.std.specs.List.{flat_map}
+use Rattle.json.specs.Print.{quoted}
+use Rattle.tpol_tree.specs.declared.closed.ClosedElements.{ClosedElements}
+use Rattle.tpol_tree.specs.declared.closed.ClosedElement.{ClosedElement}
+use Rattle.tpol_tree.specs.declared.closed.ClosedBranches.{ClosedBranches}
+use Rattle.tpol_tree.specs.declared.closed.ClosedBranches.TheVariants.{More' as MoreBranches', End as EndBranches}
+use Rattle.tpol_tree.specs.declared.path.ApprovedDoc.{ApprovedDoc}
+use Rattle.tpol_tree.specs.declared.path.Move.{Move}
+use Rattle.tpol_tree.specs.declared.path.Path.{Path}
+use Rattle.tpol_tree.specs.declared.path.PathStep.{PathStep}
+use Rattle.tpol_digest.specs.Digest.{zero_digest}
+use Rattle.tpol_digest.specs.Paths.{approval_of, document_paths}
+use Rattle.tpol_digest.specs.Positions.{element_list_ways, element_ways}
+use Rattle.tpol_lines.specs.declared.path_lines.Ahead.{Ahead}
+use Rattle.tpol_lines.specs.declared.path_lines.Ahead.TheVariants.{Nothing, After'}
+use Rattle.tpol_lines.specs.declared.pen.Pen.{Pen}
+use Rattle.tpol_lines.specs.Lines.{line_of}
+use Rattle.tpol_lines.specs.PathLine.{move_kind, step_text}
+use Rattle.tpol_lines.specs.Pen.{line_behind}
+
+-- the choices, each behind a `/`, and the kinds of the policy commands, each behind a `,`
+pub record Texts : Type 0 where
+  pub choices : List ℕ
+  pub kinds : List ℕ
+
+-- nothing; one choice; one kind
+abbrev pub no_text : Texts
+no_text = record { choices = []; kinds = [] }
+
+abbrev pub of_choice : List ℕ → Texts
+of_choice text = record { choices = 47 ∷ text; kinds = [] }
+
+abbrev pub of_kind : List ℕ → Texts
+of_kind text = record { choices = []; kinds = 44 ∷ text }
+
+-- one and then the other, and each of the first with each of the others
+abbrev pub join : Texts → Texts → Texts
+join a b = record { choices = a.choices ++ b.choices; kinds = a.kinds ++ b.kinds }
+
+abbrev pub both : List Texts → List Texts → List Texts
+both firsts rests = flat_map (λ first. map (join first) rests) firsts
+
+-- of a path
+abbrev pub texts_of : Path → Texts
+texts_of path = record { choices = flat_map (λ step. 47 ∷ step_text step) path.steps; kinds = flat_map (λ act. 44 ∷ move_kind act) path.moves }
+
+-- of the paths of elements and of one element, where documents may be entered so many levels deep; which
+-- digest stands before them is not seen
+abbrev pub element_list_texts : List ApprovedDoc → ℕ → ClosedElements → List Texts
+element_list_texts documents levels elements = map texts_of (element_list_ways documents levels elements zero_digest)
+
+abbrev pub element_texts : List ApprovedDoc → ℕ → ClosedElement → List Texts
+element_texts documents levels element = map texts_of (element_ways documents levels element zero_digest)
+
+-- of the paths of branches, without the move of their OR
+abbrev pub branch_texts : List ApprovedDoc → ℕ → ClosedBranches → List Texts
+branch_texts documents levels EndBranches = []
+branch_texts documents levels (MoreBranches' p name elements q rest) =
+    map (join (of_choice (quoted name))) (element_list_texts documents levels elements) ++ branch_texts documents levels rest
+
+-- of the paths of the documents that an element's approver approved, without the move of the approval
+abbrev pub document_texts : List ApprovedDoc → ℕ → ClosedElement → List ApprovedDoc → List Texts
+document_texts documents levels element some =
+    flat_map (λ document. if is_some (approval_of element document) then map (join (of_choice (64 ∷ quoted document.document))) (map texts_of (document_paths documents levels document)) else []) some
+
+-- the same, and of the way by a policy that no listed document has
+abbrev pub approval_texts : List ApprovedDoc → ℕ → ClosedElement → List Texts
+approval_texts documents levels element =
+    document_texts documents levels element documents ++ of_choice (codes "@*") ∷ []
+
+-- of what comes behind a branch or a document: the move that closes it, and the rest of the list that it
+-- stands in
+abbrev pub texts_ahead : List ApprovedDoc → Ahead → List Texts
+texts_ahead documents Nothing = no_text ∷ []
+texts_ahead documents (After' kind rest levels p ahead) =
+    map (join (of_kind kind.now)) (both (element_list_texts documents levels rest.now) (texts_ahead documents ahead))
+
+-- a line for each, from this position on, behind the texts so far
+abbrev pub lines_behind : ℕ → Texts → List Texts → List (List ℕ)
+lines_behind position before [] = []
+lines_behind position before (texts ∷ rest) =
+    line_of (line_behind position (before.choices ++ texts.choices) (before.kinds ++ texts.kinds)) ∷ lines_behind (position + 1) before rest
+
+-- a pen's texts so far
+abbrev pub texts_of_pen : Pen → Texts
+texts_of_pen pen = record { choices = pen.choices.items; kinds = pen.kinds.items }
+
+-- the pen has written a line for each of these, behind its texts, and its texts are as before
+pub record Writes (before after : Pen) (texts : List Texts) : Type 0 where
+  pub lines : after.lines ≡ before.lines ++ lines_behind (length before.lines + 1) (texts_of_pen before) texts
+  pub choices : after.choices.items ≡ before.choices.items
+  pub kinds : after.kinds.items ≡ before.kinds.items

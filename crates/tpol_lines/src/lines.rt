@@ -1,0 +1,23 @@
+ghost use Rattle.std.specs.Prelude.{◌≡◌, ◌∷◌, ◌++◌, [], OnOk};
+ghost use Rattle.tpol_lines.specs.Lines.{line_of};
+
+use std::alloc::Global;
+use tpol_base::{Blob, NoMemory, Sequence};
+
+/// Lines that are printed, each with its line end.
+pub type Lines = Sequence<Blob>;
+
+/// Adds a line, with its line end.
+pub fn push_line(alloc: Global, lines: &mut Lines, line: &str) -> Result<(), NoMemory>
+    ensures { OnOk result (lines.new ≡ lines.old ++ line_of line.now ∷ []) }
+{
+    push_bytes(lines, Blob::from_slice(alloc, line.as_bytes())?)
+}
+
+/// Adds the line of these bytes, with its line end.
+pub fn push_bytes(lines: &mut Lines, mut line: Blob) -> Result<(), NoMemory>
+    ensures { OnOk result (lines.new ≡ lines.old ++ line_of line ∷ []) }
+{
+    line.push(b'\n')?;
+    lines.push(line)
+}

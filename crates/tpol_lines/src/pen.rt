@@ -1,0 +1,95 @@
+ghost use Rattle.std.specs.Prelude.{◌≡◌, ◌+◌, ◌∷◌, ◌++◌, [], codes, length, OnOk};
+ghost use Rattle.json.specs.Print.{quoted};
+ghost use Rattle.tpol_lines.specs.Lines.{line_of};
+ghost use Rattle.tpol_lines.specs.Pen.{behind_separator, line_behind};
+
+use crate::lines::{Lines, push_bytes};
+use std::alloc::Global;
+use tpol_base::{Blob, NoMemory};
+use tpol_json::quoted;
+
+// Writes the lines of paths, each when its path is whole. It holds the choices and the kinds of the policy
+// commands so far.
+#[derive(Drop)]
+pub struct Pen {
+    pub lines: Lines,
+    // Each choice behind a `/`.
+    pub choices: Vec<u8>,
+    // Each kind behind a `,`.
+    pub kinds: Vec<u8>,
+}
+
+impl Pen {
+    // A pen that has written nothing.
+    pub fn new(alloc: Global) -> Pen
+        ensures lines { result.lines ≡ [] }
+        ensures choices { result.choices.items ≡ [] }
+        ensures kinds { result.kinds.items ≡ [] }
+    {
+        Pen {
+            lines: Lines::new(alloc),
+            choices: Vec::new(alloc),
+            kinds: Vec::new(alloc),
+        }
+    }
+
+    // Adds the choice of a name behind its mark.
+    pub fn push_name(&mut self, alloc: Global, mark: &str, name: &str) -> Result<(), NoMemory>
+        ensures choices { OnOk result (self.new.choices.items
+            ≡ self.old.choices.items ++ (mark.now ++ quoted name.now)) }
+        ensures lines { self.new.lines ≡ self.old.lines }
+        ensures kinds { self.new.kinds ≡ self.old.kinds }
+    {
+        let name = quoted(alloc, name)?;
+        self.choices.extend_from_slice(mark.as_bytes())?;
+        self.choices.extend_from_slice(name.as_bytes())?;
+        Ok(())
+    }
+
+    // Adds the choice of an approval of a policy that no listed document has.
+    pub fn push_outside(&mut self) -> Result<(), NoMemory>
+        ensures choices { OnOk result (self.new.choices.items ≡ self.old.choices.items ++ codes "/@*") }
+        ensures lines { self.new.lines ≡ self.old.lines }
+        ensures kinds { self.new.kinds ≡ self.old.kinds }
+    {
+        self.choices.extend_from_slice(b"/@*")?;
+        Ok(())
+    }
+
+    // Adds the kind of a policy command.
+    pub fn push_kind(&mut self, kind: &str) -> Result<(), NoMemory>
+        ensures kinds { OnOk result (self.new.kinds.items ≡ self.old.kinds.items ++ 44 ∷ kind.now) }
+        ensures lines { self.new.lines ≡ self.old.lines }
+        ensures choices { self.new.choices ≡ self.old.choices }
+    {
+        self.kinds.push(b',')?;
+        self.kinds.extend_from_slice(kind.as_bytes())?;
+        Ok(())
+    }
+
+    // Writes the line of the path that is whole.
+    pub fn write_line(&mut self, alloc: Global) -> Result<(), NoMemory>
+        ensures lines { OnOk result (self.new.lines ≡ self.old.lines
+            ++ line_of (line_behind (length self.old.lines + 1) self.old.choices.items self.old.kinds.items) ∷ []) }
+        ensures choices { self.new.choices ≡ self.old.choices }
+        ensures kinds { self.new.kinds ≡ self.old.kinds }
+    {
+        let position = self.lines.len().checked_add(1).ok_or(NoMemory)?;
+        let head = format!(in alloc; "path {position} ")?;
+        let mut line = Blob::from_slice(alloc, head.as_bytes())?;
+        line.extend_from_slice(behind_separator(self.choices.as_slice(), b"-"))?;
+        line.push(b' ')?;
+        line.extend_from_slice(behind_separator(self.kinds.as_slice(), b""))?;
+        push_bytes(&mut self.lines, line)
+    }
+}
+
+// The pieces without the separator in front of the first, or what stands for none.
+fn behind_separator<'a>(pieces: &'a [u8], none: &'a [u8]) -> &'a [u8]
+    ensures { result.now ≡ behind_separator pieces.now none.now }
+{
+    match pieces.split_first() {
+        None => none,
+        Some((_, rest)) => rest,
+    }
+}
