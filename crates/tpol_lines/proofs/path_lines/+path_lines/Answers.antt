@@ -129,18 +129,18 @@ write_element-returns t c =
     let behind = both (element_list_texts documents levels c.args.rest.now) (texts_ahead documents c.args.ahead.now) in
     let inner = approval_texts documents levels c.args.element.now in
     let closed : both inner (map (join (of_kind c.match-element.kind.now)) behind) ≡ both (element_texts documents levels c.args.element.now) behind =
-        elim c.match-element.branch [
-          | write_element-in-Authorize w ↦
-            let kind = ap (λ k. k.now) w.kind-is in
-            ap (λ k. both inner (map (join (of_kind k)) behind)) kind
-            ∙ sym (both-closed (of_kind (codes "Approve")) inner behind)
-            ∙ ap (λ l. both l behind) (ap (λ e. map (λ t. join t (of_kind (codes "Approve"))) (approval_texts documents levels e)) w.in-Authorize.is ∙ sym (key_texts documents levels w.in-Authorize.key w.in-Authorize.policy_ref) ∙ ap (element_texts documents levels) (sym w.in-Authorize.is))
-          | write_element-in-AuthorizeNv w ↦
-            let kind = ap (λ k. k.now) w.kind-is in
-            ap (λ k. both inner (map (join (of_kind k)) behind)) kind
-            ∙ sym (both-closed (of_kind (codes "ApproveNv")) inner behind)
-            ∙ ap (λ l. both l behind) (ap (λ e. map (λ t. join t (of_kind (codes "ApproveNv"))) (approval_texts documents levels e)) w.in-AuthorizeNv.is ∙ sym (index_texts documents levels w.in-AuthorizeNv.index) ∙ ap (element_texts documents levels) (sym w.in-AuthorizeNv.is))
-        ] in
+    elim c.match-element.branch [
+      | write_element-in-Authorize w ↦
+          let kind = ap (λ k. k.now) w.kind-is in
+          ap (λ k. both inner (map (join (of_kind k)) behind)) kind
+          ∙ sym (both-closed (of_kind (codes "Approve")) inner behind)
+          ∙ ap (λ l. both l behind) (ap (λ e. map (λ t. join t (of_kind (codes "Approve"))) (approval_texts documents levels e)) w.in-Authorize.is ∙ sym (key_texts documents levels w.in-Authorize.key w.in-Authorize.policy_ref) ∙ ap (element_texts documents levels) (sym w.in-Authorize.is))
+      | write_element-in-AuthorizeNv w ↦
+          let kind = ap (λ k. k.now) w.kind-is in
+          ap (λ k. both inner (map (join (of_kind k)) behind)) kind
+          ∙ sym (both-closed (of_kind (codes "ApproveNv")) inner behind)
+          ∙ ap (λ l. both l behind) (ap (λ e. map (λ t. join t (of_kind (codes "ApproveNv"))) (approval_texts documents levels e)) w.in-AuthorizeNv.is ∙ sym (index_texts documents levels w.in-AuthorizeNv.index) ∙ ap (element_texts documents levels) (sym w.in-AuthorizeNv.is))
+    ] in
     on_ok_weaker c.write_approvals.result (λ g. subst (Writes c.args.pen.now c.write_approvals.new.pen) closed g) c.write_approvals.ensures
 
 pub write_elements-returns-in-End : goal.write_elements-returns-in-End
@@ -181,23 +181,23 @@ write_approvals-loop-document-preserved t c =
     let more = documents_more documents levels element i document c.loop-document-test.true c.document-item.is in
     elim c.if-accepts.branch [
       | write_approvals-then-accepts+in_ok-push_name+in_ok-write_elements w ↦
-        let inner = element_list_texts documents (levels - 1) document.closed.elements in
-        let name = quoted document.document in
-        let kept = c.len-kept.ensures ∙ c.args.pen.now.choices.ok.0 ∙ ap length (sym c.loop-document.invariant.choices) in
-        let pushed = w.in_ok-push_name.ensures.choices ∙ ap (λ n. c.loop-document.pen.choices.items ++ 47 ∷ 64 ∷ quoted n) w.as_str.ensures in
-        let after : Pen = record { lines = w.write_elements.new.pen.lines; choices = w.truncate.new.self; kinds = w.write_elements.new.pen.kinds } in
-        let wrote = choice_written c.loop-document.pen w.push_name.new.self w.write_elements.new.pen after (64 ∷ name) (both inner ahead) c.len-kept.result w.in_ok-push_name.ensures.lines w.in_ok-push_name.ensures.kinds pushed w.in_ok-write_elements.ensures kept refl refl w.truncate.ensures.items in
-        let entered = part_entered documents levels element document level (sym c.accepts.ensures ∙ w.if-accepts.true) in
-        let same : both done ahead ++ map (join (of_choice (64 ∷ name))) (both inner ahead) ≡ both (document_texts documents levels element (take (i + 1) documents)) ahead =
-        ap (λ l. both done ahead ++ l) (sym (both-join (of_choice (64 ∷ name)) inner ahead) ∙ ap (λ l. both l ahead) (sym entered))
-        ∙ sym (both-append done (part documents levels element document) ahead)
-        ∙ ap (λ l. both l ahead) (sym more) in
-        subst (λ p. Writes c.args.pen.now p (both (document_texts documents levels element (take (i + 1) documents)) ahead)) (sym w.pen-is) (subst (Writes c.args.pen.now after) same (writes_then c.args.pen.now c.loop-document.pen after (both done ahead) (map (join (of_choice (64 ∷ name))) (both inner ahead)) c.loop-document.invariant wrote))
+          let inner = element_list_texts documents (levels - 1) document.closed.elements in
+          let name = quoted document.document in
+          let kept = c.len-kept.ensures ∙ c.args.pen.now.choices.ok.0 ∙ ap length (sym c.loop-document.invariant.choices) in
+          let pushed = w.in_ok-push_name.ensures.choices ∙ ap (λ n. c.loop-document.pen.choices.items ++ 47 ∷ 64 ∷ quoted n) w.as_str.ensures in
+          let after : Pen = record { lines = w.write_elements.new.pen.lines; choices = w.truncate.new.self; kinds = w.write_elements.new.pen.kinds } in
+          let wrote = choice_written c.loop-document.pen w.push_name.new.self w.write_elements.new.pen after (64 ∷ name) (both inner ahead) c.len-kept.result w.in_ok-push_name.ensures.lines w.in_ok-push_name.ensures.kinds pushed w.in_ok-write_elements.ensures kept refl refl w.truncate.ensures.items in
+          let entered = part_entered documents levels element document level (sym c.accepts.ensures ∙ w.if-accepts.true) in
+          let same : both done ahead ++ map (join (of_choice (64 ∷ name))) (both inner ahead) ≡ both (document_texts documents levels element (take (i + 1) documents)) ahead =
+          ap (λ l. both done ahead ++ l) (sym (both-join (of_choice (64 ∷ name)) inner ahead) ∙ ap (λ l. both l ahead) (sym entered))
+          ∙ sym (both-append done (part documents levels element document) ahead)
+          ∙ ap (λ l. both l ahead) (sym more) in
+          subst (λ p. Writes c.args.pen.now p (both (document_texts documents levels element (take (i + 1) documents)) ahead)) (sym w.pen-is) (subst (Writes c.args.pen.now after) same (writes_then c.args.pen.now c.loop-document.pen after (both done ahead) (map (join (of_choice (64 ∷ name))) (both inner ahead)) c.loop-document.invariant wrote))
       | write_approvals-else-accepts w ↦
-        let passed = part_passed documents levels element document (sym c.accepts.ensures ∙ w.if-accepts.false) in
-        let same : both done ahead ≡ both (document_texts documents levels element (take (i + 1) documents)) ahead =
-        ap (λ l. both l ahead) (sym (append-nil done) ∙ ap (λ l. done ++ l) (sym passed) ∙ sym more) in
-        subst (λ p. Writes c.args.pen.now p (both (document_texts documents levels element (take (i + 1) documents)) ahead)) (sym w.pen-is) (subst (Writes c.args.pen.now c.loop-document.pen) same c.loop-document.invariant)
+          let passed = part_passed documents levels element document (sym c.accepts.ensures ∙ w.if-accepts.false) in
+          let same : both done ahead ≡ both (document_texts documents levels element (take (i + 1) documents)) ahead =
+          ap (λ l. both l ahead) (sym (append-nil done) ∙ ap (λ l. done ++ l) (sym passed) ∙ sym more) in
+          subst (λ p. Writes c.args.pen.now p (both (document_texts documents levels element (take (i + 1) documents)) ahead)) (sym w.pen-is) (subst (Writes c.args.pen.now c.loop-document.pen) same c.loop-document.invariant)
     ]
 
 pub write_approvals-returns : goal.write_approvals-returns
@@ -209,10 +209,10 @@ write_approvals-returns t c =
     let whole = document_texts documents levels element documents in
     let before = c.if-levels-gt0.pen in
     let all : Writes c.args.pen.now before (both whole ahead) =
-        elim c.if-levels-gt0.branch [
-          | write_approvals-then-levels-gt0+else-loop-document-test w ↦ subst (λ p. Writes c.args.pen.now p (both whole ahead)) (sym w.pen-is) (subst (λ l. Writes c.args.pen.now w.loop-document.pen (both (document_texts documents levels element l) ahead)) (take_all w.loop-document.document-index documents w.loop-document-test.false) w.loop-document.invariant)
-          | write_approvals-else-levels-gt0 w ↦ subst (λ p. Writes c.args.pen.now p (both whole ahead)) (sym w.pen-is) (subst (Writes c.args.pen.now c.args.pen.now) (ap (λ l. both l ahead) (sym (no_documents documents levels element w.if-levels-gt0.false))) (writes_nothing c.args.pen.now))
-        ] in
+    elim c.if-levels-gt0.branch [
+      | write_approvals-then-levels-gt0+else-loop-document-test w ↦ subst (λ p. Writes c.args.pen.now p (both whole ahead)) (sym w.pen-is) (subst (λ l. Writes c.args.pen.now w.loop-document.pen (both (document_texts documents levels element l) ahead)) (take_all w.loop-document.document-index documents w.loop-document-test.false) w.loop-document.invariant)
+      | write_approvals-else-levels-gt0 w ↦ subst (λ p. Writes c.args.pen.now p (both whole ahead)) (sym w.pen-is) (subst (Writes c.args.pen.now c.args.pen.now) (ap (λ l. both l ahead) (sym (no_documents documents levels element w.if-levels-gt0.false))) (writes_nothing c.args.pen.now))
+    ] in
     let kept = c.len-kept.ensures ∙ c.args.pen.now.choices.ok.0 ∙ ap length (sym all.choices) in
     let after : Pen = record { lines = c.write_ahead.new.pen.lines; choices = c.truncate-2.new.self; kinds = c.write_ahead.new.pen.kinds } in
     let outside = choice_written before c.push_outside.new.self c.write_ahead.new.pen after (codes "@*") ahead c.len-kept.result c.in_ok-push_outside.ensures.lines c.in_ok-push_outside.ensures.kinds c.in_ok-push_outside.ensures.choices c.in_ok-write_ahead.ensures kept refl refl c.truncate-2.ensures.items in
