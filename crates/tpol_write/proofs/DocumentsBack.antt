@@ -24,7 +24,7 @@ use Rattle.tpol_elements.specs.Values.{digest_in}
 use Rattle.tpol_base.specs.Answers.{◌>>=◌}
 use Rattle.tpol_elements.specs.Faults.{bad}
 use Rattle.tpol_elements.specs.Fields.{policy_ref_in}
-use Rattle.tpol_elements.specs.Members.{object_in, noted, unknown}
+use Rattle.tpol_elements.specs.Members.{object_in, noted}
 use Rattle.tpol_elements.specs.Rows.{without_pem}
 use Rattle.tpol_elements.specs.Wishes.{key_in, index_in}
 use Rattle.tpol_json.specs.Words.{find_word}
@@ -43,6 +43,7 @@ use Rattle.tpol_write.specs.Canonical.{policy_value}
 use Rattle.tpol_write.specs.Elements.{elements_values}
 use Rattle.tpol_write.specs.Levels.{levels_of_elements}
 use Rattle.tpol_write.specs.Objects.{hex_text, list_of}
+use Rattle.tpol_json.specs.Members.{unknown}
 
 -- ---- an authorization
 

@@ -19,7 +19,6 @@ use Rattle.tpol_elements.specs.Members.{object_in, needed, noted}
 use Rattle.tpol_elements.specs.Rows.{leaf_row}
 use Rattle.tpol_elements.specs.Types.{type_in}
 use Rattle.tpol_elements.specs.Walks.{Reading}
-use Rattle.tpol_elements.specs.Wishes.{items_count}
 use Rattle.tpol_json.specs.Words.{find_word}
 use Rattle.tpol_elements.specs.declared.fault.PolicyKind.TheVariants as kinds
 use Rattle.tpol_elements.specs.declared.types.ElementType.{ElementType}
@@ -37,6 +36,7 @@ use Rattle.tpol_tree.specs.declared.policy.Elements.TheVariants as elements
 use Rattle.tpol_write.specs.Elements.{element_value, elements_values, branches_values, branch_value}
 use Rattle.tpol_write.specs.Levels.{levels_of_element, levels_of_elements, levels_of_branches}
 use Rattle.tpol_write.specs.Objects.{list_of}
+use Rattle.tpol_json.specs.Members.{items_count}
 
 -- ---- what reads back
 

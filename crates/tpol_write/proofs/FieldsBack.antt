@@ -22,12 +22,13 @@ use Rattle.tpol_elements.specs.Values.{bytes_up_to, digest_in, name_in, is_empty
 use Rattle.tpol_elements.specs.Operations.{operation_in}
 use Rattle.tpol_elements.specs.Faults.{Found, bad, read_as}
 use Rattle.tpol_elements.specs.Fields.{policy_ref_in, some_digest_in, cp_hash_in, expiration_in, operand_in, offset_in, operation_member_in}
-use Rattle.tpol_elements.specs.Members.{read_needed, read_optional}
+use Rattle.tpol_elements.specs.Members.{read_needed}
 use Rattle.tpol_elements.specs.Rows.{include_member, object_member, included_object, written_member}
 use Rattle.tpol_elements.specs.declared.fault.PolicyKind.TheVariants.{Missing}
 use Rattle.tpol_base.specs.Compare.{name_of_compare}
 use Rattle.tpol_write.specs.Objects.{hex_text, natural, integer}
 use Rattle.tpol_write.specs.Wishes.{name_value}
+use Rattle.tpol_json.specs.Members.{read_optional}
 
 -- ---- members that have to be there, and members that may be left out
 

@@ -32,6 +32,7 @@ use Rattle.tpol_tree.specs.declared.wishes.PcrWish.TheVariants.{Values, Current}
 use Rattle.tpol_write.specs.Elements.{typed}
 use Rattle.tpol_write.specs.Objects.{natural, list_of}
 use Rattle.tpol_write.specs.Wishes.{pcr_value, pcrs_below, pcrs_member}
+use Rattle.tpol_json.specs.Words.{find_word}
 
 -- ---- localities
 

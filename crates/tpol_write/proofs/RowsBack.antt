@@ -19,7 +19,7 @@ use Rattle.tpol_read.specs.Elements.{element_by, element_of_type, element_type_i
 use Rattle.tpol_elements.specs.Values.{digest_in}
 use Rattle.tpol_elements.specs.Faults.{Found}
 use Rattle.tpol_elements.specs.Fields.{policy_ref_in, cp_hash_in, expiration_in, operand_in, offset_in, operation_member_in}
-use Rattle.tpol_elements.specs.Members.{needed, object_in, noted, unknown}
+use Rattle.tpol_elements.specs.Members.{needed, object_in, noted}
 use Rattle.tpol_elements.specs.Localities.{locality_in}
 use Rattle.tpol_elements.specs.Operations.{code_in}
 use Rattle.tpol_elements.specs.declared.fault.PolicyKind.TheVariants.{Missing}
@@ -50,9 +50,11 @@ use Rattle.tpol_tree.specs.declared.wishes.PcrWish.{PcrWish}
 use Rattle.tpol_tree.specs.declared.wishes.PcrWish.TheVariants.{Values, Current}
 use Rattle.tpol_write.specs.Elements.{element_value}
 use Rattle.tpol_write.specs.Levels.{levels_of_element}
-use Rattle.tpol_write.specs.Names.{name_of_compare, code_text}
+use Rattle.tpol_write.specs.Names.{code_text}
 use Rattle.tpol_write.specs.Objects.{hex_text, natural, integer}
 use Rattle.tpol_write.specs.Wishes.{name_value}
+use Rattle.tpol_base.specs.Compare.{name_of_compare}
+use Rattle.tpol_json.specs.Members.{unknown}
 
 -- ---- an element that reads back
 
