@@ -1,13 +1,20 @@
 //! Types whose clones are equal to what they were made from.
 
-ghost use Rattle.std.specs.Prelude.{◌≡◌};
+ghost use Rattle.std.specs.Prelude.{◌≡◌, IfOk};
 
-use crate::{Digest32, Name, Sequence, Text};
+use crate::{Digest32, Name, NoMemory, Sequence, Text};
 
 /// A type whose clones are equal to the value that they were made from. A `Sequence` of such items has a
 /// `clone` that is equal to it.
 pub trait ExactClone: Clone {
     ghost same: { (value clone : Self) → Self.is_clone value clone → clone ≡ value };
+
+    /// A clone, whose contract says that it is equal.
+    final fn exact_clone(&self) -> Result<Self, NoMemory>
+        ensures { IfOk result (λ clone. clone ≡ self.now) }
+    {
+        Ok(self.clone()?)
+    }
 }
 
 impl ExactClone for u8 {
