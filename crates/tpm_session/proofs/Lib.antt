@@ -1,3 +1,4 @@
+pub mod Bits
 pub mod Keeping
 pub mod Least
 pub mod Numbered

@@ -1,9 +1,9 @@
 -- Slots: what a look-up tells, and one write after another.
-use Rattle.std.proofs.Common.{◌≡◌, ℕ, suc, zero, ◌+◌, ◌-◌, ◌<◌, ◌≤◌, ⊎_elim, Bool, not, ◌&&◌, true, false, List, [], ◌∷◌, ◌++◌, length, set, drop, replicate, Option, None, Some, IfSome, is_some, nat_le, if◌then◌else◌, refl, ap, sym, subst, ◌∙◌, arith}
+use Rattle.std.proofs.Common.{◌≡◌, ◌≢◌, ℕ, suc, zero, ◌+◌, ◌-◌, ◌<◌, ◌≤◌, ⊎_elim, Bool, not, ◌&&◌, true, false, List, [], ◌∷◌, ◌++◌, length, set, drop, replicate, Option, None, Some, IfSome, is_some, nat_le, if◌then◌else◌, refl, ap, sym, subst, ◌∙◌, arith}
 use Rattle.std.specs.Option.{option_map}
 use Rattle.std.proofs.lemmas.Bool.{cases_lt, false≢true}
 use Rattle.std.proofs.lemmas.Bool.Decides.{nat_tests}
-use Rattle.std.proofs.lemmas.List.{set-set, get_or_past}
+use Rattle.std.proofs.lemmas.List.{set-set, get_or_past, get_or-set_other, get_or-set_same, length-set}
 use Rattle.std.proofs.lemmas.Option.{none-some, same_Some}
 use Rattle.tpm_bindings.specs.State.{SessionState}
 use Rattle.tpm_session.specs.Kept.{SessionView}
@@ -27,6 +27,30 @@ pub with_content-twice : {A : Type 0} (slots : List (Option A)) (handle : ℕ) (
 with_content-twice slots handle first last =
     elim (nat_le first_handle handle) as (λ b. (if b then set (if b then set slots (handle - first_handle) first else slots) (handle - first_handle) last else (if b then set slots (handle - first_handle) first else slots)) ≡ (if b then set slots (handle - first_handle) last else slots))
     [ true ↦ set-set slots (handle - first_handle) first last | false ↦ refl ]
+
+-- other handles keep what they have, and an emptied one has nothing
+pub content-other : {A : Type 0} (slots : List (Option A)) (handle other : ℕ) (content : Option A) → other ≢ handle → content_at (with_content slots handle content) other ≡ content_at slots other
+content-other {A} slots handle other content apart = at (nat_le first_handle other) refl (nat_le first_handle handle) refl
+  where
+    at : (b : Bool) → nat_le first_handle other ≡ b → (d : Bool) → nat_le first_handle handle ≡ d
+        → ◌≡◌ {A = Option A} (if b then in_slot (if d then set slots (handle - first_handle) content else slots) (other - first_handle) else None) (if b then in_slot slots (other - first_handle) else None)
+    at false e d f = refl
+    at true e false f = refl
+    at true e true f =
+        let low : first_handle ≤ other = grind (arith, nat_tests) in
+        let low_too : first_handle ≤ handle = grind (arith, nat_tests) in
+        let away : other - first_handle ≢ handle - first_handle = λ same. apart (omega (arith, same, low, low_too)) in
+        get_or-set_other slots (handle - first_handle) (other - first_handle) content None away
+
+pub content-emptied : {A : Type 0} (slots : List (Option A)) (handle : ℕ) → content_at (with_content slots handle None) handle ≡ None
+content-emptied {A} slots handle = at (nat_le first_handle handle) (handle - first_handle)
+  where
+    at : (b : Bool) (slot : ℕ) → ◌≡◌ {A = Option A} (if b then in_slot (if b then set slots slot None else slots) slot else None) None
+    at false slot = refl
+    at true slot =
+        ⊎_elim (λ within. get_or-set_same slots slot None None within)
+        (λ past. get_or_past (set slots slot None) slot None (subst (λ n. n ≤ slot) (sym (length-set slots slot None)) past))
+        (cases_lt slot (length slots))
 
 -- one slot more is emptied, and all are
 set-behind : {A : Type 0} (old : List (Option A)) (count : ℕ) → count < length old → set (replicate count None ++ drop count old) count None ≡ replicate (suc count) None ++ drop (suc count) old

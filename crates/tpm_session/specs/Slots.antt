@@ -1,6 +1,6 @@
 -- Slots of policy sessions: a list of what each slot has, if anything. Slot k is that of the handle
 -- 03000000 + k (TPM 2.0 Part 2, TPM_HT_POLICY_SESSION).
-use Rattle.std.specs.Prelude.{ℕ, zero, suc, ◌+◌, ◌-◌, ◌<◌, ◌≤◌, ◌==◌, ◌&&◌, Bool, not, List, Option, Some, None, is_some, nat_le, slice_index_or, slice_set, if◌then◌else◌}
+use Rattle.std.specs.Prelude.{ℕ, zero, suc, ◌+◌, ◌-◌, ◌*◌, ◌<◌, ◌≤◌, ◌==◌, ◌&&◌, Bool, not, List, [], ◌∷◌, Option, Some, None, is_some, nat_le, slice_index_or, slice_set, if◌then◌else◌}
 use Rattle.std.specs.Int.{bit_at}
 use Rattle.std.specs.Option.{option_map, option_or}
 use Rattle.tpm_bindings.specs.State.{SessionState}
@@ -34,6 +34,16 @@ content_at slots handle = if nat_le first_handle handle then in_slot slots (hand
 abbrev pub with_content : {A : Type 0} → List (Option A) → ℕ → Option A → List (Option A)
 with_content slots handle content =
     if nat_le first_handle handle then slice_set slots (handle - first_handle) content else slots
+
+-- the bit of a slot: 1 where it has something
+abbrev pub bit_of : {A : Type 0} → Option A → ℕ
+bit_of None = 0
+bit_of (Some content) = 1
+
+-- the number whose bit k is that of slot k
+abbrev pub bits_of : {A : Type 0} → List (Option A) → ℕ
+bits_of [] = 0
+bits_of (content ∷ rest) = bit_of content + 2 * bits_of rest
 
 -- the state of the live session with this handle
 abbrev pub state_at : List (Option SessionState) → ℕ → Option SessionState

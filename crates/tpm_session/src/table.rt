@@ -1,4 +1,5 @@
-ghost use Rattle.std.specs.Prelude.{◌≡◌, ◌+◌, IfOk, None, is_some, replicate, true};
+ghost use Rattle.std.specs.Prelude.{◌≡◌, ℕ, ◌+◌, IfOk, None, is_some, replicate, true};
+ghost use Rattle.std.specs.Int.{bit_at};
 ghost use Rattle.std.specs.Option.{option_copied};
 ghost use Rattle.tpm_session.specs.Slots as spec;
 
@@ -64,6 +65,20 @@ impl<T: Drop> Table<T> {
             return None;
         };
         std::mem::replace(slot, content)
+    }
+
+    /// The slots that have something: bit k for slot k.
+    pub fn occupied(&self) -> u64
+        ensures value { result ≡ spec.bits_of self.now }
+        ensures bits { (slot : ℕ) → bit_at result slot ≡ spec.bit_of (spec.in_slot self.now slot) }
+    {
+        let count = self.map.len();
+        let mut bits = 0;
+        for above in 0..count {
+            let slot = (count - 1 - above) as u32;
+            bits = 2 * bits + u64::from(self.get(FIRST_HANDLE + slot).is_some());
+        }
+        bits
     }
 
     /// Empties all slots.
