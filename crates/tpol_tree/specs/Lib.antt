@@ -1,5 +1,4 @@
 pub mod Bounds
-pub mod BranchCounts
 pub mod Closed
 pub mod ClosedErased
 pub mod Elements
