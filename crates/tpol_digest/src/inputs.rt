@@ -13,7 +13,8 @@ use crate::moves::digest_after_move;
 use crate::path_parts::zero;
 use crate::policy::{digest_after_element, push_branch_digests};
 use crate::update_bytes::{
-    UpdateBytes, update_of_approve, update_of_approve_nv, update_of_assertion, update_of_or,
+    UpdateBytes, update_of_approve, update_of_approve_nv, update_of_assertion, update_of_move,
+    update_of_or,
 };
 use std::alloc::Global;
 use tpol_base::{Blob, Digest32, Digests, NoMemory};
@@ -223,17 +224,7 @@ fn push_move(
 ) -> Result<(), NoMemory>
     ensures { OnOk result (inputs.new ≡ inputs.old ++ spec.strings_of (update_of act.now) before.now) }
 {
-    let update = match act {
-        Move::Assert(assertion) => update_of_assertion(alloc, assertion)?,
-        Move::Or(digests) => update_of_or(alloc, digests)?,
-        Move::Approve {
-            key,
-            policy_ref,
-            approved: _,
-            signature: _,
-        } => update_of_approve(alloc, key, policy_ref)?,
-        Move::ApproveNv { index, approved: _ } => update_of_approve_nv(alloc, index)?,
-    };
+    let update = update_of_move(alloc, act)?;
     push_strings(alloc, inputs, &update, before)
 }
 

@@ -39,3 +39,7 @@ pub use policy::{
     approve_digest, approve_nv_digest, digest_after_element, digest_of, or_digest,
     push_branch_digests,
 };
+pub use update_bytes::{
+    UpdateBytes, update_of_approve, update_of_approve_nv, update_of_assertion, update_of_move,
+    update_of_or,
+};

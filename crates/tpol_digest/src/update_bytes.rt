@@ -9,16 +9,21 @@ use crate::command_code::{self, code_of_assertion};
 use crate::update::{comparison_end, selection_bytes};
 use std::alloc::Global;
 use tpol_base::{Blob, Compare, Digest32, Digests, Name, NoMemory};
-use tpol_tree::Assertion;
+use tpol_tree::{Assertion, Move};
 
-// The new digest is H(H(start || code || H(inner) || rest) || policy_ref), where the parts that are None
-// are left out, and the start is 32 zero bytes where `fresh` holds and else the digest before.
+/// What a policy command hashes (TPM 2.0 Part 3, the policy commands). The new digest is
+/// H(H(start || code || H(inner) || rest) || policy_ref), where the parts that are None are left out, and the
+/// start is 32 zero bytes where `fresh` holds and else the digest before.
 #[derive(Drop)]
 pub struct UpdateBytes {
+    /// Whether the start is 32 zero bytes.
     pub fresh: bool,
+    /// The command code.
     pub code: u32,
+    /// A string whose digest stands in front of the rest.
     pub inner: Option<Blob>,
     pub rest: Blob,
+    /// The bytes behind the first digest, where there is a second one.
     pub policy_ref: Option<Blob>,
 }
 
@@ -108,7 +113,7 @@ fn duplication(
     Ok(one_hash(command_code::POLICY_DUPLICATION_SELECT, rest))
 }
 
-// What an assertion hashes.
+/// What an assertion hashes.
 pub fn update_of_assertion(alloc: Global, assertion: &Assertion) -> Result<UpdateBytes, NoMemory>
     ensures { IfOk result (λ update. update_value update ≡ spec.update_of_assertion assertion.now) }
 {
@@ -170,7 +175,7 @@ fn hashed(alloc: Global, code: u32, rest: &[u8]) -> Result<UpdateBytes, NoMemory
     Ok(one_hash(code, rest))
 }
 
-// What an OR hashes.
+/// What an OR hashes.
 pub fn update_of_or(alloc: Global, digests: &Digests) -> Result<UpdateBytes, NoMemory>
     ensures { IfOk result (λ update. update_value update ≡ spec.update_of_or digests.now) }
 {
@@ -183,7 +188,7 @@ pub fn update_of_or(alloc: Global, digests: &Digests) -> Result<UpdateBytes, NoM
     Ok(update)
 }
 
-// What an AUTHORIZE hashes.
+/// What an AUTHORIZE hashes.
 pub fn update_of_approve(
     alloc: Global,
     key: &Name,
@@ -196,7 +201,7 @@ pub fn update_of_approve(
     Ok(update)
 }
 
-// What an AUTHORIZENV hashes.
+/// What an AUTHORIZENV hashes.
 pub fn update_of_approve_nv(alloc: Global, index: &Name) -> Result<UpdateBytes, NoMemory>
     ensures { IfOk result (λ update. update_value update ≡ spec.update_of_approve_nv index.now) }
 {
@@ -204,4 +209,21 @@ pub fn update_of_approve_nv(alloc: Global, index: &Name) -> Result<UpdateBytes, 
     let mut update = one_hash(command_code::POLICY_AUTHORIZE_NV, rest);
     update.fresh = true;
     Ok(update)
+}
+
+/// What a move hashes.
+pub fn update_of_move(alloc: Global, act: &Move) -> Result<UpdateBytes, NoMemory>
+    ensures { IfOk result (λ update. update_value update ≡ spec.update_of act.now) }
+{
+    match act {
+        Move::Assert(assertion) => update_of_assertion(alloc, assertion),
+        Move::Or(digests) => update_of_or(alloc, digests),
+        Move::Approve {
+            key,
+            policy_ref,
+            approved: _,
+            signature: _,
+        } => update_of_approve(alloc, key, policy_ref),
+        Move::ApproveNv { index, approved: _ } => update_of_approve_nv(alloc, index),
+    }
 }
