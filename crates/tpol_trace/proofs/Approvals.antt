@@ -19,13 +19,14 @@ use Rattle.tpol_digest.specs.WellFormed.{IsWellFormedDocument}
 use Rattle.tpol_digest.proofs.Meeting.{by_key_each, by_index_each}
 use Rattle.tpol_trace.specs.Matching.{IsListed, approval_for, is_listed}
 use Rattle.tpol_trace.specs.Same.{approved_of}
+use Rattle.tpol_trace.specs.Tables.{IsApproval, move_of_element}
 use Rattle.tpol_trace.proofs.Tests.{listed_Decides}
 use Rattle.tpol_trace.proofs.Strings.{IsSane}
 use Rattle.tpol_trace.proofs.Chains.{AreHeld, held_front, held_last}
 use Rattle.tpol_trace.proofs.Halves.{EndsWith, zero_no_half}
-use Rattle.tpol_trace.proofs.Elements.{move_of_element, meets_approved}
-use Rattle.tpol_trace.proofs.Ways.{IsIn, HasWay, in_left, in_right, widen, behind}
-use Rattle.tpol_trace.proofs.Inversion.{IsApproval, ApprovalsInvert, element_back, invert_at}
+use Rattle.tpol_trace.proofs.Elements.{meets_approved}
+use Rattle.tpol_trace.proofs.WaysBack.{IsIn, HasWay, in_left, in_right, widen, behind}
+use Rattle.tpol_trace.proofs.Inversion.{ApprovalsInvert, element_back, invert_at}
 
 -- the use of a document's approval hashes what the outside one does, and approves the document's digest
 abbrev Uses : ClosedElement → ApprovedDoc → Move → Type 0

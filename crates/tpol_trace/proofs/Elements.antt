@@ -14,15 +14,9 @@ use Rattle.tpol_digest.specs.Inputs.{strings_of, pcr_values, inputs_at_element, 
 use Rattle.tpol_digest.specs.Sound.{Among, Meets}
 use Rattle.tpol_digest.specs.Update.{Update, joined, update_of, update_of_or}
 use Rattle.tpol_trace.specs.Same.{approved_of}
+use Rattle.tpol_trace.specs.Tables.{move_of_element}
 use Rattle.tpol_trace.proofs.Codes.{assertion_goes_on}
 use Rattle.tpol_trace.proofs.Strings.{each_right, split_digest}
-
--- the move of an element, with a zero digest in an approval
-abbrev pub move_of_element : ClosedElement → Digest32 → Move
-move_of_element (Assert assertion) d = AssertMove assertion
-move_of_element (Or branches) d = OrMove (branch_digests branches d)
-move_of_element (Authorize key policy_ref) d = Approve key policy_ref zero_digest zero_digest
-move_of_element (AuthorizeNv index) d = ApproveNv index zero_digest
 
 pub digest_of_element : (element : ClosedElement) (d : Digest32) → digest_at_element element d ≡ after_update (update_of (move_of_element element d)) d
 digest_of_element (Assert assertion) d = refl

@@ -23,19 +23,13 @@ use Rattle.tpol_digest.specs.Paths.{empty_path, path_of_move, between, paths_at,
 use Rattle.tpol_digest.specs.Sound.{Among}
 use Rattle.tpol_digest.specs.Update.{update_of, update_of_or}
 use Rattle.tpol_trace.specs.Same.{IsSameMove}
+use Rattle.tpol_trace.specs.Tables.{IsApproval, move_of_element}
 use Rattle.tpol_trace.proofs.Codes.{regular, assertion_goes_on, same_hash_approves}
 use Rattle.tpol_trace.proofs.Strings.{IsSane, each_left, each_right}
 use Rattle.tpol_trace.proofs.Chains.{AreHeld, held_front, held_last}
 use Rattle.tpol_trace.proofs.Halves.{IsNoHalf, EndsWith, after_not_zero, no_half_after, back}
-use Rattle.tpol_trace.proofs.Elements.{move_of_element, digest_of_element, strings_of_element, meets_or}
-use Rattle.tpol_trace.proofs.Ways.{HasWay, in_left, in_right, widen, follow, behind}
-
--- an AUTHORIZE or an AUTHORIZENV
-abbrev pub IsApproval : ClosedElement → Type 0
-IsApproval (Assert assertion) = ⊥
-IsApproval (Or branches) = ⊥
-IsApproval (Authorize key policy_ref) = ⊤
-IsApproval (AuthorizeNv index) = ⊤
+use Rattle.tpol_trace.proofs.Elements.{digest_of_element, strings_of_element, meets_or}
+use Rattle.tpol_trace.proofs.WaysBack.{HasWay, in_left, in_right, widen, follow, behind}
 
 pub goes_on : (fresh : Bool) (x y : Digest32) → fresh ≡ false → start_of fresh x ≡ start_of fresh y → x ≡ y
 goes_on true x y e h = absurd (false≢true (sym e))

@@ -3,6 +3,8 @@ pub mod Chains
 pub mod Clashes
 pub mod Codes
 pub mod Elements
+pub mod Entries
+pub mod Firsts
 pub mod Found
 pub mod Halves
 pub mod Inversion
@@ -10,6 +12,7 @@ pub mod Matched
 pub mod Meaning
 pub mod Opened
 pub mod Rows
+pub mod Steps
 pub mod Strings
 pub mod Tests
-pub mod Ways
+pub mod WaysBack

@@ -19,25 +19,25 @@ same_length [] (y ∷ b) h = absurd h
 same_length (x ∷ a) [] h = absurd h
 same_length (x ∷ a) (y ∷ b) h = let e = same_length a b h.1 in omega arith
 
-module _ (approvals : List ApprovedDoc) (documents : ℕ) where
+module _ (approvals : List ApprovedDoc) (enters : Bool) (Enters : Type 0) (decides : Decides enters Enters) where
   -- the first move of an outside path and its fact
   abbrev ApprovesOutside : Move → Move → Type 0
   ApprovesOutside approval approving =
-      (update_of approval ≡ update_of approving) × (documents < 4 → IsListed approvals approval approving → ⊥)
+      (update_of approval ≡ update_of approving) × (Enters → IsListed approvals approval approving → ⊥)
 
-  approval_Decides : (approval approving : Move) → Decides (matches_approval approvals documents approval approving) (ApprovesOutside approval approving)
+  approval_Decides : (approval approving : Move) → Decides (matches_approval approvals enters approval approving) (ApprovesOutside approval approving)
   approval_Decides approval approving =
-      and_Decides (same_update (update_of approval) (update_of approving)) (not (nat_lt documents 4 && is_listed approvals approval approving)) (update_Decides (update_of approval) (update_of approving)) (Decides-by (not (nat_lt documents 4 && is_listed approvals approval approving)) (λ h less listed. h (less, listed)) (λ h p. h p.0 p.1) (Decides-not (nat_lt documents 4 && is_listed approvals approval approving) (and_Decides (nat_lt documents 4) (is_listed approvals approval approving) (Decides-ltb documents 4) (listed_Decides approvals approval approving))))
+      and_Decides (same_update (update_of approval) (update_of approving)) (not (enters && is_listed approvals approval approving)) (update_Decides (update_of approval) (update_of approving)) (Decides-by (not (enters && is_listed approvals approval approving)) (λ h less listed. h (less, listed)) (λ h p. h p.0 p.1) (Decides-not (enters && is_listed approvals approval approving) (and_Decides enters (is_listed approvals approval approving) decides (listed_Decides approvals approval approving))))
 
-  last_Decides : (approval approving : Move) (rest after : List Move) → Decides (matches_last approvals documents (approval ∷ rest) (approving ∷ after)) (ApprovesOutside approval approving × AreSame rest after)
+  last_Decides : (approval approving : Move) (rest after : List Move) → Decides (matches_last approvals enters (approval ∷ rest) (approving ∷ after)) (ApprovesOutside approval approving × AreSame rest after)
   last_Decides approval approving rest after =
-      and_Decides (matches_approval approvals documents approval approving) (are_same rest after) (approval_Decides approval approving) (same_Decides rest after)
+      and_Decides (matches_approval approvals enters approval approving) (are_same rest after) (approval_Decides approval approving) (same_Decides rest after)
 
-outside_from_test : (approvals : List ApprovedDoc) (path : Path) (facts moves last : List Move) (n : ℕ) → path.moves ≡ moves → drop n facts ≡ last → matches_last approvals (documents_before path.steps) moves last ≡ true → MatchesOutside approvals path facts
+outside_from_test : (approvals : List ApprovedDoc) (path : Path) (facts moves last : List Move) (n : ℕ) → path.moves ≡ moves → drop n facts ≡ last → matches_last approvals (nat_lt (documents_before path.steps) 4) moves last ≡ true → MatchesOutside approvals path facts
 outside_from_test approvals path facts [] last n m l e = absurd (false≢true e)
 outside_from_test approvals path facts (approval ∷ rest) [] n m l e = absurd (false≢true e)
 outside_from_test approvals path facts (approval ∷ rest) (approving ∷ after) n m l e =
-    let p = (last_Decides approvals (documents_before path.steps) approval approving rest after).0 e in
+    let p = (last_Decides approvals (nat_lt (documents_before path.steps) 4) (documents_before path.steps < 4) (Decides-ltb (documents_before path.steps) 4) approval approving rest after).0 e in
     record {
       approval = approval;
       rest = rest;
@@ -61,11 +61,11 @@ last_from_approval before rest after approval approving same =
 
 test_from_outside : (approvals : List ApprovedDoc) (path : Path) (facts : List Move) → MatchesOutside approvals path facts → matches_by true approvals path facts ≡ true
 test_from_outside approvals path facts h =
-    let documents = documents_before path.steps in
-    ap (λ m. matches_last approvals documents m (last_facts m facts)) h.moves
-    ∙ ap (λ f. matches_last approvals documents (h.approval ∷ h.rest) (last_facts (h.approval ∷ h.rest) f)) h.split
-    ∙ ap (λ l. matches_last approvals documents (h.approval ∷ h.rest) l) (last_from_approval h.before h.rest h.after h.approval h.approving h.same)
-    ∙ (last_Decides approvals documents h.approval h.approving h.rest h.after).1 ((h.hashed, h.unlisted), h.same)
+    let enters = nat_lt (documents_before path.steps) 4 in
+    ap (λ m. matches_last approvals enters m (last_facts m facts)) h.moves
+    ∙ ap (λ f. matches_last approvals enters (h.approval ∷ h.rest) (last_facts (h.approval ∷ h.rest) f)) h.split
+    ∙ ap (λ l. matches_last approvals enters (h.approval ∷ h.rest) l) (last_from_approval h.before h.rest h.after h.approval h.approving h.same)
+    ∙ (last_Decides approvals enters (documents_before path.steps < 4) (Decides-ltb (documents_before path.steps) 4) h.approval h.approving h.rest h.after).1 ((h.hashed, h.unlisted), h.same)
 
 by_Decides : (outside : Bool) (approvals : List ApprovedDoc) (path : Path) (facts : List Move) → Decides (matches_by outside approvals path facts) (MatchesBy outside approvals path facts)
 by_Decides true approvals path facts = (

@@ -25,7 +25,7 @@ use Rattle.tpol_trace.proofs.Halves.{none_of_zero, zero_no_half}
 use Rattle.tpol_trace.proofs.Inversion.{invert_at}
 use Rattle.tpol_trace.proofs.Matched.{matches_Decides}
 use Rattle.tpol_trace.proofs.Strings.{IsSane, each_left, each_right}
-use Rattle.tpol_trace.proofs.Ways.{IsIn, HasWay}
+use Rattle.tpol_trace.proofs.WaysBack.{IsIn, HasWay}
 
 -- no item passes the test
 pub none_of_index : (b : Bool) (later : Option ℕ) → (if b then Some 0 else option_map (λ i. i + 1) later) ≡ None → (b ≡ false) × (later ≡ None)

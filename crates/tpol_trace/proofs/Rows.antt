@@ -22,7 +22,7 @@ use Rattle.tpol_trace.proofs.Found.{broken_clash, broken_zero}
 use Rattle.tpol_trace.proofs.Halves.{IsNoHalf, IsHalfIn, none_of_zero, zero_no_half, no_half_after, whole_not_half, back}
 use Rattle.tpol_trace.proofs.Inversion.{goes_on}
 use Rattle.tpol_trace.proofs.Strings.{IsSane, each_left, each_right, same_first}
-use Rattle.tpol_trace.proofs.Ways.{IsIn}
+use Rattle.tpol_trace.proofs.WaysBack.{IsIn}
 
 -- the last moves are those of a chain, and the ones in front of them lead to a digest
 record IsBehind (d : Digest32) (chain moves : List Move) : Type 0 where

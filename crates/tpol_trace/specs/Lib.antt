@@ -2,3 +2,4 @@ pub mod Chains
 pub mod Matching
 pub mod Openings
 pub mod Same
+pub mod Tables

@@ -61,23 +61,24 @@ is_listed [] act fact = false
 is_listed (document ∷ rest) act fact =
     (is_some (approval_for act document) && same_digest (approved_of fact) (Some document.digest)) || is_listed rest act fact
 
--- an outside path's first move, and what comes after it; `documents` is what it enters before
-abbrev pub matches_approval : List ApprovedDoc → ℕ → Move → Move → Bool
-matches_approval approvals documents approval approving =
-    same_update (update_of approval) (update_of approving) && not (nat_lt documents 4 && is_listed approvals approval approving)
+-- an outside path's first move; `enters` says whether it could have entered a listed document
+abbrev pub matches_approval : List ApprovedDoc → Bool → Move → Move → Bool
+matches_approval approvals enters approval approving =
+    same_update (update_of approval) (update_of approving) && not (enters && is_listed approvals approval approving)
 
-abbrev pub matches_last : List ApprovedDoc → ℕ → List Move → List Move → Bool
-matches_last approvals documents [] facts = false
-matches_last approvals documents (approval ∷ rest) [] = false
-matches_last approvals documents (approval ∷ rest) (approving ∷ after) =
-    matches_approval approvals documents approval approving && are_same rest after
+-- the same, and what comes after it
+abbrev pub matches_last : List ApprovedDoc → Bool → List Move → List Move → Bool
+matches_last approvals enters [] facts = false
+matches_last approvals enters (approval ∷ rest) [] = false
+matches_last approvals enters (approval ∷ rest) (approving ∷ after) =
+    matches_approval approvals enters approval approving && are_same rest after
 
 -- the last facts, so many as the path has moves
 abbrev pub last_facts : List Move → List Move → List Move
 last_facts moves facts = drop (length facts - length moves) facts
 
 abbrev pub matches_by : Bool → List ApprovedDoc → Path → List Move → Bool
-matches_by true approvals path facts = matches_last approvals (documents_before path.steps) path.moves (last_facts path.moves facts)
+matches_by true approvals path facts = matches_last approvals (nat_lt (documents_before path.steps) 4) path.moves (last_facts path.moves facts)
 matches_by false approvals path facts = are_same path.moves facts
 
 abbrev pub matches : List ApprovedDoc → Path → List Move → Bool

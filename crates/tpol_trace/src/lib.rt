@@ -7,7 +7,10 @@
 #![tactic(auto)]
 
 mod answer;
+mod asked;
 mod laws;
+mod walk;
+mod ways;
 
 pub use answer::{Events, Opening};
 pub use laws::{chains_agree, facts_open, facts_open_without_approvals};

@@ -1,0 +1,138 @@
+-- Tables of ways as they are made: of no way, of the way without a move, of ways behind a move, of ways and
+-- then others.
+use Rattle.std.proofs.Common.{◌≡◌, ◌≢◌, ⊎_elim, ℕ, zero, suc, ◌+◌, ◌-◌, ◌<◌, ◌≤◌, min, Bool, true, false, List, [], ◌∷◌, ◌++◌, length, drop, get_or, set, map, replicate, Option, Some, None, refl, sym, ap, ◌∙◌, subst, arith, ◌&&◌, length-append}
+use Rattle.std.specs.Prelude.{slice_get, if◌then◌else◌, nat_lt, ◌||◌}
+use Rattle.std.specs.List.{AllByRecursion}
+use Rattle.std.specs.Vec.{with_item}
+use Rattle.std.proofs.lemmas.Bool.{false≢true, cases_lt}
+use Rattle.std.proofs.lemmas.List.{length-map, length-set, get_or-set_same, get_or-set_other, get_or-replicate, get_or_append_left, get_or_at, length-replicate}
+use Rattle.tpol_tree.specs.declared.path.ApprovedDoc.{ApprovedDoc}
+use Rattle.tpol_tree.specs.declared.path.Move.{Move}
+use Rattle.tpol_tree.specs.declared.path.Path.{Path}
+use Rattle.tpol_digest.specs.Paths.{empty_path, followed_by, path_of_move}
+use Rattle.tpol_trace.specs.declared.asked.Asked.{Asked}
+use Rattle.tpol_trace.specs.declared.ways.Ways.{Ways}
+use Rattle.tpol_trace.specs.Openings.{first_index}
+use Rattle.tpol_trace.specs.Same.{is_same_move, are_same}
+use Rattle.tpol_trace.specs.Tables.{Asks, AllAsk, goes_by, goes, AreInside, capped, IsTable, IsEverywhere, kept}
+use Rattle.tpol_trace.proofs.Firsts.{first_index-append, first_index-kept, first_index-map, capped-kept, capped-or}
+use Rattle.tpol_trace.proofs.Steps.{ask_length, same_at, or_later, IsPut, IsJoined}
+
+module _ (approvals : List ApprovedDoc) (level : ℕ) (facts : List Move) where
+  pub joined_table : (now before others : Ways) (k number : ℕ) (ways more : List Path) → IsJoined now before others k → length before.first.items ≤ k → number ≡ min (before.count + others.count) 65536 → IsTable approvals level facts before ways → IsTable approvals level facts others more → IsTable approvals level facts (record { first = now.first; count = number }) (ways ++ more)
+  joined_table now before others k number ways more j all counted t u =
+      let a = t.count in
+      let b = u.count in
+      let l = length-append ways more in
+      record {
+        count = omega (arith, counted, a, b, l);
+        size = j.size ∙ t.size;
+        first = λ i within.
+          let s = t.size in
+          j.below i (omega arith)
+          ∙ ap (λ x. or_later x before.count (get_or others.first.items i None)) (t.first i within)
+          ∙ ap (λ n. or_later (capped (first_index (goes approvals level facts i) ways)) n (get_or others.first.items i None)) a
+          ∙ ap (or_later (capped (first_index (goes approvals level facts i) ways)) (min (length ways) 65536)) (u.first i within)
+          ∙ sym (capped-or (first_index (goes approvals level facts i) ways) (first_index (goes approvals level facts i) more) (length ways))
+          ∙ ap capped (sym (first_index-append (goes approvals level facts i) ways more));
+      }
+
+  -- no way
+  pub none_table : (table : Ways) (n : ℕ) → n ≡ length facts → IsEverywhere table n None 0 → IsTable approvals level facts table []
+  none_table table n e t = record {
+    count = (let c = t.count in omega arith);
+    size = t.size ∙ ap (λ m. m + 1) e;
+    first = λ k within. t.first k (omega arith);
+  }
+
+  -- the way without a move
+  nothing_left : (xs : List Move) (k : ℕ) → k < length xs → are_same [] (drop k xs) ≡ false
+  nothing_left [] k h = absurd (omega arith)
+  nothing_left (x ∷ xs) zero h = refl
+  nothing_left (x ∷ xs) (suc k) h = nothing_left xs k (omega arith)
+
+  all_left : (xs : List Move) → are_same [] (drop (length xs) xs) ≡ true
+  all_left [] = refl
+  all_left (x ∷ xs) = all_left xs
+
+  first_of_one : (k : ℕ) (t : Bool) → are_same [] (drop k facts) ≡ t → first_index (goes approvals level facts k) (empty_path ∷ []) ≡ (if t then Some 0 else None)
+  first_of_one k true e = ap (λ b. if b then Some 0 else None) e
+  first_of_one k false e = ap (λ b. if b then Some 0 else None) e
+
+  pub end_table : (table : Ways) (n : ℕ) → n ≡ length facts → IsEverywhere table n None 1 → IsTable approvals level facts (record { first = with_item table.first n (Some 0); count = table.count }) (empty_path ∷ [])
+  end_table table n e t = record {
+    count = (let c = t.count in c ∙ omega arith);
+    size = length-set table.first.items n (Some 0) ∙ t.size ∙ ap (λ m. m + 1) e;
+    first = λ k within. ⊎_elim (λ less. before k less) (λ more. here k (omega arith)) (cases_lt k n);
+  }
+    where
+      here : (k : ℕ) → k ≡ n → get_or (set table.first.items n (Some 0)) k None ≡ capped (first_index (goes approvals level facts k) (empty_path ∷ []))
+      here k is =
+          let s = t.size in
+          let left : are_same [] (drop k facts) ≡ true = ap (λ i. are_same [] (drop i facts)) (is ∙ e) ∙ all_left facts in
+          ap (λ i. get_or (set table.first.items n (Some 0)) i None) is
+          ∙ get_or-set_same table.first.items n (Some 0) None (omega arith)
+          ∙ sym (ap capped (first_of_one k true left))
+      before : (k : ℕ) → k < n → get_or (set table.first.items n (Some 0)) k None ≡ capped (first_index (goes approvals level facts k) (empty_path ∷ []))
+      before k less =
+          let left : are_same [] (drop k facts) ≡ false = nothing_left facts k (omega arith) in
+          let other : k ≢ n = λ h. absurd (omega arith) in
+          get_or-set_other table.first.items n k (Some 0) None other
+          ∙ t.first k (omega arith)
+          ∙ sym (ap capped (first_of_one k false left))
+
+  -- ways behind a move
+  same_step : (act : Move) (rest xs : List Move) (k : ℕ) → are_same (act ∷ rest) (drop k xs) ≡ (same_at act xs k && are_same rest (drop (suc k) xs))
+  same_step act rest [] zero = refl
+  same_step act rest [] (suc k) = refl
+  same_step act rest (x ∷ xs) zero = refl
+  same_step act rest (x ∷ xs) (suc k) = same_step act rest xs k
+
+  step_by : (act : Move) (k : ℕ) (way : Path) (outside : Bool) → outside ≡ false → goes_by outside approvals level facts k (followed_by (path_of_move act) way) ≡ (same_at act facts k && goes_by outside approvals level facts (suc k) way)
+  step_by act k way true e = absurd (false≢true (sym e))
+  step_by act k way false e = same_step act way.moves facts k
+
+  steps : (act : Move) (k : ℕ) (ways : List Path) → AreInside ways → AllByRecursion (λ way. goes approvals level facts k (followed_by (path_of_move act) way) ≡ (same_at act facts k && goes approvals level facts (suc k) way)) ways
+  steps act k [] h = tt
+  steps act k (way ∷ rest) h = (step_by act k way way.outside h.0, steps act k rest h.1)
+
+  behind_first : (act : Move) (k : ℕ) (ways : List Path) → AreInside ways → first_index (goes approvals level facts k) (map (followed_by (path_of_move act)) ways) ≡ kept (same_at act facts k) (first_index (goes approvals level facts (suc k)) ways)
+  behind_first act k ways h =
+      first_index-map (goes approvals level facts k) (followed_by (path_of_move act)) ways
+      ∙ first_index-kept (same_at act facts k) (λ way. goes approvals level facts k (followed_by (path_of_move act) way)) (goes approvals level facts (suc k)) ways (steps act k ways h)
+
+  past_none : (act : Move) (xs : List Move) (k : ℕ) → length xs ≤ k → same_at act xs k ≡ false
+  past_none act [] k h = refl
+  past_none act (x ∷ xs) zero h = absurd (omega arith)
+  past_none act (x ∷ xs) (suc k) h = past_none act xs k (omega arith)
+
+  pub put_table : (now before : Ways) (asked : List Asked) (one : Asked) (act : Move) (k : ℕ) (ways : List Path) → IsPut now before asked one k → length asked ≤ k → AllAsk asked facts → Asks one act → AreInside ways → IsTable approvals level facts before ways → IsTable approvals level facts (record { first = with_item now.first (length asked) None; count = now.count }) (map (followed_by (path_of_move act)) ways)
+  put_table now before asked one act k ways p all asks this inside t =
+      let n : length asked ≡ length facts = ask_length asked facts asks in
+      record {
+        count = p.count ∙ t.count ∙ ap (λ m. min m 65536) (sym (length-map ways (followed_by (path_of_move act))));
+        size = length-set now.first.items (length asked) None ∙ p.size ∙ t.size;
+        first = λ i within. ⊎_elim (λ less. below i less) (λ more. last i (omega arith)) (cases_lt i (length asked));
+      }
+    where
+      below : (i : ℕ) → i < length asked → get_or (set now.first.items (length asked) None) i None ≡ capped (first_index (goes approvals level facts i) (map (followed_by (path_of_move act)) ways))
+      below i less =
+          let n : length asked ≡ length facts = ask_length asked facts asks in
+          let other : i ≢ length asked = λ e. absurd (omega arith) in
+          let e : i + 1 ≡ suc i = omega arith in
+          get_or-set_other now.first.items (length asked) i None None other
+          ∙ p.below facts act asks this i (omega arith)
+          ∙ ap (kept (same_at act facts i)) (t.first (i + 1) (omega arith))
+          ∙ ap (λ j. kept (same_at act facts i) (capped (first_index (goes approvals level facts j) ways))) e
+          ∙ sym (capped-kept (same_at act facts i) (first_index (goes approvals level facts (suc i)) ways))
+          ∙ ap capped (sym (behind_first act i ways inside))
+      last : (i : ℕ) → i ≡ length asked → get_or (set now.first.items (length asked) None) i None ≡ capped (first_index (goes approvals level facts i) (map (followed_by (path_of_move act)) ways))
+      last i is =
+          let n : length asked ≡ length facts = ask_length asked facts asks in
+          let s = p.size in
+          let u = t.size in
+          ap (λ j. get_or (set now.first.items (length asked) None) j None) is
+          ∙ get_or-set_same now.first.items (length asked) None None (omega arith)
+          ∙ ap (λ same. kept same (capped (first_index (goes approvals level facts (suc i)) ways))) (sym (past_none act facts i (omega arith)))
+          ∙ sym (capped-kept (same_at act facts i) (first_index (goes approvals level facts (suc i)) ways))
+          ∙ ap capped (sym (behind_first act i ways inside))

@@ -1,0 +1,237 @@
+// The walk through a policy and the facts together, from the end of both to their beginning.
+
+ghost use Rattle.std.specs.Prelude.{◌≡◌, ◌+◌, ◌++◌, true, length, map, All, List, ℕ, IfOk, OnOk};
+ghost use Rattle.tpol_base.specs.declared.digest.Digest32.{Digest32 as Digest};
+ghost use Rattle.tpol_digest.specs.Digest.{zero_digest};
+ghost use Rattle.tpol_digest.specs.Paths as spec;
+ghost use Rattle.tpol_digest.specs.UpdateBytes.{update_value};
+ghost use Rattle.tpol_digest.specs.Update.{update_of};
+ghost use Rattle.tpol_tree.specs.Closed.{ApprovalsLead, ApprovalsLeadElement, ApprovalsLeadBranches};
+ghost use Rattle.tpol_tree.specs.declared.path.Move.{Move as OneMove};
+ghost use Rattle.tpol_tree.specs.declared.path.Path.{Path};
+ghost use Rattle.tpol_trace.specs.Matching.{is_listed};
+ghost use Rattle.tpol_trace.specs.Tables.{AllAsk, AreInside, Asks, earlier, IsApproval, IsTable, move_of_element};
+
+use crate::asked::Asked;
+use crate::ways::Ways;
+use std::alloc::Global;
+use tpol_base::{Digest32, Digests, NoMemory};
+use tpol_digest::{
+    UpdateBytes, accepts, digest_after_element, push_branch_digests, update_of_approve,
+    update_of_approve_nv, update_of_assertion, update_of_or,
+};
+use tpol_tree::{ApprovedDoc, ClosedBranches, ClosedElement, ClosedElements};
+
+// What a policy is walked with: the approved documents, which may be entered `levels` deep, and the facts.
+#[derive(Clone, Copy)]
+pub struct Walk<'a> {
+    pub alloc: Global,
+    pub approvals: &'a [ApprovedDoc],
+    pub facts: &'a [Asked],
+    pub levels: u8,
+}
+
+// The ways through elements, each before one of the ways behind them; `before` is the digest before the
+// elements.
+#[cycle(walk)]
+pub fn ways_of_elements(
+    walk: &Walk<'_>,
+    elements: &ClosedElements,
+    before: Digest32,
+    behind: Ways,
+) -> Result<Ways, NoMemory>
+    requires lead { ApprovalsLead true elements.now }
+    requires documents { All (λ document. ApprovalsLead true document.closed.elements) walk.now.approvals.now }
+    requires size { length behind.first.items ≡ length walk.now.facts.now + 1 }
+    ensures size { IfOk result (λ table. length table.first.items ≡ length walk.now.facts.now + 1) }
+    ensures table { (moves : List OneMove) (ways : List Path) → AllAsk walk.now.facts.now moves → AreInside ways
+        → IsTable walk.now.approvals.now walk.now.levels moves behind ways
+        → IfOk result (λ table. IsTable walk.now.approvals.now walk.now.levels moves table
+            (spec.product (spec.paths_at (spec.document_paths walk.now.approvals.now walk.now.levels) walk.now.approvals.now elements.now before) ways)) }
+{
+    match elements {
+        ClosedElements::End => Ok(behind),
+        ClosedElements::More(element, rest) => {
+            let after = digest_after_element(element, before);
+            let behind = ways_of_elements(walk, rest, after, behind)?;
+            ways_of_element(walk, element, before, behind)
+        }
+    }
+}
+
+// The ways through one element, each before one of the ways behind it.
+#[cycle(walk)]
+fn ways_of_element(
+    walk: &Walk<'_>,
+    element: &ClosedElement,
+    before: Digest32,
+    mut behind: Ways,
+) -> Result<Ways, NoMemory>
+    requires lead { ApprovalsLeadElement true element.now }
+    requires documents { All (λ document. ApprovalsLead true document.closed.elements) walk.now.approvals.now }
+    requires size { length behind.first.items ≡ length walk.now.facts.now + 1 }
+    ensures size { IfOk result (λ table. length table.first.items ≡ length walk.now.facts.now + 1) }
+    ensures table { (moves : List OneMove) (ways : List Path) → AllAsk walk.now.facts.now moves → AreInside ways
+        → IsTable walk.now.approvals.now walk.now.levels moves behind ways
+        → IfOk result (λ table. IsTable walk.now.approvals.now walk.now.levels moves table
+            (spec.product (spec.paths_at_element (spec.document_paths walk.now.approvals.now walk.now.levels) walk.now.approvals.now element.now before) ways)) }
+{
+    match element {
+        ClosedElement::Assert(assertion) => {
+            let update = update_of_assertion(walk.alloc, assertion)?;
+            behind.put_behind(walk.facts, &Asked::not_approving(update));
+            Ok(behind)
+        }
+        ClosedElement::Or(branches) => {
+            let mut digests = Digests::new(walk.alloc);
+            push_branch_digests(&mut digests, branches, before)?;
+            let update = update_of_or(walk.alloc, &digests)?;
+            behind.put_behind(walk.facts, &Asked::not_approving(update));
+            let mut found = Ways::none(walk.alloc, walk.facts)?;
+            add_branches(walk, &mut found, branches, before, &behind)?;
+            Ok(found)
+        }
+        ClosedElement::Authorize { .. } | ClosedElement::AuthorizeNv { .. } => {
+            let mut found = Ways::none(walk.alloc, walk.facts)?;
+            add_documents(walk, &mut found, element, &behind)?;
+            found.append(&outside_ways(walk, element, &behind)?);
+            Ok(found)
+        }
+    }
+}
+
+// Adds the ways through branches, each before one of the ways from their OR on.
+#[cycle(walk)]
+fn add_branches(
+    walk: &Walk<'_>,
+    found: &mut Ways,
+    branches: &ClosedBranches,
+    before: Digest32,
+    behind: &Ways,
+) -> Result<(), NoMemory>
+    requires lead { ApprovalsLeadBranches true branches.now }
+    requires documents { All (λ document. ApprovalsLead true document.closed.elements) walk.now.approvals.now }
+    requires size { length behind.now.first.items ≡ length walk.now.facts.now + 1 }
+    requires found_size { length found.old.first.items ≡ length walk.now.facts.now + 1 }
+    ensures size { OnOk result (length found.new.first.items ≡ length walk.now.facts.now + 1) }
+    ensures table { (moves : List OneMove) (act : OneMove) (position : ℕ) (ways done : List Path) → AllAsk walk.now.facts.now moves → AreInside ways
+        → IsTable walk.now.approvals.now walk.now.levels moves behind.now (map (spec.followed_by (spec.path_of_move act)) ways)
+        → IsTable walk.now.approvals.now walk.now.levels moves found.old done
+        → OnOk result (IsTable walk.now.approvals.now walk.now.levels moves found.new
+            (done ++ spec.product (spec.paths_at_branches (spec.document_paths walk.now.approvals.now walk.now.levels) walk.now.approvals.now branches.now position act before) ways)) }
+{
+    match branches {
+        ClosedBranches::End => Ok(()),
+        ClosedBranches::More(branch, rest) => {
+            let elements = &branch.policy.elements;
+            let ways = ways_of_elements(walk, elements, before, behind.copy()?)?;
+            found.append(&ways);
+            add_branches(walk, found, rest, before, behind)
+        }
+    }
+}
+
+// Adds the ways through the documents that the element's approver approved, each before its approval and
+// one of the ways behind the element.
+#[cycle(walk)]
+fn add_documents(
+    walk: &Walk<'_>,
+    found: &mut Ways,
+    element: &ClosedElement,
+    behind: &Ways,
+) -> Result<(), NoMemory>
+    requires approval { IsApproval element.now }
+    requires documents { All (λ document. ApprovalsLead true document.closed.elements) walk.now.approvals.now }
+    requires size { length behind.now.first.items ≡ length walk.now.facts.now + 1 }
+    requires found_size { length found.old.first.items ≡ length walk.now.facts.now + 1 }
+    ensures size { OnOk result (length found.new.first.items ≡ length walk.now.facts.now + 1) }
+    ensures table { (moves : List OneMove) (ways done : List Path) → AllAsk walk.now.facts.now moves → AreInside ways
+        → IsTable walk.now.approvals.now walk.now.levels moves behind.now ways
+        → IsTable walk.now.approvals.now walk.now.levels moves found.old done
+        → OnOk result (IsTable walk.now.approvals.now walk.now.levels moves found.new
+            (done ++ spec.product (spec.approved_paths (spec.document_paths walk.now.approvals.now walk.now.levels) walk.now.approvals.now element.now) ways)) }
+{
+    if walk.levels == 0 {
+        return Ok(());
+    }
+    let inner = Walk {
+        levels: walk.levels - 1,
+        ..*walk
+    };
+    for document in walk.approvals {
+        if accepts(element, document) {
+            let mut behind = behind.copy()?;
+            let update = update_of_approval(walk.alloc, element)?;
+            behind.put_behind(walk.facts, &Asked::approving(update, document.digest));
+            let elements = &document.closed.elements;
+            let ways = ways_of_elements(&inner, elements, Digest32::ZERO, behind)?;
+            found.append(&ways);
+        }
+    }
+    Ok(())
+}
+
+// The ways by a policy that no listed document has, each before one of the ways behind the element. They
+// begin at any fact that approves such a policy.
+fn outside_ways(
+    walk: &Walk<'_>,
+    element: &ClosedElement,
+    behind: &Ways,
+) -> Result<Ways, NoMemory>
+    requires approval { IsApproval element.now }
+    requires size { length behind.now.first.items ≡ length walk.now.facts.now + 1 }
+    ensures size { IfOk result (λ table. length table.first.items ≡ length walk.now.facts.now + 1) }
+    ensures table { (moves : List OneMove) (ways : List Path) → AllAsk walk.now.facts.now moves → AreInside ways
+        → IsTable walk.now.approvals.now walk.now.levels moves behind.now ways
+        → IfOk result (λ table. IsTable walk.now.approvals.now walk.now.levels moves table
+            (spec.product (spec.outside_paths element.now) ways)) }
+{
+    let approval = Asked::not_approving(update_of_approval(walk.alloc, element)?);
+    let mut first = None;
+    for k in 0..walk.facts.len() {
+        let fact = &walk.facts[k];
+        if approval.hashes_the_same(fact) && !(walk.levels > 0 && is_listed(walk, element, fact)) {
+            first = earlier(first, behind.first[k + 1]);
+        }
+    }
+    Ways::all_at(walk.alloc, walk.facts, first, behind.count)
+}
+
+// The lesser of two places.
+fn earlier(a: Option<u32>, b: Option<u32>) -> Option<u32>
+    ensures { result ≡ earlier a b }
+{
+    match a {
+        None => b,
+        Some(i) => match b {
+            None => a,
+            Some(j) => Some(i.min(j)),
+        },
+    }
+}
+
+// Whether the fact approves the digest of a document that the element's approver approved.
+fn is_listed(walk: &Walk<'_>, element: &ClosedElement, fact: &Asked) -> bool
+    requires { IsApproval element.now }
+    ensures { (approving : OneMove) (d : Digest) → Asks fact.now approving
+        → result ≡ is_listed walk.now.approvals.now (move_of_element element.now d) approving }
+{
+    for document in walk.approvals {
+        if accepts(element, document) && fact.approves(&document.digest) {
+            return true;
+        }
+    }
+    false
+}
+
+// What an AUTHORIZE or an AUTHORIZENV hashes.
+fn update_of_approval(alloc: Global, element: &ClosedElement) -> Result<UpdateBytes, NoMemory>
+    requires { IsApproval element.now }
+    ensures { IfOk result (λ update. (d : Digest) → update_value update ≡ update_of (move_of_element element.now d)) }
+{
+    match element {
+        ClosedElement::Authorize { key, policy_ref } => update_of_approve(alloc, key, policy_ref),
+        ClosedElement::AuthorizeNv { index } => update_of_approve_nv(alloc, index),
+        ClosedElement::Assert(_) | ClosedElement::Or(_) => unreachable!(),
+    }
+}
