@@ -29,11 +29,11 @@ use Rattle.tpol_trace.proofs.WaysBack.{IsIn, HasWay, in_left, in_right, widen, b
 use Rattle.tpol_trace.proofs.Inversion.{ApprovalsInvert, element_back, invert_at}
 
 -- the use of a document's approval hashes what the outside one does, and approves the document's digest
-abbrev Uses : ClosedElement → ApprovedDoc → Move → Type 0
+abbrev pub Uses : ClosedElement → ApprovedDoc → Move → Type 0
 Uses element document act =
     (update_of act ≡ update_of (move_of_element element zero_digest)) × (approved_of act ≡ Some document.digest)
 
-uses_approval : (element : ClosedElement) → IsApproval element → (document : ApprovedDoc) → IfSome (approval_of element document) (Uses element document)
+pub uses_approval : (element : ClosedElement) → IsApproval element → (document : ApprovedDoc) → IfSome (approval_of element document) (Uses element document)
 uses_approval (Assert assertion) h document = absurd h
 uses_approval (Or branches) h document = absurd h
 uses_approval (Authorize key policy_ref) h document =

@@ -11,8 +11,10 @@ pub mod Inversion
 pub mod Matched
 pub mod Meaning
 pub mod Opened
+pub mod Outside
 pub mod Rows
 pub mod Steps
 pub mod Strings
 pub mod Tests
+pub mod Walked
 pub mod WaysBack

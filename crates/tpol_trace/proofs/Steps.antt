@@ -74,3 +74,9 @@ put_more now before facts act one k way after p less sized is was f = record {
         ∙ ask_at facts moves k one first way after asks less is (λ fact h. f first fact this h)
         ∙ ap (kept (same_at first moves k)) (was ∙ get_or_default now.first.items (k + 1) way None (omega arith) ∙ p.above (k + 1) (omega arith))
         ∙ ap (λ i. kept (same_at first moves i) (get_or before.first.items (i + 1) None)) (sym e)
+
+pub ask_more : (asked : List Asked) (moves : List Move) (one : Asked) (act : Move) → AllAsk asked moves → Asks one act → AllAsk (asked ++ one ∷ []) (moves ++ act ∷ [])
+ask_more [] [] one act h k = (k, tt)
+ask_more [] (m ∷ moves) one act h k = absurd h
+ask_more (a ∷ asked) [] one act h k = absurd h
+ask_more (a ∷ asked) (m ∷ moves) one act h k = (h.0, ask_more asked moves one act h.1 k)

@@ -8,9 +8,12 @@
 
 mod answer;
 mod asked;
+mod broken;
 mod laws;
+mod open;
 mod walk;
 mod ways;
 
 pub use answer::{Events, Opening};
+pub use open::opening;
 pub use laws::{chains_agree, facts_open, facts_open_without_approvals};

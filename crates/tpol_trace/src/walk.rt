@@ -1,7 +1,6 @@
 // The walk through a policy and the facts together, from the end of both to their beginning.
 
-ghost use Rattle.std.specs.Prelude.{◌≡◌, ◌+◌, ◌++◌, true, length, map, All, List, ℕ, IfOk, OnOk};
-ghost use Rattle.tpol_base.specs.declared.digest.Digest32.{Digest32 as Digest};
+ghost use Rattle.std.specs.Prelude.{◌≡◌, ◌+◌, ◌++◌, true, length, map, nat_lt, All, List, ℕ, IfOk, OnOk};
 ghost use Rattle.tpol_digest.specs.Digest.{zero_digest};
 ghost use Rattle.tpol_digest.specs.Paths as spec;
 ghost use Rattle.tpol_digest.specs.UpdateBytes.{update_value};
@@ -9,7 +8,7 @@ ghost use Rattle.tpol_digest.specs.Update.{update_of};
 ghost use Rattle.tpol_tree.specs.Closed.{ApprovalsLead, ApprovalsLeadElement, ApprovalsLeadBranches};
 ghost use Rattle.tpol_tree.specs.declared.path.Move.{Move as OneMove};
 ghost use Rattle.tpol_tree.specs.declared.path.Path.{Path};
-ghost use Rattle.tpol_trace.specs.Matching.{is_listed};
+ghost use Rattle.tpol_trace.specs.Matching.{is_listed, matches_approval};
 ghost use Rattle.tpol_trace.specs.Tables.{AllAsk, AreInside, Asks, earlier, IsApproval, IsTable, move_of_element};
 
 use crate::asked::Asked;
@@ -92,12 +91,32 @@ fn ways_of_element(
             Ok(found)
         }
         ClosedElement::Authorize { .. } | ClosedElement::AuthorizeNv { .. } => {
-            let mut found = Ways::none(walk.alloc, walk.facts)?;
-            add_documents(walk, &mut found, element, &behind)?;
-            found.append(&outside_ways(walk, element, &behind)?);
-            Ok(found)
+            ways_of_approval(walk, element, &behind)
         }
     }
+}
+
+// The ways through an AUTHORIZE or an AUTHORIZENV, each before one of the ways behind it.
+#[cycle(walk)]
+fn ways_of_approval(
+    walk: &Walk<'_>,
+    element: &ClosedElement,
+    behind: &Ways,
+) -> Result<Ways, NoMemory>
+    requires approval { IsApproval element.now }
+    requires documents { All (λ document. ApprovalsLead true document.closed.elements) walk.now.approvals.now }
+    requires size { length behind.now.first.items ≡ length walk.now.facts.now + 1 }
+    ensures size { IfOk result (λ table. length table.first.items ≡ length walk.now.facts.now + 1) }
+    ensures table { (moves : List OneMove) (ways : List Path) → AllAsk walk.now.facts.now moves → AreInside ways
+        → IsTable walk.now.approvals.now walk.now.levels moves behind.now ways
+        → IfOk result (λ table. IsTable walk.now.approvals.now walk.now.levels moves table
+            (spec.product (spec.approved_paths (spec.document_paths walk.now.approvals.now walk.now.levels) walk.now.approvals.now element.now
+                ++ spec.outside_paths element.now) ways)) }
+{
+    let mut found = Ways::none(walk.alloc, walk.facts)?;
+    add_documents(walk, &mut found, element, behind)?;
+    found.append(&outside_ways(walk, element, behind)?);
+    Ok(found)
 }
 
 // Adds the ways through branches, each before one of the ways from their OR on.
@@ -189,12 +208,29 @@ fn outside_ways(
     let approval = Asked::not_approving(update_of_approval(walk.alloc, element)?);
     let mut first = None;
     for k in 0..walk.facts.len() {
-        let fact = &walk.facts[k];
-        if approval.hashes_the_same(fact) && !(walk.levels > 0 && is_listed(walk, element, fact)) {
+        if approves_outside(walk, element, &approval, &walk.facts[k]) {
             first = earlier(first, behind.first[k + 1]);
         }
     }
     Ways::all_at(walk.alloc, walk.facts, first, behind.count)
+}
+
+// Whether the fact approves, for the element, a digest that no document has which could be entered here.
+fn approves_outside(
+    walk: &Walk<'_>,
+    element: &ClosedElement,
+    approval: &Asked,
+    fact: &Asked,
+) -> bool
+    requires approval { IsApproval element.now }
+    requires hashed { update_value approval.now.update ≡ update_of (move_of_element element.now zero_digest) }
+    ensures { (approving : OneMove) → Asks fact.now approving → result
+        ≡ matches_approval walk.now.approvals.now (nat_lt 0 walk.now.levels) (move_of_element element.now zero_digest) approving }
+{
+    if !approval.hashes_the_same(fact) {
+        return false;
+    }
+    walk.levels == 0 || !is_listed(walk, element, fact)
 }
 
 // The lesser of two places.
@@ -213,8 +249,8 @@ fn earlier(a: Option<u32>, b: Option<u32>) -> Option<u32>
 // Whether the fact approves the digest of a document that the element's approver approved.
 fn is_listed(walk: &Walk<'_>, element: &ClosedElement, fact: &Asked) -> bool
     requires { IsApproval element.now }
-    ensures { (approving : OneMove) (d : Digest) → Asks fact.now approving
-        → result ≡ is_listed walk.now.approvals.now (move_of_element element.now d) approving }
+    ensures { (approving : OneMove) → Asks fact.now approving
+        → result ≡ is_listed walk.now.approvals.now (move_of_element element.now zero_digest) approving }
 {
     for document in walk.approvals {
         if accepts(element, document) && fact.approves(&document.digest) {
@@ -227,7 +263,7 @@ fn is_listed(walk: &Walk<'_>, element: &ClosedElement, fact: &Asked) -> bool
 // What an AUTHORIZE or an AUTHORIZENV hashes.
 fn update_of_approval(alloc: Global, element: &ClosedElement) -> Result<UpdateBytes, NoMemory>
     requires { IsApproval element.now }
-    ensures { IfOk result (λ update. (d : Digest) → update_value update ≡ update_of (move_of_element element.now d)) }
+    ensures { IfOk result (λ update. update_value update ≡ update_of (move_of_element element.now zero_digest)) }
 {
     match element {
         ClosedElement::Authorize { key, policy_ref } => update_of_approve(alloc, key, policy_ref),
