@@ -9,7 +9,7 @@ use Rattle.tpol_tree.specs.declared.closed.ClosedElement.{ClosedElement}
 use Rattle.tpol_tree.specs.declared.closed.ClosedElement.TheVariants.{Assert, Or, Authorize, AuthorizeNv}
 use Rattle.tpol_tree.specs.declared.path.Move.{Move}
 use Rattle.tpol_tree.specs.declared.path.Move.TheVariants.{Assert as AssertMove, Or as OrMove, Approve, ApproveNv}
-use Rattle.tpol_digest.specs.Digest.{zero_digest, after_update, digest_at_element, branch_digests}
+use Rattle.tpol_digest.specs.Digest.{after_update, digest_at_element, branch_digests}
 use Rattle.tpol_digest.specs.Inputs.{strings_of, pcr_values, inputs_at_element, inputs_at_branches}
 use Rattle.tpol_digest.specs.Sound.{Among, Meets}
 use Rattle.tpol_digest.specs.Update.{Update, joined, update_of, update_of_or}

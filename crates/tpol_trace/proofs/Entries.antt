@@ -1,11 +1,11 @@
 -- Tables of ways as they are made: of no way, of the way without a move, of ways behind a move, of ways and
 -- then others.
-use Rattle.std.proofs.Common.{◌≡◌, ◌≢◌, ⊎_elim, ℕ, zero, suc, ◌+◌, ◌-◌, ◌<◌, ◌≤◌, min, Bool, true, false, List, [], ◌∷◌, ◌++◌, length, drop, get_or, set, map, replicate, Option, Some, None, refl, sym, ap, ◌∙◌, subst, arith, ◌&&◌, length-append}
-use Rattle.std.specs.Prelude.{slice_get, if◌then◌else◌, nat_lt, ◌||◌}
+use Rattle.std.proofs.Common.{◌≡◌, ◌≢◌, ⊎_elim, ℕ, zero, suc, ◌+◌, ◌<◌, ◌≤◌, min, Bool, true, false, List, [], ◌∷◌, ◌++◌, length, drop, get_or, set, map, Some, None, refl, sym, ap, ◌∙◌, arith, ◌&&◌, length-append}
+use Rattle.std.specs.Prelude.{if◌then◌else◌}
 use Rattle.std.specs.List.{AllByRecursion}
 use Rattle.std.specs.Vec.{with_item}
 use Rattle.std.proofs.lemmas.Bool.{false≢true, cases_lt}
-use Rattle.std.proofs.lemmas.List.{length-map, length-set, get_or-set_same, get_or-set_other, get_or-replicate, get_or_append_left, get_or_at, length-replicate}
+use Rattle.std.proofs.lemmas.List.{length-map, length-set, get_or-set_same, get_or-set_other}
 use Rattle.tpol_tree.specs.declared.path.ApprovedDoc.{ApprovedDoc}
 use Rattle.tpol_tree.specs.declared.path.Move.{Move}
 use Rattle.tpol_tree.specs.declared.path.Path.{Path}
@@ -13,7 +13,7 @@ use Rattle.tpol_digest.specs.Paths.{empty_path, followed_by, path_of_move}
 use Rattle.tpol_trace.specs.declared.asked.Asked.{Asked}
 use Rattle.tpol_trace.specs.declared.ways.Ways.{Ways}
 use Rattle.tpol_trace.specs.Openings.{first_index}
-use Rattle.tpol_trace.specs.Same.{is_same_move, are_same}
+use Rattle.tpol_trace.specs.Same.{are_same}
 use Rattle.tpol_trace.specs.Tables.{Asks, AllAsk, goes_by, goes, AreInside, capped, IsTable, IsEverywhere, kept}
 use Rattle.tpol_trace.proofs.Firsts.{first_index-append, first_index-kept, first_index-map, capped-kept, capped-or}
 use Rattle.tpol_trace.proofs.Steps.{ask_length, same_at, or_later, IsPut, IsJoined}
@@ -28,13 +28,13 @@ module _ (approvals : List ApprovedDoc) (level : ℕ) (facts : List Move) where
         count = omega (arith, counted, a, b, l);
         size = j.size ∙ t.size;
         first = λ i within.
-          let s = t.size in
-          j.below i (omega arith)
-          ∙ ap (λ x. or_later x before.count (get_or others.first.items i None)) (t.first i within)
-          ∙ ap (λ n. or_later (capped (first_index (goes approvals level facts i) ways)) n (get_or others.first.items i None)) a
-          ∙ ap (or_later (capped (first_index (goes approvals level facts i) ways)) (min (length ways) 65536)) (u.first i within)
-          ∙ sym (capped-or (first_index (goes approvals level facts i) ways) (first_index (goes approvals level facts i) more) (length ways))
-          ∙ ap capped (sym (first_index-append (goes approvals level facts i) ways more));
+            let s = t.size in
+            j.below i (omega arith)
+            ∙ ap (λ x. or_later x before.count (get_or others.first.items i None)) (t.first i within)
+            ∙ ap (λ n. or_later (capped (first_index (goes approvals level facts i) ways)) n (get_or others.first.items i None)) a
+            ∙ ap (or_later (capped (first_index (goes approvals level facts i) ways)) (min (length ways) 65536)) (u.first i within)
+            ∙ sym (capped-or (first_index (goes approvals level facts i) ways) (first_index (goes approvals level facts i) more) (length ways))
+            ∙ ap capped (sym (first_index-append (goes approvals level facts i) ways more));
       }
 
   -- no way
@@ -73,6 +73,7 @@ module _ (approvals : List ApprovedDoc) (level : ℕ) (facts : List Move) where
           ap (λ i. get_or (set table.first.items n (Some 0)) i None) is
           ∙ get_or-set_same table.first.items n (Some 0) None (omega arith)
           ∙ sym (ap capped (first_of_one k true left))
+
       before : (k : ℕ) → k < n → get_or (set table.first.items n (Some 0)) k None ≡ capped (first_index (goes approvals level facts k) (empty_path ∷ []))
       before k less =
           let left : are_same [] (drop k facts) ≡ false = nothing_left facts k (omega arith) in
@@ -126,6 +127,7 @@ module _ (approvals : List ApprovedDoc) (level : ℕ) (facts : List Move) where
           ∙ ap (λ j. kept (same_at act facts i) (capped (first_index (goes approvals level facts j) ways))) e
           ∙ sym (capped-kept (same_at act facts i) (first_index (goes approvals level facts (suc i)) ways))
           ∙ ap capped (sym (behind_first act i ways inside))
+
       last : (i : ℕ) → i ≡ length asked → get_or (set now.first.items (length asked) None) i None ≡ capped (first_index (goes approvals level facts i) (map (followed_by (path_of_move act)) ways))
       last i is =
           let n : length asked ≡ length facts = ask_length asked facts asks in

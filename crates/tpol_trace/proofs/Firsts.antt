@@ -1,5 +1,5 @@
 -- The first of some ways that passes a test, of ways in two parts, of changed ways, and by another test.
-use Rattle.std.proofs.Common.{◌≡◌, ℕ, zero, suc, ◌+◌, ◌-◌, ◌<◌, ◌≤◌, min, Bool, true, false, List, [], ◌∷◌, ◌++◌, length, map, Option, Some, None, refl, sym, ap, ◌∙◌, arith, ◌&&◌}
+use Rattle.std.proofs.Common.{◌≡◌, ℕ, suc, ◌+◌, min, Bool, true, false, List, [], ◌∷◌, ◌++◌, length, map, Option, Some, None, refl, ap, ◌∙◌, arith, ◌&&◌}
 use Rattle.std.specs.Prelude.{if◌then◌else◌, ◌||◌}
 use Rattle.std.specs.List.{AllByRecursion}
 use Rattle.std.specs.Option.{option_map}
@@ -28,6 +28,7 @@ module _ {A : Type 0} where
       shifted (Some i) b = refl
       shifted None None = refl
       shifted None (Some j) = let e : length xs + j + 1 ≡ suc (length xs) + j = omega arith in ap Some e
+
       by : (t : Bool) (a b : Option ℕ) → first_index test (xs ++ ys) ≡ index_or a (length xs) b → (if t then Some 0 else next (first_index test (xs ++ ys))) ≡ index_or (if t then Some 0 else next a) (suc (length xs)) b
       by true a b e = refl
       by false a b e = ap next e ∙ shifted a b
@@ -53,12 +54,15 @@ module _ {A : Type 0} where
       shifted None n = refl
       shifted (Some i) None = refl
       shifted (Some i) (Some j) = let e : min i j + 1 ≡ min (i + 1) (j + 1) = omega arith in ap Some e
+
       at_once : (o : Option ℕ) → Some 0 ≡ earlier (Some 0) o
       at_once None = refl
       at_once (Some j) = let e : 0 ≡ min 0 j = omega arith in ap Some e
+
       after_all : (o : Option ℕ) → Some 0 ≡ earlier (next o) (Some 0)
       after_all None = refl
       after_all (Some j) = let e : 0 ≡ min (j + 1) 0 = omega arith in ap Some e
+
       by : (s t : Bool) (m n : Option ℕ) → first_index test xs ≡ earlier m n → (if (s || t) then Some 0 else next (first_index test xs)) ≡ earlier (if s then Some 0 else next m) (if t then Some 0 else next n)
       by true true m n e = let z : 0 ≡ min 0 0 = omega arith in ap Some z
       by true false m n e = at_once (next n)

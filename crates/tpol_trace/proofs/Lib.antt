@@ -4,6 +4,7 @@ pub mod Clashes
 pub mod Codes
 pub mod Elements
 pub mod Entries
+pub mod FirstMatch
 pub mod Firsts
 pub mod Found
 pub mod Halves
@@ -13,6 +14,7 @@ pub mod Meaning
 pub mod Opened
 pub mod Outside
 pub mod Rows
+pub mod Search
 pub mod Steps
 pub mod Strings
 pub mod Tests

@@ -1,7 +1,6 @@
 -- The outside ways: the first of them that goes the facts begins at any fact that approves what is open.
-use Rattle.std.proofs.Common.{◌≡◌, ⊎_elim, ℕ, zero, suc, ◌+◌, ◌-◌, ◌<◌, ◌≤◌, min, Bool, true, false, List, [], ◌∷◌, ◌++◌, length, drop, get_or, map, Option, Some, None, refl, sym, ap, ◌∙◌, subst, arith, ◌&&◌, length-append, length-drop}
+use Rattle.std.proofs.Common.{◌≡◌, ⊎_elim, ℕ, zero, suc, ◌+◌, ◌-◌, ◌<◌, ◌≤◌, min, Bool, true, false, List, [], ◌∷◌, length, drop, get_or, map, Option, Some, None, refl, sym, ap, ◌∙◌, subst, arith, ◌&&◌, length-drop}
 use Rattle.std.specs.Prelude.{slice_get, nat_lt, ◌||◌}
-use Rattle.std.specs.Bool.{Decides}
 use Rattle.std.specs.List.{AllByRecursion}
 use Rattle.std.specs.Option.{option_map}
 use Rattle.std.proofs.lemmas.Bool.{false≢true, cases_lt}
@@ -92,6 +91,7 @@ module _ (approvals : List ApprovedDoc) (enters : Bool) (act : Move) where
       to e =
           let k = length facts - length (act ∷ rest) in
           ⊎_elim (λ less. any_from (hit facts rest) (length facts) k less (sym (last_at facts rest k less) ∙ e)) (λ not. absurd (false≢true (sym (last_past facts rest k not) ∙ e))) (cases_lt k (length facts))
+
       from : any_to (hit facts rest) (length facts) ≡ true → matches_last approvals enters (act ∷ rest) (last_facts (act ∷ rest) facts) ≡ true
       from = none_any (hit facts rest) (matches_last approvals enters (act ∷ rest) (last_facts (act ∷ rest) facts)) (length facts) (λ k less h.
           let l = same_length rest (drop (suc k) facts) ((same_Decides rest (drop (suc k) facts)).0 (both_true (approves_at facts k) (are_same rest (drop (suc k) facts)) h).1) in
@@ -149,12 +149,12 @@ module _ (approvals : List ApprovedDoc) (level : ℕ) (facts : List Move) (act :
     count = h.count ∙ counted ∙ t.count ∙ ap (λ m. min m 65536) (sym (length-map ways (followed_by (outside_path act))));
     size = h.size ∙ ap (λ m. m + 1) e;
     first = λ k within.
-      h.first k (omega arith)
-      ∙ is
-      ∙ ap (best_to approvals enters act facts table) e
-      ∙ sym (best (length facts) (omega arith))
-      ∙ ap capped (sym (first_index-kept true (λ way. goes approvals level facts k (followed_by (outside_path act) way)) (λ way. any_to (hit approvals enters act facts way.moves) (length facts)) ways (goes_outside k ways)))
-      ∙ ap capped (sym (first_index-map (goes approvals level facts k) (followed_by (outside_path act)) ways));
+        h.first k (omega arith)
+        ∙ is
+        ∙ ap (best_to approvals enters act facts table) e
+        ∙ sym (best (length facts) (omega arith))
+        ∙ ap capped (sym (first_index-kept true (λ way. goes approvals level facts k (followed_by (outside_path act) way)) (λ way. any_to (hit approvals enters act facts way.moves) (length facts)) ways (goes_outside k ways)))
+        ∙ ap capped (sym (first_index-map (goes approvals level facts k) (followed_by (outside_path act)) ways));
   }
 
 earlier_none : (o : Option ℕ) → o ≡ earlier o None

@@ -1,20 +1,15 @@
 -- A table of ways, entry by entry.
-use Rattle.std.proofs.Common.{◌≡◌, ◌≢◌, ⊎_elim, ℕ, zero, suc, ◌+◌, ◌-◌, ◌<◌, ◌≤◌, min, Bool, true, false, List, [], ◌∷◌, ◌++◌, length, drop, get_or, set, map, Option, Some, None, refl, sym, ap, ◌∙◌, subst, arith, ◌&&◌}
-use Rattle.std.specs.Prelude.{slice_get, if◌then◌else◌, nat_lt}
-use Rattle.std.specs.List.{AllByRecursion}
+use Rattle.std.proofs.Common.{◌≡◌, ◌≢◌, ⊎_elim, ℕ, zero, suc, ◌+◌, ◌<◌, ◌≤◌, min, Bool, false, List, [], ◌∷◌, ◌++◌, length, get_or, set, Option, Some, None, refl, sym, ap, ◌∙◌, subst, arith}
+use Rattle.std.specs.Prelude.{slice_get}
 use Rattle.std.specs.Option.{option_map}
-use Rattle.std.proofs.lemmas.Bool.{false≢true, cases_lt}
+use Rattle.std.proofs.lemmas.Bool.{cases_lt}
 use Rattle.std.proofs.lemmas.List.{length-set, get_or-set_same, get_or-set_other, get_or_default}
 use Rattle.std.specs.Vec.{with_item}
-use Rattle.tpol_tree.specs.declared.path.ApprovedDoc.{ApprovedDoc}
 use Rattle.tpol_tree.specs.declared.path.Move.{Move}
-use Rattle.tpol_tree.specs.declared.path.Path.{Path}
-use Rattle.tpol_digest.specs.Paths.{empty_path, followed_by, path_of_move}
 use Rattle.tpol_trace.specs.declared.asked.Asked.{Asked}
 use Rattle.tpol_trace.specs.declared.ways.Ways.{Ways}
-use Rattle.tpol_trace.specs.Openings.{first_index}
-use Rattle.tpol_trace.specs.Same.{is_same_move, are_same}
-use Rattle.tpol_trace.specs.Tables.{Asks, AllAsk, goes, AreInside, capped, IsTable, kept}
+use Rattle.tpol_trace.specs.Same.{is_same_move}
+use Rattle.tpol_trace.specs.Tables.{Asks, AllAsk, kept}
 
 -- ---- the facts that are asked
 

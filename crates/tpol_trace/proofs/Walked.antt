@@ -1,7 +1,6 @@
 -- The ways through a policy, part by part, in tables.
-use Rattle.std.proofs.Common.{◌≡◌, ℕ, zero, suc, ◌+◌, ◌-◌, ◌<◌, ◌≤◌, Bool, true, false, IsTrue, List, [], ◌∷◌, ◌++◌, length, map, take, get_or, min, Option, Some, None, refl, sym, ap, ◌∙◌, subst, arith, append_assoc, ◌&&◌}
+use Rattle.std.proofs.Common.{◌≡◌, ℕ, suc, ◌+◌, ◌<◌, Bool, true, false, List, [], ◌∷◌, ◌++◌, length, map, take, get_or, min, Option, Some, None, refl, sym, ap, ◌∙◌, subst, arith, append_assoc}
 use Rattle.std.specs.Prelude.{◌||◌, nat_lt, is_some, IfSome}
-use Rattle.std.specs.Bool.{Decides}
 use Rattle.std.specs.List.{flat_map, AllByRecursion}
 use Rattle.std.proofs.lemmas.Bool.{false≢true}
 use Rattle.std.proofs.lemmas.Bool.Decides.{Decides-ltb, same_from_decides}
@@ -17,11 +16,10 @@ use Rattle.tpol_tree.specs.declared.path.ApprovedDoc.{ApprovedDoc}
 use Rattle.tpol_tree.specs.declared.path.Move.{Move}
 use Rattle.tpol_tree.specs.declared.path.Move.TheVariants.{Or as OrMove}
 use Rattle.tpol_tree.specs.declared.path.Path.{Path}
-use Rattle.tpol_tree.specs.declared.path.PathStep.{PathStep}
 use Rattle.tpol_tree.specs.declared.path.PathStep.TheVariants.{Branch, Document}
 use Rattle.tpol_tree.specs.Closed.{ApprovalsLead, ApprovalsLeadElement, ApprovalsLeadBranches}
 use Rattle.tpol_digest.specs.Digest.{zero_digest, digest_at_element, branch_digests}
-use Rattle.tpol_digest.specs.Paths.{empty_path, path_of_move, followed_by, product, between, outside_path, outside_paths, approval_of, paths_by_approval, approved_paths, paths_at, paths_at_element, paths_at_branches, document_paths}
+use Rattle.tpol_digest.specs.Paths.{path_of_move, followed_by, product, between, outside_paths, approval_of, paths_by_approval, approved_paths, paths_at, paths_at_element, paths_at_branches, document_paths}
 use Rattle.tpol_digest.specs.Positions.{path_of_step}
 use Rattle.std.proofs.lemmas.List.Concat.{flat_map-append}
 use Rattle.tpol_base.proofs.Digests.{same_digest}
@@ -29,11 +27,10 @@ use Rattle.tpol_digest.specs.Update.{update_of}
 use Rattle.tpol_digest.proofs.Listings.{no_level}
 use Rattle.tpol_trace.proofs.Approvals.{uses_approval}
 use Rattle.tpol_trace.specs.Same.{approved_of}
-use Rattle.tpol_digest.proofs.Products.{Each-append, Each-map, Each-product, empty_product, product_assoc}
+use Rattle.tpol_digest.proofs.Products.{Each-append, Each-map, Each-product, product_assoc}
 use Rattle.tpol_digest.proofs.Walks.{product-one, product-append, product-between}
 use Rattle.tpol_trace.specs.declared.ways.Ways.{Ways}
 use Rattle.tpol_trace.specs.Matching.{documents_before, matches_last, last_facts}
-use Rattle.tpol_trace.specs.Openings.{first_index}
 use Rattle.tpol_trace.specs.Tables.{IsApproval, move_of_element, goes_by, goes, AreInside, capped, IsTable}
 use Rattle.tpol_trace.proofs.Firsts.{first_index-kept, first_index-map}
 use Rattle.tpol_trace.proofs.Tests.{Decides-by}
@@ -99,9 +96,9 @@ module _ (approvals : List ApprovedDoc) (facts : List Move) where
     count = t.count ∙ ap (λ n. min n 65536) (sym (length-map ways f));
     size = t.size;
     first = λ k within.
-      t.first k within
-      ∙ ap capped (sym (first_index-kept true (λ way. goes approvals other facts k (f way)) (goes approvals level facts k) ways (each k ways)))
-      ∙ ap capped (sym (first_index-map (goes approvals other facts k) f ways));
+        t.first k within
+        ∙ ap capped (sym (first_index-kept true (λ way. goes approvals other facts k (f way)) (goes approvals level facts k) ways (each k ways)))
+        ∙ ap capped (sym (first_index-map (goes approvals other facts k) f ways));
   }
     where
       each : (k : ℕ) (some : List Path) → AllByRecursion (λ way. goes approvals other facts k (f way) ≡ goes approvals level facts k way) some

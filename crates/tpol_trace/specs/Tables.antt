@@ -1,5 +1,5 @@
 -- The ways behind a place in a policy, and which of them facts went.
-use Rattle.std.specs.Prelude.{◌≡◌, ℕ, ◌+◌, ◌<◌, ◌≤◌, Bool, true, false, min, List, [], ◌∷◌, length, drop, nat_lt, slice_index_or, Option, Some, None, IsSome, ⊤}
+use Rattle.std.specs.Prelude.{◌≡◌, ℕ, ◌+◌, ◌≤◌, Bool, true, false, min, List, [], ◌∷◌, length, drop, nat_lt, slice_index_or, Option, Some, None, ⊤}
 use Rattle.std.specs.List.{AllByRecursion}
 use Rattle.std.specs.Option.{option_map}
 use Rattle.tpol_base.specs.declared.digest.Digest32.{Digest32}

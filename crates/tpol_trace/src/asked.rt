@@ -73,7 +73,9 @@ impl Asked {
         ensures { result ≡ same_update (update_value self.now.update) (update_value other.now.update) }
     {
         let (a, b) = (&self.update, &other.update);
-        a.fresh == b.fresh && a.code == b.code && same_string(&a.inner, &b.inner)
+        a.fresh == b.fresh
+            && a.code == b.code
+            && same_string(&a.inner, &b.inner)
             && a.rest.as_slice() == b.rest.as_slice()
             && same_string(&a.policy_ref, &b.policy_ref)
     }

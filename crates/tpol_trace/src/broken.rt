@@ -1,6 +1,9 @@
 // Two different strings of one digest, or one of digest zero, among those that are hashed.
 
 ghost use Rattle.std.specs.Prelude.{◌≡◌, IfOk, IsSome, option_copied, option_map};
+ghost use Rattle.std.specs.Str.{bytes_eq};
+ghost use Rattle.tpol_hash.specs.Sha256.{sha256_digest};
+ghost use Rattle.tpol_digest.specs.Digest.{zero_digest};
 ghost use Rattle.tpol_trace.specs.Openings as spec;
 
 use crate::Opening;
@@ -70,11 +73,19 @@ fn clash_with<'a>(string: &Blob, others: &'a [Blob]) -> Option<&'a Blob>
 {
     let digest = hash(string.as_slice());
     for other in others {
-        if other.as_slice() != string.as_slice() && hash(other.as_slice()).bytes == digest.bytes {
+        if is_clash(string, &digest, other) {
             return Some(other);
         }
     }
     None
+}
+
+// Whether another string has this string's digest.
+fn is_clash(string: &Blob, digest: &Digest32, other: &Blob) -> bool
+    requires { digest.now ≡ sha256_digest string.now }
+    ensures { result ≡ spec.is_clash string.now other.now }
+{
+    string.as_slice() != other.as_slice() && digest.bytes == hash(other.as_slice()).bytes
 }
 
 // The first string of digest zero.
@@ -82,9 +93,15 @@ fn first_zero(strings: &[Blob]) -> Option<&Blob>
     ensures { option_copied result ≡ spec.first_zero strings.now }
 {
     for string in strings {
-        if hash(string.as_slice()).bytes == Digest32::ZERO.bytes {
+        if has_zero_digest(string) {
             return Some(string);
         }
     }
     None
+}
+
+fn has_zero_digest(string: &Blob) -> bool
+    ensures { result ≡ bytes_eq (sha256_digest string.now).bytes zero_digest.bytes }
+{
+    hash(string.as_slice()).bytes == Digest32::ZERO.bytes
 }

@@ -15,5 +15,5 @@ mod walk;
 mod ways;
 
 pub use answer::{Events, Opening};
-pub use open::opening;
 pub use laws::{chains_agree, facts_open, facts_open_without_approvals};
+pub use open::opening;

@@ -46,7 +46,7 @@ pub fn ways_of_elements(
     ensures table { (moves : List OneMove) (ways : List Path) → AllAsk walk.now.facts.now moves → AreInside ways
         → IsTable walk.now.approvals.now walk.now.levels moves behind ways
         → IfOk result (λ table. IsTable walk.now.approvals.now walk.now.levels moves table
-            (spec.product (spec.paths_at (spec.document_paths walk.now.approvals.now walk.now.levels) walk.now.approvals.now elements.now before) ways)) }
+        (spec.product (spec.paths_at (spec.document_paths walk.now.approvals.now walk.now.levels) walk.now.approvals.now elements.now before) ways)) }
 {
     match elements {
         ClosedElements::End => Ok(behind),
@@ -73,7 +73,7 @@ fn ways_of_element(
     ensures table { (moves : List OneMove) (ways : List Path) → AllAsk walk.now.facts.now moves → AreInside ways
         → IsTable walk.now.approvals.now walk.now.levels moves behind ways
         → IfOk result (λ table. IsTable walk.now.approvals.now walk.now.levels moves table
-            (spec.product (spec.paths_at_element (spec.document_paths walk.now.approvals.now walk.now.levels) walk.now.approvals.now element.now before) ways)) }
+        (spec.product (spec.paths_at_element (spec.document_paths walk.now.approvals.now walk.now.levels) walk.now.approvals.now element.now before) ways)) }
 {
     match element {
         ClosedElement::Assert(assertion) => {
@@ -110,8 +110,8 @@ fn ways_of_approval(
     ensures table { (moves : List OneMove) (ways : List Path) → AllAsk walk.now.facts.now moves → AreInside ways
         → IsTable walk.now.approvals.now walk.now.levels moves behind.now ways
         → IfOk result (λ table. IsTable walk.now.approvals.now walk.now.levels moves table
-            (spec.product (spec.approved_paths (spec.document_paths walk.now.approvals.now walk.now.levels) walk.now.approvals.now element.now
-                ++ spec.outside_paths element.now) ways)) }
+        (spec.product (spec.approved_paths (spec.document_paths walk.now.approvals.now walk.now.levels) walk.now.approvals.now element.now
+        ++ spec.outside_paths element.now) ways)) }
 {
     let mut found = Ways::none(walk.alloc, walk.facts)?;
     add_documents(walk, &mut found, element, behind)?;
@@ -137,7 +137,7 @@ fn add_branches(
         → IsTable walk.now.approvals.now walk.now.levels moves behind.now (map (spec.followed_by (spec.path_of_move act)) ways)
         → IsTable walk.now.approvals.now walk.now.levels moves found.old done
         → OnOk result (IsTable walk.now.approvals.now walk.now.levels moves found.new
-            (done ++ spec.product (spec.paths_at_branches (spec.document_paths walk.now.approvals.now walk.now.levels) walk.now.approvals.now branches.now position act before) ways)) }
+        (done ++ spec.product (spec.paths_at_branches (spec.document_paths walk.now.approvals.now walk.now.levels) walk.now.approvals.now branches.now position act before) ways)) }
 {
     match branches {
         ClosedBranches::End => Ok(()),
@@ -168,7 +168,7 @@ fn add_documents(
         → IsTable walk.now.approvals.now walk.now.levels moves behind.now ways
         → IsTable walk.now.approvals.now walk.now.levels moves found.old done
         → OnOk result (IsTable walk.now.approvals.now walk.now.levels moves found.new
-            (done ++ spec.product (spec.approved_paths (spec.document_paths walk.now.approvals.now walk.now.levels) walk.now.approvals.now element.now) ways)) }
+        (done ++ spec.product (spec.approved_paths (spec.document_paths walk.now.approvals.now walk.now.levels) walk.now.approvals.now element.now) ways)) }
 {
     if walk.levels == 0 {
         return Ok(());
@@ -192,18 +192,14 @@ fn add_documents(
 
 // The ways by a policy that no listed document has, each before one of the ways behind the element. They
 // begin at any fact that approves such a policy.
-fn outside_ways(
-    walk: &Walk<'_>,
-    element: &ClosedElement,
-    behind: &Ways,
-) -> Result<Ways, NoMemory>
+fn outside_ways(walk: &Walk<'_>, element: &ClosedElement, behind: &Ways) -> Result<Ways, NoMemory>
     requires approval { IsApproval element.now }
     requires size { length behind.now.first.items ≡ length walk.now.facts.now + 1 }
     ensures size { IfOk result (λ table. length table.first.items ≡ length walk.now.facts.now + 1) }
     ensures table { (moves : List OneMove) (ways : List Path) → AllAsk walk.now.facts.now moves → AreInside ways
         → IsTable walk.now.approvals.now walk.now.levels moves behind.now ways
         → IfOk result (λ table. IsTable walk.now.approvals.now walk.now.levels moves table
-            (spec.product (spec.outside_paths element.now) ways)) }
+        (spec.product (spec.outside_paths element.now) ways)) }
 {
     let approval = Asked::not_approving(update_of_approval(walk.alloc, element)?);
     let mut first = None;

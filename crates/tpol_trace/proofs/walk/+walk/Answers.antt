@@ -1,18 +1,17 @@
-use Rattle.std.proofs.Common.{◌≡◌, ◌≢◌, suc, ◌+◌, ◌-◌, ◌*◌, ◌<◌, ◌≤◌, ◌++◌, ◌∷◌, List, [], true, false, map, take, length, inl, inr, refl, sym, ap, ◌∙◌, subst, arith}
-use Rattle.std.specs.Prelude.{is_some, IfOk}
+use Rattle.std.proofs.Common.{◌≡◌, suc, ◌+◌, ◌-◌, ◌<◌, ◌≤◌, ◌++◌, [], true, false, map, take, length, inl, inr, refl, sym, ap, ◌∙◌, subst, arith}
+use Rattle.std.specs.Prelude.{IfOk}
 use Rattle.std.proofs.lemmas.List.{take_all}
 use Rattle.std.proofs.lemmas.Result.{IfOk-weaker, on_ok_weaker}
-use Rattle.tpol_tree.specs.Closed.{ApprovalsLead, ApprovalsLeadBranches}
+use Rattle.tpol_tree.specs.Closed.{ApprovalsLead}
 use Rattle.tpol_tree.specs.declared.closed.ClosedBranch.{ClosedBranch}
 use Rattle.tpol_tree.specs.declared.path.Move.TheVariants.{Assert, Or}
 use Rattle.tpol_digest.specs.Digest.{digest_at_element, branch_digests}
-use Rattle.tpol_digest.specs.Paths.{approval_of, approved_paths, document_paths, followed_by, outside_paths, path_of_move, paths_at, paths_at_branches, paths_by_approval, product, between}
+use Rattle.tpol_digest.specs.Paths.{approval_of, approved_paths, document_paths, followed_by, outside_paths, path_of_move, paths_at, paths_by_approval, product, between}
 use Rattle.tpol_tree.specs.declared.path.PathStep.TheVariants.{Branch}
-use Rattle.tpol_digest.specs.Update.{update_of_or, update_of_assertion}
-use Rattle.tpol_digest.specs.UpdateBytes.{update_value}
+use Rattle.tpol_digest.specs.Update.{update_of_or}
 use Rattle.tpol_digest.proofs.Products.{empty_product}
 use Rattle.tpol_digest.proofs.Weights.{weight, greatest, weight-lt-greatest, level_less}
-use Rattle.tpol_trace.specs.Tables.{AreInside, IsApproval, IsTable}
+use Rattle.tpol_trace.specs.Tables.{IsApproval, IsTable}
 use Rattle.tpol_trace.proofs.Walked.{approval_paths, approval_table, branch_table, branches_table, documents_table, inside_at, inside_map, inside_product, lead_weaker, more_table, no_level_table, one_table, other_level, passed_table, same_table, used_table}
 use Rattle.tpol_trace.proofs.walk.+walk.Goals as goal
 use Rattle.tpol_trace.proofs.walk.+walk.Goals.{add_documents-then-accepts+in_ok-behind+in_ok-update+in_ok-ways, add_documents-else-accepts}
@@ -86,13 +85,13 @@ add_branches-returns-in_ok-ways-in-More-clause-table t c =
     let branch = c.in-More.branch.value in
     let elements = branch.policy.elements in
     rw c.in-More.is (λ moves act position ways done asks inside behind found.
-      let paths = paths_at within approvals elements d in
-      let here = map (between (Branch position branch.name) act) paths in
-      let copied = same_table approvals moves levels c.args.behind.now c.in_ok-copy-in-More.field-0 (map (followed_by (path_of_move act)) ways) c.in_ok-copy-in-More.ensures.0 c.in_ok-copy-in-More.ensures.1 behind in
-      let inner = c.in_ok-ways-in-More.ensures.table moves (map (followed_by (path_of_move act)) ways) asks (inside_map (followed_by (path_of_move act)) (λ p h. h) ways inside) copied in
-      let same : IsTable approvals levels moves c.in_ok-ways-in-More.ways (product paths (map (followed_by (path_of_move act)) ways)) = subst (λ (b : ClosedBranch). IsTable approvals levels moves c.in_ok-ways-in-More.ways (product (paths_at within approvals b.policy.elements d) (map (followed_by (path_of_move act)) ways))) c.deref.ensures inner in
-      let joined = c.append.ensures.both approvals levels moves done (product here ways) found (branch_table approvals moves levels position branch.name act c.in_ok-ways-in-More.ways paths ways same) in
-      on_ok_weaker c.add_branches.result (λ h. branches_table approvals moves levels within elements c.in-More.rest.value c.deref-in-More.result.now position branch.name act d c.add_branches.new.found done ways c.deref-in-More.ensures h) (c.add_branches.ensures.table moves act (position + 1) ways (done ++ product here ways) asks inside behind joined))
+    let paths = paths_at within approvals elements d in
+    let here = map (between (Branch position branch.name) act) paths in
+    let copied = same_table approvals moves levels c.args.behind.now c.in_ok-copy-in-More.field-0 (map (followed_by (path_of_move act)) ways) c.in_ok-copy-in-More.ensures.0 c.in_ok-copy-in-More.ensures.1 behind in
+    let inner = c.in_ok-ways-in-More.ensures.table moves (map (followed_by (path_of_move act)) ways) asks (inside_map (followed_by (path_of_move act)) (λ p h. h) ways inside) copied in
+    let same : IsTable approvals levels moves c.in_ok-ways-in-More.ways (product paths (map (followed_by (path_of_move act)) ways)) = subst (λ (b : ClosedBranch). IsTable approvals levels moves c.in_ok-ways-in-More.ways (product (paths_at within approvals b.policy.elements d) (map (followed_by (path_of_move act)) ways))) c.deref.ensures inner in
+    let joined = c.append.ensures.both approvals levels moves done (product here ways) found (branch_table approvals moves levels position branch.name act c.in_ok-ways-in-More.ways paths ways same) in
+    on_ok_weaker c.add_branches.result (λ h. branches_table approvals moves levels within elements c.in-More.rest.value c.deref-in-More.result.now position branch.name act d c.add_branches.new.found done ways c.deref-in-More.ensures h) (c.add_branches.ensures.table moves act (position + 1) ways (done ++ product here ways) asks inside behind joined))
 
 pub add_documents-returns-then-walk-eq0-clause-table : goal.add_documents-returns-then-walk-eq0-clause-table
 add_documents-returns-then-walk-eq0-clause-table t c = λ moves ways done asks inside behind found.
@@ -134,14 +133,14 @@ add_documents-loop-document-preserved t c =
       | add_documents-then-accepts+in_ok-behind+in_ok-update+in_ok-ways w ↦ (
         ap (λ x. length x.first.items) w.found-is ∙ w.append.ensures.size ∙ c.loop-document.invariant.0,
         λ moves ways done asks inside behind found.
-          let n : suc (levels - 1) ≡ levels = omega (arith, c.if-walk-eq0.false) in
-          let used = used_table approvals moves (levels - 1) element c.requires.approval document _ w.in_ok-ways.ways ways refl (sym c.accepts.ensures ∙ w.if-accepts.true) (λ act hashed approved. w.in_ok-ways.ensures.table moves (map (followed_by (path_of_move act)) ways) asks (inside_map (followed_by (path_of_move act)) (λ p h. h) ways inside) (w.put_behind.ensures.behind approvals (levels - 1) moves act ways asks (w.approving.ensures act (w.in_ok-update.ensures ∙ sym hashed) approved) inside (same_table approvals moves (levels - 1) c.args.behind.now w.in_ok-behind.behind ways w.in_ok-behind.ensures.0 w.in_ok-behind.ensures.1 (other_level approvals moves levels (levels - 1) c.args.behind.now ways inside behind)))) in
-          let here = subst (λ l. IsTable approvals l moves w.in_ok-ways.ways (product (paths_by_approval (approval_of element document) document (document_paths approvals l document)) ways)) n used in
-          subst (λ x. IsTable approvals levels moves x (done ++ product (approved_paths (document_paths approvals levels) (take (i + 1) approvals) element) ways)) (sym w.found-is) (documents_table approvals moves levels element i document w.append.new.self done ways c.loop-document-test.true c.document-item.is (w.append.ensures.both approvals levels moves (done ++ product (approved_paths (document_paths approvals levels) (take i approvals) element) ways) (product (paths_by_approval (approval_of element document) document (document_paths approvals levels document)) ways) (c.loop-document.invariant.1 moves ways done asks inside behind found) here)),
+            let n : suc (levels - 1) ≡ levels = omega (arith, c.if-walk-eq0.false) in
+            let used = used_table approvals moves (levels - 1) element c.requires.approval document _ w.in_ok-ways.ways ways refl (sym c.accepts.ensures ∙ w.if-accepts.true) (λ act hashed approved. w.in_ok-ways.ensures.table moves (map (followed_by (path_of_move act)) ways) asks (inside_map (followed_by (path_of_move act)) (λ p h. h) ways inside) (w.put_behind.ensures.behind approvals (levels - 1) moves act ways asks (w.approving.ensures act (w.in_ok-update.ensures ∙ sym hashed) approved) inside (same_table approvals moves (levels - 1) c.args.behind.now w.in_ok-behind.behind ways w.in_ok-behind.ensures.0 w.in_ok-behind.ensures.1 (other_level approvals moves levels (levels - 1) c.args.behind.now ways inside behind)))) in
+            let here = subst (λ l. IsTable approvals l moves w.in_ok-ways.ways (product (paths_by_approval (approval_of element document) document (document_paths approvals l document)) ways)) n used in
+            subst (λ x. IsTable approvals levels moves x (done ++ product (approved_paths (document_paths approvals levels) (take (i + 1) approvals) element) ways)) (sym w.found-is) (documents_table approvals moves levels element i document w.append.new.self done ways c.loop-document-test.true c.document-item.is (w.append.ensures.both approvals levels moves (done ++ product (approved_paths (document_paths approvals levels) (take i approvals) element) ways) (product (paths_by_approval (approval_of element document) document (document_paths approvals levels document)) ways) (c.loop-document.invariant.1 moves ways done asks inside behind found) here)),
       )
       | add_documents-else-accepts w ↦ (
         ap (λ x. length x.first.items) w.found-is ∙ c.loop-document.invariant.0,
         λ moves ways done asks inside behind found.
-          subst (λ x. IsTable approvals levels moves x (done ++ product (approved_paths (document_paths approvals levels) (take (i + 1) approvals) element) ways)) (sym w.found-is) (passed_table approvals moves levels element i document c.loop-document.found done ways c.loop-document-test.true c.document-item.is (sym c.accepts.ensures ∙ w.if-accepts.false) (c.loop-document.invariant.1 moves ways done asks inside behind found)),
+            subst (λ x. IsTable approvals levels moves x (done ++ product (approved_paths (document_paths approvals levels) (take (i + 1) approvals) element) ways)) (sym w.found-is) (passed_table approvals moves levels element i document c.loop-document.found done ways c.loop-document-test.true c.document-item.is (sym c.accepts.ensures ∙ w.if-accepts.false) (c.loop-document.invariant.1 moves ways done asks inside behind found)),
       )
     ]

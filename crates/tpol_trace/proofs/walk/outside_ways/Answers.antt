@@ -1,4 +1,4 @@
-use Rattle.std.proofs.Common.{◌≡◌, ◌+◌, Option, ℕ, List, None, refl, sym, ap, ◌∙◌, arith, get_or, length}
+use Rattle.std.proofs.Common.{◌≡◌, ◌+◌, Option, ℕ, None, refl, sym, ap, ◌∙◌, arith, get_or, length}
 use Rattle.std.specs.Prelude.{nat_lt}
 use Rattle.std.proofs.lemmas.Result.{IfOk-weaker}
 use Rattle.tpol_digest.specs.Digest.{zero_digest}
@@ -14,10 +14,10 @@ loop-k-preserved c = λ moves asks.
     let table = c.args.behind.now in
     let way : Option ℕ = get_or table.first.items (c.loop-k.k + 1) None in
     let now : c.if-approves_outside.first ≡ earlier c.loop-k.first (kept c.approves_outside.result way) =
-      elim c.if-approves_outside.branch [
-        | then-approves_outside w ↦ w.first-is ∙ w.earlier-first.ensures ∙ ap (earlier c.loop-k.first) (read_entry table.first.items (c.loop-k.k + 1) w.index.result.now (omega arith) w.index.ensures) ∙ ap (λ b. earlier c.loop-k.first (kept b way)) (sym w.if-approves_outside.true)
-        | else-approves_outside w ↦ left_first c.loop-k.first c.if-approves_outside.first way w.first-is ∙ ap (λ b. earlier c.loop-k.first (kept b way)) (sym w.if-approves_outside.false)
-      ] in
+    elim c.if-approves_outside.branch [
+      | then-approves_outside w ↦ w.first-is ∙ w.earlier-first.ensures ∙ ap (earlier c.loop-k.first) (read_entry table.first.items (c.loop-k.k + 1) w.index.result.now (omega arith) w.index.ensures) ∙ ap (λ b. earlier c.loop-k.first (kept b way)) (sym w.if-approves_outside.true)
+      | else-approves_outside w ↦ left_first c.loop-k.first c.if-approves_outside.first way w.first-is ∙ ap (λ b. earlier c.loop-k.first (kept b way)) (sym w.if-approves_outside.false)
+    ] in
     best_more c.args.walk.now.approvals.now (nat_lt 0 c.args.walk.now.levels) (move_of_element c.args.element.now zero_digest) c.args.walk.now.facts.now moves table c.loop-k.k (get_or c.args.walk.now.facts.now c.loop-k.k c.index-walk-k.result) c.approves_outside.result c.loop-k.first c.if-approves_outside.first way asks c.loop-k-test.true (ap (λ d. get_or c.args.walk.now.facts.now c.loop-k.k d) c.index-walk-k.is) c.approves_outside.ensures (c.loop-k.invariant moves asks) refl now
 
 pub returns-clause-table : goal.returns-clause-table
