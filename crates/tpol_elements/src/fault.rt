@@ -1,3 +1,5 @@
+//! What is wrong in a policy document, and where.
+
 ghost use Rattle.std.specs.Prelude.{◌≡◌};
 ghost use Rattle.tpol_elements.specs.Faults.{Gives, bad, kind_of};
 

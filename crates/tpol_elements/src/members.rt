@@ -1,3 +1,5 @@
+//! One of several members, and members that are unknown.
+
 ghost use Rattle.std.specs.Prelude.{◌≡◌, map, OnOk};
 ghost use Rattle.serde_json.specs.View.{view};
 ghost use Rattle.tpol_elements.specs.Faults.{Gives};

@@ -1,3 +1,5 @@
+//! The types of elements, and the members that each has.
+
 ghost use Rattle.std.specs.Prelude.{◌≡◌, map, OnOk};
 ghost use Rattle.serde_json.specs.View.{view};
 ghost use Rattle.tpol_elements.specs.Faults.{Gives};

@@ -1,3 +1,5 @@
+//! How far a document has been read.
+
 use tpol_json::Notes;
 
 /// How far a document has been read.

@@ -1,3 +1,5 @@
+//! Words of which one has to stand.
+
 ghost use Rattle.std.specs.Prelude.{map};
 ghost use Rattle.serde_json.specs.View.{view};
 ghost use Rattle.tpol_elements.specs.Faults.{Gives};

@@ -1,3 +1,5 @@
+//! What is wrong with a value, with a member or with an item of a list, and where.
+
 ghost use Rattle.std.specs.Prelude.{◌≡◌};
 ghost use Rattle.tpol_json.specs.Faults.{kind_of};
 ghost use Rattle.tpol_json.specs.Faults as members;

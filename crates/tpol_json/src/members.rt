@@ -1,3 +1,5 @@
+//! The members of objects and the items of lists.
+
 ghost use Rattle.std.specs.Prelude.{◌≡◌, ◌++◌, map, option_map, Some, IfOk, IfErr, IfSome, OnOk};
 ghost use Rattle.serde_json.specs.Find.{get};
 ghost use Rattle.serde_json.specs.View.{view};

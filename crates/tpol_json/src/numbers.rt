@@ -1,3 +1,5 @@
+//! Whole numbers.
+
 ghost use Rattle.std.specs.Prelude.{◌≡◌, ◌≤ℤ◌, option_map, IfOk};
 ghost use Rattle.std.specs.List.{list_all};
 ghost use Rattle.serde_json.specs.View.{view};

@@ -1,3 +1,5 @@
+//! Places in a document, as steps from its root.
+
 ghost use Rattle.std.specs.Prelude.{◌≡◌, IfOk, OnOk};
 
 use std::alloc::Global;

@@ -1,3 +1,5 @@
+//! Places that are borrowed, step for step.
+
 ghost use Rattle.std.specs.Prelude.{◌≡◌, IfOk};
 ghost use Rattle.tpol_json.specs.Chains.{place_of};
 

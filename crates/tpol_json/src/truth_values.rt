@@ -1,3 +1,5 @@
+//! Truth values and texts.
+
 ghost use Rattle.std.specs.Prelude.{◌≡◌};
 ghost use Rattle.serde_json.specs.View.{view};
 ghost use Rattle.tpol_json.specs.Reading.{Gives};

@@ -1,3 +1,5 @@
+//! The values of members: texts, truth values, numbers, bytes of certain lengths, digests and Names.
+
 ghost use Rattle.std.specs.Prelude.{◌≡◌, ◌^◌, ◌≤◌, ◌<◌, IfOk};
 ghost use Rattle.serde_json.specs.View.{view};
 ghost use Rattle.tpol_json.specs.Faults.{Gives};

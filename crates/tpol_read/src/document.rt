@@ -1,3 +1,5 @@
+//! Policy documents.
+
 ghost use Rattle.std.specs.Prelude.{IfOk, IfErr};
 ghost use Rattle.serde_json.specs.View.{view};
 ghost use Rattle.tpol_read.specs.Documents.{ReadsAsPolicy, IsRefused, document_in};

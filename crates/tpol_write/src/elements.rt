@@ -1,3 +1,5 @@
+//! Elements, branches and lists of them.
+
 ghost use Rattle.std.specs.Prelude.{◌≡◌, ◌++◌, IfOk, OnOk, map};
 ghost use Rattle.serde_json.specs.View.{view};
 ghost use Rattle.tpol_tree.specs.declared.policy.Element.TheVariants.{Or};

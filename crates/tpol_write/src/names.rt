@@ -1,3 +1,5 @@
+//! The text of a command's code.
+
 ghost use Rattle.std.specs.Prelude.{◌≡◌, IfOk};
 ghost use Rattle.tpol_write.specs.Names.{code_text};
 

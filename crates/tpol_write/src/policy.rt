@@ -1,3 +1,5 @@
+//! Policies and their authorizations.
+
 ghost use Rattle.std.specs.Prelude.{◌≡◌, ◌≤◌, Some, IfOk, OnOk, map};
 ghost use Rattle.serde_json.specs.View.{view, members_view};
 ghost use Rattle.tpol_json.specs.Document.{document_of};

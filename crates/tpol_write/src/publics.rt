@@ -1,3 +1,5 @@
+//! Public areas of keys and indices.
+
 ghost use Rattle.std.specs.Prelude.{◌≡◌, IfOk};
 ghost use Rattle.serde_json.specs.View.{view};
 ghost use Rattle.tpol_write.specs.Wishes.{object_public_value, nv_public_value};

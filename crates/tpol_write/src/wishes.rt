@@ -1,3 +1,5 @@
+//! Keys, indices, entities, parents and Names as they are asked for.
+
 ghost use Rattle.std.specs.Prelude.{◌≡◌, OnOk};
 ghost use Rattle.serde_json.specs.Data.{put as with_member};
 ghost use Rattle.serde_json.specs.View.{view, members_view};
