@@ -1,39 +1,13 @@
 -- Readings one after the other.
-use Rattle.std.proofs.Common.{◌≡◌, ℕ, List, Ok, Err, refl, ap}
+use Rattle.std.proofs.Common.{◌≡◌, Ok, Err, ap}
 use Rattle.std.specs.Prelude.{Option, Some, None}
-use Rattle.serde_json.specs.Data.{Data}
-use Rattle.serde_json.specs.Find.{get}
-use Rattle.tpol_json.specs.Places.{at_member}
-use Rattle.tpol_json.specs.declared.place.Place.{Place}
-use Rattle.tpol_scene.specs.Members.{any_in, needed, read_needed}
-use Rattle.tpol_scene.specs.Faults.{Found, Refuses, ◌>>=◌}
-use Rattle.tpol_scene.specs.declared.fault.SceneFault.{SceneFault}
-use Rattle.tpol_scene.specs.declared.fault.SceneFault.TheVariants.{NotJson, Bad, NoMemory}
+use Rattle.tpol_base.specs.Answers.{FailsWith, ◌>>=◌}
+use Rattle.tpol_scene.specs.Faults.{Fault, Found}
 
 -- what refuses the first refuses the whole
-pub refused_then : {A B : Type 0} (fault : SceneFault) (r : Found A) (next : A → Found B) → Refuses fault r → Refuses fault (r >>= next)
-refused_then NotJson r next h = absurd h
-refused_then (Bad kind place) r next h = ap (λ q. q >>= next) h
-refused_then NoMemory r next h = tt
-
-missing : {A : Type 0} (fault : SceneFault) (read : Data → Place → Found A) (there : Option Data) (place : Place)
-    → Refuses fault (read_needed any_in there place) → Refuses fault (read_needed read there place)
-missing NotJson read None place h = absurd h
-missing (Bad kind p) read None place h = cc
-missing NoMemory read None place h = tt
-missing NotJson read (Some d) place h = absurd h
-missing (Bad kind p) read (Some d) place h = absurd cc
-missing NoMemory read (Some d) place h = tt
-
--- what refuses a member whatever it is refuses each reading of it
-pub refused_needed : {A : Type 0} (fault : SceneFault) (read : Data → Place → Found A) (name : List ℕ) (d : Data) (place : Place)
-    → Refuses fault (needed any_in name d place) → Refuses fault (needed read name d place)
-refused_needed fault read name d place = missing fault read (get name d) (at_member place name)
-
--- the value of a reading that was not refused
-pub bind_ok : {A B : Type 0} (r : Found A) (next : A → Found B) (y : B) → (r >>= next) ≡ Ok y → (x : A) × (r ≡ Ok x) × (next x ≡ Ok y)
-bind_ok (Ok x) next y e = (x, refl, e)
-bind_ok (Err fault) next y e = absurd cc
+pub refused_then : {A B : Type 0} (fault : Option Fault) (r : Found A) (next : A → Found B) → FailsWith fault r → FailsWith fault (r >>= next)
+refused_then None r next h = tt
+refused_then (Some fault) r next h = ap (λ q. q >>= next) h
 
 -- what was read, with something beside it
 abbrev beside : {A B : Type 0} → B → A → Found (A × B)

@@ -1,6 +1,6 @@
 -- What the entities of a scene meet.
-use Rattle.std.proofs.Common.{◌≡◌, ℕ, ◌+◌, ◌*◌, max, Bool, true, false, List, [], ◌∷◌, ◌++◌, append_assoc, append-nil, refl, sym, ap, subst, ◌∙◌, arith, inl, inr}
-use Rattle.std.specs.Prelude.{Option, Some, None, map, not, ◌==◌, ◌||◌, ◌&&◌, nat_eq, bit_and, bit_or, codes, replicate}
+use Rattle.std.proofs.Common.{◌≡◌, ℕ, ◌+◌, ◌*◌, max, Bool, true, false, List, [], ◌∷◌, ◌++◌, append_assoc, append-nil, refl, sym, ap, subst, cond, ◌∙◌, arith, inl, inr}
+use Rattle.std.specs.Prelude.{Option, Some, None, is_some, find, map, not, ◌==◌, ◌||◌, ◌&&◌, nat_eq, bit_and, bit_or, codes, replicate}
 use Rattle.std.specs.Cmp.{nat_eq_equiv}
 use Rattle.std.specs.Cmp.Lexicographic.{nat_list_eq_equiv}
 use Rattle.std.specs.List.{IsDistinct, list_any}
@@ -13,10 +13,13 @@ use Rattle.std.proofs.lemmas.Nat.{or_disjoint}
 use Rattle.std.proofs.lemmas.Nat.Bits.{and_pow, bit_at_or, bit_at-pow_same}
 use Rattle.tpol_name.specs.Areas.{is_written}
 use Rattle.tpol_name.specs.Paths.{is_same_path, path_key}
-use Rattle.tpol_name.specs.Setups.{IsObject, IsIndex, IsTypeOfSize, index_type, AreEntities, hierarchy_paths}
+use Rattle.tpol_base.specs.Attributes.{index_type, is_size_of_type}
+use Rattle.tpol_base.specs.Handle.{rh_endorsement, rh_lockout, rh_owner}
+use Rattle.tpol_name.specs.Entities.{hierarchy_at, index_at, object_at}
+use Rattle.tpol_name.specs.Setups.{IsObject, IsIndex, IsTypeOfSize, AreEntities, hierarchy_paths}
 use Rattle.tpol_name.specs.declared.entries.IndexEntry.{IndexEntry}
 use Rattle.tpol_name.specs.declared.entries.ObjectEntry.{ObjectEntry}
-use Rattle.tpol_scene.specs.Entities.{has_path, is_size_of_type, attributes_with, content_or_zeros}
+use Rattle.tpol_scene.specs.Entities.{has_path, attributes_with, content_or_zeros}
 use Rattle.tpol_scene.specs.declared.entities.Entities.{Entities}
 use Rattle.tpol_scene.proofs.DistinctLemmas.{or_false, list_any-map, IsDistinct-insert}
 
@@ -63,18 +66,34 @@ none_of : (p : List ℕ → Bool) (a b c : List ℕ) (objects indices : List (Li
 none_of p a b c objects indices not_a not_b not_c none_o none_i =
     rw (not_a, not_b, not_c) (list_any-append p objects indices ∙ rw (none_o, none_i) refl)
 
+-- what is not found is not there
+by_first : {A : Type 0} (b : Bool) (x : A) (rest : Option A) (others : Bool) → is_some rest ≡ others → is_some (cond b (Some x) rest) ≡ (b || others)
+by_first true x rest others same = refl
+by_first false x rest others same = same
+
+found_any : {A : Type 0} (p : A → Bool) (xs : List A) → is_some (find p xs) ≡ list_any p xs
+found_any p [] = refl
+found_any p (x ∷ xs) = by_first (p x) x (find p xs) (list_any p xs) (found_any p xs)
+
+no_hierarchy : (a b c : Bool) (x y z : ℕ) → is_some (cond a (Some x) (cond b (Some y) (cond c (Some z) None))) ≡ false → (a ≡ false) × (b ≡ false) × (c ≡ false)
+no_hierarchy true b c x y z e = absurd cc
+no_hierarchy false true c x y z e = absurd cc
+no_hierarchy false false true x y z e = absurd cc
+no_hierarchy false false false x y z e = (refl, refl, refl)
+
 -- a path that no entity has is none of the paths
 pub new_path : (entities : Entities) (path : List ℕ) → has_path entities path ≡ false
     → list_any (λ x. is_same_path x path) ((hierarchy_paths ++ map (λ o. o.path) entities.objects) ++ map (λ i. i.path) entities.indices) ≡ false
 unfolding has_path
 new_path entities path e =
     let p : List ℕ → Bool = λ x. is_same_path x path in
-    let indices = or_false (((p (codes "HS") || p (codes "HE")) || p (codes "LOCKOUT")) || list_any (λ object. is_same_path object.path path) entities.objects) (list_any (λ index. is_same_path index.path path) entities.indices) e in
-    let objects = or_false ((p (codes "HS") || p (codes "HE")) || p (codes "LOCKOUT")) (list_any (λ object. is_same_path object.path path) entities.objects) indices.0 in
-    let lockout = or_false (p (codes "HS") || p (codes "HE")) (p (codes "LOCKOUT")) objects.0 in
-    let owner = or_false (p (codes "HS")) (p (codes "HE")) lockout.0 in
+    let behind = or_false (is_some (hierarchy_at path) || is_some (object_at entities.objects path)) (is_some (index_at entities.indices path)) e in
+    let front = or_false (is_some (hierarchy_at path)) (is_some (object_at entities.objects path)) behind.0 in
+    let hierarchies = no_hierarchy (p (codes "HS")) (p (codes "HE")) (p (codes "LOCKOUT")) rh_owner rh_endorsement rh_lockout front.0 in
+    let objects = sym (found_any (λ object. is_same_path object.path path) entities.objects) ∙ front.1 in
+    let indices = sym (found_any (λ index. is_same_path index.path path) entities.indices) ∙ behind.1 in
     none_of p (codes "HS") (codes "HE") (codes "LOCKOUT") (map (λ o. o.path) entities.objects) (map (λ i. i.path) entities.indices)
-    owner.0 owner.1 lockout.1 (list_any-map p (λ o. o.path) entities.objects ∙ objects.1) (list_any-map p (λ i. i.path) entities.indices ∙ indices.1)
+    hierarchies.0 hierarchies.1 hierarchies.2 (list_any-map p (λ o. o.path) entities.objects ∙ objects) (list_any-map p (λ i. i.path) entities.indices ∙ indices)
 
 abbrev pub Entered : Entities → Type 0
 Entered entities = AreEntities entities.objects entities.indices

@@ -3,6 +3,7 @@ pub mod DistinctLemmas
 pub mod EntryLemmas
 pub mod FirstLemmas
 pub mod ListLemmas
+pub mod PlaceLemmas
 pub mod ReadLemmas
 pub mod SceneFaultsLemmas
 pub mod SetupLemmas

@@ -2,14 +2,16 @@
 use Rattle.std.proofs.Common.{◌≡◌, ℕ, suc, ◌+◌, ◌<◌, ◌≤◌, List, length, get_or, drop, Ok, refl, sym, ap, ◌∙◌, subst, add-one}
 use Rattle.std.proofs.Math.ListN.{drop_of_length-le}
 use Rattle.std.proofs.Math.Seq.{drop-cons}
+use Rattle.std.specs.Prelude.{Option}
 use Rattle.serde_json.specs.Data.{Data, Items, item}
 use Rattle.serde_json.specs.View.{view, items_view}
 use Rattle.serde_json.specs.declared.value.Value.{Value}
+use Rattle.tpol_base.specs.Answers.{FailsWith, ◌>>=◌}
 use Rattle.tpol_json.specs.Places.{at_item}
 use Rattle.tpol_json.specs.declared.place.Place.{Place}
-use Rattle.tpol_scene.specs.Faults.{Found, Refuses, ◌>>=◌}
-use Rattle.tpol_scene.specs.Lists.{ItemReading, items_from}
-use Rattle.tpol_scene.specs.declared.fault.SceneFault.{SceneFault}
+use Rattle.tpol_json.specs.Members.{items_from}
+use Rattle.tpol_scene.specs.Faults.{Fault, Found}
+use Rattle.tpol_scene.specs.Lists.{ItemReading}
 use Rattle.tpol_scene.proofs.BindLemmas.{refused_then}
 
 -- the items from an index on, which there are
@@ -33,14 +35,14 @@ items_from-turn read before after vs index v place within is reads =
     ∙ ap (λ r. r >>= λ x. items_from read x (index + 1) (items_view (drop (index + 1) vs)) place) reads
 
 -- an item was refused, and so the whole list
-pub items_from-refused : {A : Type 0} (read : ItemReading A) (before : A) (vs : List Value) (index : ℕ) (v : Value) (place : Place) (fault : SceneFault) (whole : Found A)
+pub items_from-refused : {A : Type 0} (read : ItemReading A) (before : A) (vs : List Value) (index : ℕ) (v : Value) (place : Place) (fault : Option Fault) (whole : Found A)
     → index < length vs → v ≡ get_or vs index v → items_from read before index (items_view (drop index vs)) place ≡ whole
-    → Refuses fault (read before index (view v) (at_item place index)) → Refuses fault whole
+    → FailsWith fault (read before index (view v) (at_item place index)) → FailsWith fault whole
 items_from-refused {A} read before vs index v place fault whole within is so_far refused =
     let here : items_from read before index (items_view (drop index vs)) place ≡ (read before index (view v) (at_item place index) >>= λ x. items_from read x (index + 1) (items_view (drop (index + 1) vs)) place) =
     ap (λ ds. items_from read before index ds place) (items_view-drop vs index v within is)
     ∙ items_from-item read before index (view v) (items_view (drop (index + 1) vs)) place in
-    let P : Found A → Type 0 = λ r. Refuses fault r in
+    let P : Found A → Type 0 = λ r. FailsWith fault r in
     subst P (sym here ∙ so_far) (refused_then fault (read before index (view v) (at_item place index)) _ refused)
 
 -- no item is left

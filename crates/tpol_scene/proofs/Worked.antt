@@ -5,10 +5,10 @@ use Rattle.tpol_json.specs.Places.{root, at_member, at_item}
 use Rattle.tpol_base.specs.PolicyName.{without_folder}
 use Rattle.tpol_scene.specs.Entities.{no_entities, has_path, bytes_or_name, heading_in, index_attributes_in, entity_in}
 use Rattle.tpol_scene.specs.Faults.{bad}
-use Rattle.tpol_scene.specs.Lists.{items_from, item_faults}
-use Rattle.tpol_scene.specs.Scenes.{authorities_in, clock_in, scene_faults}
+use Rattle.tpol_json.specs.Members.{items_from}
+use Rattle.tpol_scene.specs.Lists.{item_faults}
+use Rattle.tpol_scene.specs.Scenes.{authorities_in, times_in, scene_faults}
 use Rattle.tpol_scene.specs.Values.{without_zeros}
-use Rattle.tpol_scene.specs.declared.fault.SceneFault.TheVariants.{Bad}
 use Rattle.tpol_scene.specs.declared.fault.SceneKind.TheVariants.{Missing, WrongKind, BadNumber, Twice, BadState}
 
 -- zero bytes at the end are taken away, those before are not
@@ -50,17 +50,17 @@ both = refl
 
 -- `{}` has no fault
 pub empty : scene_faults (object no_members) ≡ []
-unfolding scene_faults authorities_in clock_in
+unfolding scene_faults authorities_in times_in
 empty = refl
 
 -- `{"presence":2,"safe":null}`: `safe` is read first
 pub two_members : scene_faults (object (member (codes "presence") (number (unsigned 2)) (member (codes "safe") null no_members)))
-    ≡ Bad WrongKind (at_member root (codes "safe")) ∷ Bad BadNumber (at_member root (codes "presence")) ∷ []
-unfolding scene_faults authorities_in clock_in
+    ≡ (WrongKind, at_member root (codes "safe")) ∷ (BadNumber, at_member root (codes "presence")) ∷ []
+unfolding scene_faults authorities_in times_in
 two_members = refl
 
 -- `{"entities":[0,{}]}`
 pub two_entities : scene_faults (object (member (codes "entities") (array (item (number (unsigned 0)) (item (object no_members) no_items))) no_members))
-    ≡ Bad WrongKind (at_item (at_member root (codes "entities")) 0) ∷ Bad Missing (at_member (at_item (at_member root (codes "entities")) 1) (codes "kind")) ∷ []
-unfolding scene_faults authorities_in clock_in item_faults items_from entity_in heading_in
+    ≡ (WrongKind, at_item (at_member root (codes "entities")) 0) ∷ (Missing, at_member (at_item (at_member root (codes "entities")) 1) (codes "kind")) ∷ []
+unfolding scene_faults authorities_in times_in item_faults items_from entity_in heading_in
 two_entities = refl

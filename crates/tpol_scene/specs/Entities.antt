@@ -1,15 +1,19 @@
 -- The entities of a scene.
-use Rattle.std.specs.Prelude.{ℕ, ◌==◌, ◌&&◌, ◌||◌, nat_lt, not, bit_or, List, [], ◌∷◌, ◌++◌, length, replicate, codes, Bool, Option, Some, None, Ok, if◌then◌else◌}
+use Rattle.std.specs.Prelude.{ℕ, ◌+◌, ◌==◌, ◌&&◌, ◌||◌, not, bit_or, List, [], ◌∷◌, ◌++◌, length, replicate, codes, Bool, Option, Some, None, is_some, Ok, if◌then◌else◌}
 use Rattle.std.specs.List.{list_any}
 use Rattle.serde_json.specs.Data.{Data}
 use Rattle.serde_json.specs.Find.{get}
+use Rattle.tpol_base.specs.Answers.{◌>>=◌}
+use Rattle.tpol_base.specs.Attributes.{index_type, is_index_type, is_size_of_type, nv_written, object_sign, object_user_with_auth}
 use Rattle.tpol_base.specs.PolicyName.{without_folder}
 use Rattle.tpol_json.specs.Bytes.{bytes_in}
 use Rattle.tpol_json.specs.Places.{at_member}
+use Rattle.tpol_json.specs.Faults as members
+use Rattle.tpol_json.specs.Reading as json
+use Rattle.tpol_json.specs.Values.{is_within_limit}
 use Rattle.tpol_json.specs.declared.place.Place.{Place}
 use Rattle.tpol_name.specs.Areas.{is_written}
-use Rattle.tpol_name.specs.Paths.{is_same_path}
-use Rattle.tpol_name.specs.Setups.{index_type}
+use Rattle.tpol_name.specs.Entities.{hierarchy_at, index_at, object_at}
 use Rattle.tpol_name.specs.declared.areas.Scheme.{Scheme}
 use Rattle.tpol_name.specs.declared.areas.Scheme.TheVariants.{Sealed, HmacKey}
 use Rattle.tpol_name.specs.declared.entries.IndexEntry.{IndexEntry}
@@ -21,8 +25,8 @@ use Rattle.tpol_scene.specs.declared.heading.NamedPolicy.{NamedPolicy}
 use Rattle.tpol_scene.specs.declared.heading.PolicySource.{PolicySource}
 use Rattle.tpol_scene.specs.declared.kinds.EntityKind.{EntityKind}
 use Rattle.tpol_scene.specs.declared.kinds.EntityKind.TheVariants.{Seal, Key, Nv}
-use Rattle.tpol_scene.specs.declared.fault.SceneKind.TheVariants.{Twice, TooMany, BadState}
-use Rattle.tpol_scene.specs.Faults.{Found, bad, read_as, ◌>>=◌}
+use Rattle.tpol_scene.specs.declared.fault.SceneKind.TheVariants.{Twice, BadState}
+use Rattle.tpol_scene.specs.Faults.{Found, bad, read_as}
 use Rattle.tpol_scene.specs.Kinds.{kind_in, least_handle, greatest_handle}
 use Rattle.tpol_scene.specs.Lists.{ItemReading, list_in}
 use Rattle.tpol_scene.specs.Members.{needed, optional}
@@ -34,9 +38,7 @@ no_entities = record { objects = []; indices = []; policies = [] }
 -- whether a hierarchy or an entity has this path
 unfoldable pub has_path : Entities → List ℕ → Bool
 has_path entities path =
-    is_same_path (codes "HS") path || is_same_path (codes "HE") path || is_same_path (codes "LOCKOUT") path
-    || list_any (λ object. is_same_path object.path path) entities.objects
-    || list_any (λ index. is_same_path index.path path) entities.indices
+    is_some (hierarchy_at path) || is_some (object_at entities.objects path) || is_some (index_at entities.indices path)
 
 -- a path that no hierarchy and no entity has
 abbrev pub new_path_in : Entities → Data → Place → Found (List ℕ)
@@ -102,14 +104,6 @@ object_entry_in scheme default heading d place = do
     secret = secret;
   })
 
--- the types of indices that a scene can have: ordinary, counter, bit field and extend
-abbrev pub is_index_type : ℕ → Bool
-is_index_type kind = kind == 0 || kind == 1 || kind == 2 || kind == 4
-
--- counters and bit fields have 8 bytes, and an extend index 32
-abbrev pub is_size_of_type : ℕ → ℕ → Bool
-is_size_of_type kind size = kind == 0 || (kind == 1 && size == 8) || (kind == 2 && size == 8) || (kind == 4 && size == 32)
-
 -- the attributes of an index, without WRITTEN and of one of these types
 unfoldable pub index_attributes_in : Data → Place → Found ℕ
 index_attributes_in d place = do
@@ -125,13 +119,13 @@ index_size_in attributes d place = do
 -- a content of this size
 abbrev pub content_in : ℕ → Data → Place → Found (Option (List ℕ))
 content_in size d place = do
-  bytes ← read_as (bytes_in d place)
+  bytes ← read_as (json.read_as members.kind_of (bytes_in d place))
   if length bytes == size then Ok (Some bytes) else bad BadState place
 
 -- the attributes of an index: with a content WRITTEN is set
 abbrev pub attributes_with : Option (List ℕ) → ℕ → ℕ
 attributes_with None attributes = attributes
-attributes_with (Some content) attributes = bit_or attributes 0x20000000
+attributes_with (Some content) attributes = bit_or attributes nv_written
 
 -- the content that is given, or zero bytes
 abbrev pub content_or_zeros : Option (List ℕ) → ℕ → List ℕ
@@ -155,24 +149,30 @@ index_entry_in heading d place = do
     content = content_or_zeros content size;
   })
 
--- the policies, with that of the entity with this handle where it names one
-abbrev pub policies_with : List EntityPolicy → ℕ → Option NamedPolicy → List EntityPolicy
-policies_with policies handle None = policies
-policies_with policies handle (Some named) = policies ++ record { handle = handle; name = named.name; place = named.place } ∷ []
+-- the policies that entities name, with that of the entity with this handle behind these ones
+abbrev pub policies_with : Entities → ℕ → Option NamedPolicy → List EntityPolicy
+policies_with entities handle None = entities.policies
+policies_with entities handle (Some named) = entities.policies ++ record {
+  handle = handle;
+  objects_before = length entities.objects;
+  indices_before = length entities.indices;
+  name = named.name;
+  place = named.place;
+} ∷ []
 
 -- the entities with one more object, or one more index
 abbrev pub with_object : Entities → Heading → ObjectEntry → Entities
 with_object entities heading object = record {
   objects = entities.objects ++ object ∷ [];
   indices = entities.indices;
-  policies = policies_with entities.policies object.handle heading.policy.named;
+  policies = policies_with entities object.handle heading.policy.named;
 }
 
 abbrev pub with_index : Entities → Heading → IndexEntry → Entities
 with_index entities heading index = record {
   objects = entities.objects;
   indices = entities.indices ++ index ∷ [];
-  policies = policies_with entities.policies index.public.index heading.policy.named;
+  policies = policies_with entities index.public.index heading.policy.named;
 }
 
 -- an object or an index, and the policy that its heading names
@@ -193,16 +193,16 @@ index_behind entities heading d place = index_entry_in heading d place >>= λ in
 
 -- what stands in an entity behind its heading, by its kind
 unfoldable pub entity_by : EntityKind → Entities → Heading → Data → Place → Found Entities
-entity_by Seal entities heading d place = object_behind entities Sealed 0x40 heading d place
-entity_by Key entities heading d place = object_behind entities HmacKey 0x40040 heading d place
+entity_by Seal entities heading d place = object_behind entities Sealed object_user_with_auth heading d place
+entity_by Key entities heading d place = object_behind entities HmacKey (object_user_with_auth + object_sign) heading d place
 entity_by Nv entities heading d place = index_behind entities heading d place
 
 -- an item of `entities`; one past the 256th is not read
 unfoldable pub entity_in : ItemReading Entities
-entity_in entities index d place =
-    if nat_lt index 256
-    then (heading_in entities d place >>= λ heading. entity_by heading.kind entities heading d place)
-    else bad TooMany place
+entity_in entities index d place = do
+  is_within ← read_as (is_within_limit 256 index place)
+  heading ← heading_in entities d place
+  entity_by heading.kind entities heading d place
 
 -- a list of entities
 abbrev pub entities_in : Data → Place → Found Entities

@@ -1,55 +1,56 @@
--- What a part of a scene says, or the first fault in it.
-use Rattle.std.specs.Prelude.{◌≡◌, Result, Ok, Err, ⊤}
-use Rattle.tpol_json.specs.declared.fault.JsonFault.{JsonFault}
-use Rattle.tpol_json.specs.declared.fault.JsonFault.TheVariants as json
-use Rattle.tpol_json.specs.declared.fault.JsonKind.{JsonKind}
-use Rattle.tpol_json.specs.declared.fault.JsonKind.TheVariants as kinds
+-- What a part of a scene says, or what is wrong in it first and where.
+use Rattle.std.specs.Prelude.{Option, Some, None, List, Result, slice_get}
+use Rattle.tpol_base.specs.Answers as answers
+use Rattle.tpol_json.specs.declared.fault.MemberFault.{MemberFault}
+use Rattle.tpol_json.specs.declared.fault.MemberFault.TheVariants as members
+use Rattle.tpol_json.specs.declared.fault.MemberKind.{MemberKind}
+use Rattle.tpol_json.specs.declared.fault.MemberKind.TheVariants as kinds
 use Rattle.tpol_json.specs.declared.place.Place.{Place}
-use Rattle.tpol_json.specs.Reading.{ReadAs}
-use Rattle.tpol_scene.specs.declared.fault.SceneFault.{SceneFault}
-use Rattle.tpol_scene.specs.declared.fault.SceneFault.TheVariants.{NotJson, Bad, NoMemory}
+use Rattle.tpol_json.specs.Reading as json
+use Rattle.tpol_scene.specs.declared.fault.PartFault.{PartFault}
+use Rattle.tpol_scene.specs.declared.fault.PartFault.TheVariants.{Bad, NoMemory}
 use Rattle.tpol_scene.specs.declared.fault.SceneKind.{SceneKind}
-use Rattle.tpol_scene.specs.declared.fault.SceneKind.TheVariants.{WrongKind, BadHex, BadNumber}
+use Rattle.tpol_scene.specs.declared.fault.SceneKind.TheVariants.{Missing, WrongKind, BadHex, BadNumber, Twice, TooMany}
 
--- no reading is `Err NoMemory` or `Err NotJson`
+-- what is wrong, and where
+abbrev pub Fault : Type 0
+Fault = SceneKind × Place
+
 abbrev pub Found : Type 0 → Type 0
-Found A = Result A SceneFault
+Found A = json.ReadAs SceneKind A
 
 abbrev pub bad : {A : Type 0} → SceneKind → Place → Found A
-bad kind place = Err (Bad kind place)
+bad = json.bad
 
--- what stands next, where the first was found
-infixl 10 ◌>>=◌
-abbrev pub ◌>>=◌ : {A B : Type 0} → Found A → (A → Found B) → Found B
-Ok x >>= next = next x
-Err fault >>= next = Err fault
-
-abbrev pub kind_of : JsonKind → SceneKind
+abbrev pub kind_of : MemberKind → SceneKind
+kind_of kinds.Missing = Missing
 kind_of kinds.WrongKind = WrongKind
 kind_of kinds.BadHex = BadHex
 kind_of kinds.BadNumber = BadNumber
+kind_of kinds.Twice = Twice
+kind_of kinds.TooMany = TooMany
 
-abbrev pub fault_of : JsonFault → SceneFault
-fault_of (json.Bad kind place) = Bad (kind_of kind) place
-fault_of json.NoMemory = NoMemory
+abbrev pub fault_of : MemberFault → PartFault
+fault_of (members.Bad kind place) = Bad (kind_of kind) place
+fault_of members.NoMemory = NoMemory
 
--- bytes, numbers, texts and truth values, with their faults as those of a scene
-abbrev pub read_as : {A : Type 0} → ReadAs JsonKind A → Found A
-read_as (Ok x) = Ok x
-read_as (Err fault) = bad (kind_of fault.0) fault.1
+-- what a member says, with its faults as those of a scene
+abbrev pub read_as : {A : Type 0} → json.ReadAs MemberKind A → Found A
+read_as = json.read_as kind_of
 
--- a call that may run out of memory refuses with this fault
-abbrev pub Refuses : {A : Type 0} → SceneFault → Found A → Type 0
-Refuses NotJson reading = ⊥
-Refuses (Bad kind place) reading = reading ≡ Err (Bad kind place)
-Refuses NoMemory reading = ⊤
+-- the fault that a call tells, none for memory
+abbrev pub cause : PartFault → Option Fault
+cause (Bad kind place) = Some (kind, place)
+cause NoMemory = None
 
 -- a call gives what the reading is, unless memory runs out
-abbrev pub Gives : {A : Type 0} → Found A → Found A → Type 0
-Gives (Ok x) reading = reading ≡ Ok x
-Gives (Err fault) reading = Refuses fault reading
+abbrev pub Gives : {A : Type 0} → Result A PartFault → Found A → Type 0
+Gives = answers.Gives (λ x. x) cause
 
 -- the same of a call that leaves what is read in one of its arguments
-abbrev pub Leaves : {A U : Type 0} → Found U → A → Found A → Type 0
-Leaves (Ok u) left reading = reading ≡ Ok left
-Leaves (Err fault) left reading = Refuses fault reading
+abbrev pub Leaves : {A U : Type 0} → Result U PartFault → A → Found A → Type 0
+Leaves result left = answers.Gives (λ _. left) cause result
+
+-- the first of these faults
+abbrev pub first_of : List Fault → Option Fault
+first_of faults = slice_get faults 0

@@ -1,12 +1,14 @@
 -- The kinds of entities.
 use Rattle.std.specs.Prelude.{ℕ, List, codes, Ok, if◌then◌else◌}
 use Rattle.std.specs.Str.{bytes_eq}
-use Rattle.serde_json.specs.Data.{Data, null, boolean, number, string, array, object}
+use Rattle.serde_json.specs.Data.{Data}
+use Rattle.tpol_base.specs.Answers.{◌>>=◌}
 use Rattle.tpol_json.specs.declared.place.Place.{Place}
 use Rattle.tpol_scene.specs.declared.kinds.EntityKind.{EntityKind}
 use Rattle.tpol_scene.specs.declared.kinds.EntityKind.TheVariants.{Seal, Key, Nv}
-use Rattle.tpol_scene.specs.declared.fault.SceneKind.TheVariants.{WrongKind, UnknownKind}
+use Rattle.tpol_scene.specs.declared.fault.SceneKind.TheVariants.{UnknownKind}
 use Rattle.tpol_scene.specs.Faults.{Found, bad}
+use Rattle.tpol_scene.specs.Values.{text_in}
 
 -- one of the words `seal`, `key` and `nv`, exactly
 abbrev pub kind_of_word : List ℕ → Place → Found EntityKind
@@ -15,12 +17,7 @@ kind_of_word word place =
     (if bytes_eq word (codes "key") then Ok Key else (if bytes_eq word (codes "nv") then Ok Nv else bad UnknownKind place))
 
 abbrev pub kind_in : Data → Place → Found EntityKind
-kind_in null place = bad WrongKind place
-kind_in (boolean b) place = bad WrongKind place
-kind_in (number n) place = bad WrongKind place
-kind_in (string s) place = kind_of_word s place
-kind_in (array ds) place = bad WrongKind place
-kind_in (object ms) place = bad WrongKind place
+kind_in d place = text_in d place >>= λ word. kind_of_word word place
 
 -- the handles of transient objects and of NV indices (TPM 2.0 Part 2, TPM_HT)
 abbrev pub least_handle : EntityKind → ℕ

@@ -5,7 +5,8 @@ use Rattle.serde_json.specs.Data.{Data}
 use Rattle.tpol_json.specs.declared.place.Place.{Place}
 use Rattle.tpol_scene.specs.declared.pcrs.PcrBank.{PcrBank}
 use Rattle.tpol_scene.specs.declared.fault.SceneKind.TheVariants.{Twice}
-use Rattle.tpol_scene.specs.Faults.{Found, bad, ◌>>=◌}
+use Rattle.tpol_base.specs.Answers.{◌>>=◌}
+use Rattle.tpol_scene.specs.Faults.{Found, bad}
 use Rattle.tpol_scene.specs.Lists.{ItemReading, list_in}
 use Rattle.tpol_scene.specs.Members.{needed}
 use Rattle.tpol_base.specs.Digest.{zero_digest}

@@ -1,29 +1,33 @@
+//! The entities of a scene.
+
 ghost use Rattle.std.specs.Prelude.{◌≡◌, codes, OnOk};
 ghost use Rattle.serde_json.specs.View.{view, items_view};
 ghost use Rattle.tpol_scene.specs.Entities.{entities_in, entity_by, entity_in, index_behind, no_entities, object_behind, policies_with};
 ghost use Rattle.tpol_scene.specs.Faults.{Gives, Leaves};
-ghost use Rattle.tpol_scene.specs.Lists.{items_from};
+ghost use Rattle.tpol_json.specs.Members.{items_from};
 ghost use Rattle.tpol_scene.specs.Members.{optional};
 
 use crate::entries::{read_index, read_object};
-use crate::fault::{item_place, refused};
-use crate::heading::{Heading, NamedPolicy, PolicySource, read_heading};
+use crate::fault::PartFault;
+use crate::heading::{Heading, NamedPolicy, read_heading};
 use crate::kinds::EntityKind;
-use crate::{SceneFault, SceneKind};
 use serde_json::Value;
 use std::alloc::Global;
+use tpol_base::attributes::{OBJECT_SIGN, OBJECT_USER_WITH_AUTH};
 use tpol_base::{NoMemory, Sequence, Text};
-use tpol_json::{Place, member};
+use tpol_json::{Place, PlaceRef, check_limit, items, member};
 use tpol_name::{Indices, Objects, Scheme};
 
 /// The most entities of a scene.
 const ENTITIES: usize = 256;
 
-/// An entity whose authorization policy is named: its handle, the policy's name without `/policy/` in front,
-/// and where the name stands.
+/// An entity whose authorization policy is named: its handle, how many objects and how many indices of the
+/// scene stand before it, the policy's name without `/policy/` in front, and where the name stands.
 #[derive(Drop)]
 pub struct EntityPolicy {
     pub handle: u32,
+    pub objects_before: usize,
+    pub indices_before: usize,
     pub name: Text,
     pub place: Place,
 }
@@ -40,15 +44,15 @@ pub struct Entities {
 }
 
 /// The member `entities`: a list of entities, without it none.
-pub(crate) fn optional_entities(
+pub fn optional_entities(
     alloc: Global,
     value: &Value,
-    place: &Place,
-) -> Result<Entities, SceneFault>
+    place: &PlaceRef<'_>,
+) -> Result<Entities, PartFault>
     ensures { Gives result (optional entities_in no_entities (codes "entities") (view value.now) place.now) }
 {
     match member(value, "entities") {
-        Some(entities) => entities_of(alloc, entities, &place.member(alloc, "entities")?),
+        Some(entities) => entities_of(alloc, entities, &place.member("entities")),
         None => Ok(no_entities(alloc)),
     }
 }
@@ -63,22 +67,23 @@ fn no_entities(alloc: Global) -> Entities
     }
 }
 
-fn entities_of(alloc: Global, value: &Value, place: &Place) -> Result<Entities, SceneFault>
+fn entities_of(alloc: Global, value: &Value, place: &PlaceRef<'_>) -> Result<Entities, PartFault>
     ensures { Gives result (entities_in (view value.now) place.now) }
 {
-    match value {
-        Value::Array(items) => entities_of_items(alloc, items.as_slice(), place),
-        _ => refused(alloc, SceneKind::WrongKind, place),
-    }
+    let items = items(alloc, value, place)?;
+    entities_of_items(alloc, items, place)
 }
 
-fn entities_of_items(alloc: Global, items: &[Value], place: &Place) -> Result<Entities, SceneFault>
+fn entities_of_items(
+    alloc: Global,
+    items: &[Value],
+    place: &PlaceRef<'_>,
+) -> Result<Entities, PartFault>
     ensures { Gives result (items_from entity_in no_entities 0 (items_view items.now) place.now) }
 {
     let mut entities = no_entities(alloc);
     for (index, item) in items.iter().enumerate() {
-        let place = item_place(alloc, place, index)?;
-        read_entity(alloc, &mut entities, index, item, &place)?;
+        read_entity(alloc, &mut entities, index, item, &(&*place).item(index))?;
     }
     Ok(entities)
 }
@@ -90,13 +95,11 @@ fn read_entity(
     entities: &mut Entities,
     index: usize,
     item: &Value,
-    place: &Place,
-) -> Result<(), SceneFault>
+    place: &PlaceRef<'_>,
+) -> Result<(), PartFault>
     ensures { Leaves result entities.new (entity_in entities.old index (view item.now) place.now) }
 {
-    if index >= ENTITIES {
-        return refused(alloc, SceneKind::TooMany, place);
-    }
+    check_limit(alloc, index, ENTITIES, place)?;
     let heading = read_heading(alloc, entities, item, place)?;
     add_entity(alloc, entities, heading, item, place)
 }
@@ -107,18 +110,30 @@ fn add_entity(
     entities: &mut Entities,
     heading: Heading,
     item: &Value,
-    place: &Place,
-) -> Result<(), SceneFault>
+    place: &PlaceRef<'_>,
+) -> Result<(), PartFault>
     ensures { Leaves result entities.new (entity_by heading.kind entities.old heading (view item.now) place.now) }
 {
     match heading.kind {
-        EntityKind::Seal => add_object(alloc, entities, Scheme::Sealed, 0x40, heading, item, place),
+        EntityKind::Seal => {
+            let default = OBJECT_USER_WITH_AUTH;
+            add_object(
+                alloc,
+                entities,
+                Scheme::Sealed,
+                default,
+                heading,
+                item,
+                place,
+            )
+        }
         EntityKind::Key => {
+            let default = OBJECT_USER_WITH_AUTH + OBJECT_SIGN;
             add_object(
                 alloc,
                 entities,
                 Scheme::HmacKey,
-                0x4_0040,
+                default,
                 heading,
                 item,
                 place,
@@ -135,13 +150,13 @@ fn add_object(
     default: u32,
     heading: Heading,
     item: &Value,
-    place: &Place,
-) -> Result<(), SceneFault>
+    place: &PlaceRef<'_>,
+) -> Result<(), PartFault>
     ensures { Leaves result entities.new
         (object_behind entities.old scheme default heading (view item.now) place.now) }
 {
     let (object, named) = read_object(alloc, scheme, default, heading, item, place)?;
-    add_policy(&mut entities.policies, object.handle, named)?;
+    add_policy(entities, object.handle, named)?;
     entities.objects.push(object)?;
     Ok(())
 }
@@ -151,28 +166,33 @@ fn add_index(
     entities: &mut Entities,
     heading: Heading,
     item: &Value,
-    place: &Place,
-) -> Result<(), SceneFault>
+    place: &PlaceRef<'_>,
+) -> Result<(), PartFault>
     ensures { Leaves result entities.new
         (index_behind entities.old heading (view item.now) place.now) }
 {
     let (index, named) = read_index(alloc, heading, item, place)?;
-    add_policy(&mut entities.policies, index.public.index, named)?;
+    add_policy(entities, index.public.index, named)?;
     entities.indices.push(index)?;
     Ok(())
 }
 
+// Adds the policy that the next entity names.
 fn add_policy(
-    policies: &mut EntityPolicies,
+    entities: &mut Entities,
     handle: u32,
     named: Option<NamedPolicy>,
 ) -> Result<(), NoMemory>
-    ensures { OnOk result (policies.new ≡ policies_with policies.old handle named) }
+    ensures policies { OnOk result (entities.new.policies ≡ policies_with entities.old handle named) }
+    ensures objects { entities.new.objects ≡ entities.old.objects }
+    ensures indices { entities.new.indices ≡ entities.old.indices }
 {
     match named {
         None => Ok(()),
-        Some(NamedPolicy { name, place }) => policies.push(EntityPolicy {
+        Some(NamedPolicy { name, place }) => entities.policies.push(EntityPolicy {
             handle,
+            objects_before: entities.objects.len(),
+            indices_before: entities.indices.len(),
             name,
             place,
         }),

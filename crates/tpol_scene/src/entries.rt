@@ -1,39 +1,54 @@
-ghost use Rattle.std.specs.Prelude.{◌≡◌, codes, IfOk, None};
-ghost use Rattle.std.specs.Prelude.{IfErr};
-ghost use Rattle.tpol_name.specs.Setups.{index_type};
-ghost use Rattle.tpol_scene.specs.declared.fault.SceneFault.TheVariants.{NoMemory as no_memory};
+//! What stands in an entity behind its heading.
+
+ghost use Rattle.std.specs.Prelude.{◌≡◌, [], codes, IfErr, IfOk, None};
 ghost use Rattle.serde_json.specs.View.{view};
-ghost use Rattle.tpol_scene.specs.Entities.{attributes_with, content_in, content_or_zeros, index_and_policy_in, index_attributes_in, index_size_in, is_index_type, is_size_of_type, object_and_policy_in};
+ghost use Rattle.tpol_json.specs.Bytes.{bytes_in};
+ghost use Rattle.tpol_json.specs.Faults as members;
+ghost use Rattle.tpol_json.specs.Reading as json;
+ghost use Rattle.tpol_scene.specs.declared.fault.PartFault.TheVariants.{NoMemory as no_memory};
+ghost use Rattle.tpol_scene.specs.Entities.{attributes_with, content_in, content_or_zeros, index_and_policy_in, index_attributes_in, index_size_in, object_and_policy_in};
 ghost use Rattle.tpol_scene.specs.Faults.{Gives};
 ghost use Rattle.tpol_scene.specs.Members.{needed, optional};
+ghost use Rattle.tpol_scene.specs.Values.{bytes_up_to, empty_or_32};
 
-use crate::fault::refused;
+use crate::SceneKind;
+use crate::fault::{PartFault, refuse};
 use crate::heading::{Heading, NamedPolicy, PolicySource};
-use crate::members::{needed_member, needed_secret, optional_32, optional_u32};
-use crate::values::{u32_of, unsigned_of};
-use crate::{SceneFault, SceneKind};
+use crate::members::optional_u32;
 use serde_json::Value;
 use std::alloc::Global;
 use tpol_base::Blob;
-use tpol_json::{Place, bytes_of, member};
-use tpol_name::{IndexEntry, NvPublic, ObjectEntry, ObjectPublic, Scheme, WRITTEN};
+use tpol_base::attributes::{
+    NV_WRITTEN, has_attribute, index_type, is_index_type, is_size_of_type,
+};
+use tpol_json::{
+    MemberFault, PlaceRef, bytes_at, bytes_up_to, empty_or_32, member, needed, unsigned,
+    unsigned_32,
+};
+use tpol_name::{IndexEntry, NvPublic, ObjectEntry, ObjectPublic, Scheme};
+
+/// The most bytes of an object's secret.
+const MAX_SECRET: usize = 128;
+
+/// The most bytes of an index's content.
+const MAX_CONTENT: u64 = 2048;
 
 /// Reads what stands in an object behind its heading. `default` are the attributes of one that gives none.
 /// The policy that it names, if any, is handed back.
 #[tactic(auto, unfolding(crate::specs::Entities::object_entry_in))]
-pub(crate) fn read_object(
+pub fn read_object(
     alloc: Global,
     scheme: Scheme,
     default: u32,
     heading: Heading,
     item: &Value,
-    place: &Place,
-) -> Result<(ObjectEntry, Option<NamedPolicy>), SceneFault>
+    place: &PlaceRef<'_>,
+) -> Result<(ObjectEntry, Option<NamedPolicy>), PartFault>
     ensures { Gives result (object_and_policy_in scheme default heading (view item.now) place.now) }
 {
     let attributes = optional_u32(alloc, item, "attributes", default, place)?;
-    let secret = needed_secret(alloc, item, "secret", place)?;
-    let unique = optional_32(alloc, item, "unique", place)?;
+    let secret = needed_secret(alloc, item, place)?;
+    let unique = optional_unique(alloc, item, place)?;
     let Heading {
         kind: _,
         path,
@@ -57,14 +72,32 @@ pub(crate) fn read_object(
     Ok((object, named))
 }
 
+// The secret: at most 128 bytes.
+fn needed_secret(alloc: Global, item: &Value, place: &PlaceRef<'_>) -> Result<Blob, PartFault>
+    ensures { Gives result (needed (bytes_up_to 128) (codes "secret") (view item.now) place.now) }
+{
+    let (secret, place) = needed(alloc, item, "secret", place)?;
+    Ok(bytes_up_to(alloc, secret, MAX_SECRET, &place)?)
+}
+
+// The unique field: 32 bytes, or none, also without the member.
+fn optional_unique(alloc: Global, item: &Value, place: &PlaceRef<'_>) -> Result<Blob, PartFault>
+    ensures { Gives result (optional empty_or_32 [] (codes "unique") (view item.now) place.now) }
+{
+    match member(item, "unique") {
+        Some(unique) => Ok(empty_or_32(alloc, unique, &place.member("unique"))?),
+        None => Ok(Blob::new(alloc)),
+    }
+}
+
 /// Reads what stands in an index behind its heading. The policy that it names, if any, is handed back.
 #[tactic(auto, unfolding(crate::specs::Entities::index_entry_in))]
-pub(crate) fn read_index(
+pub fn read_index(
     alloc: Global,
     heading: Heading,
     item: &Value,
-    place: &Place,
-) -> Result<(IndexEntry, Option<NamedPolicy>), SceneFault>
+    place: &PlaceRef<'_>,
+) -> Result<(IndexEntry, Option<NamedPolicy>), PartFault>
     ensures { Gives result (index_and_policy_in heading (view item.now) place.now) }
 {
     let attributes = needed_attributes(alloc, item, place)?;
@@ -92,51 +125,35 @@ pub(crate) fn read_index(
     Ok((index, named))
 }
 
-#[tactic(auto, using(crate::proofs::BindLemmas::refused_needed))]
-fn needed_attributes(alloc: Global, item: &Value, place: &Place) -> Result<u32, SceneFault>
+fn needed_attributes(alloc: Global, item: &Value, place: &PlaceRef<'_>) -> Result<u32, PartFault>
     ensures { Gives result (needed index_attributes_in (codes "attributes") (view item.now) place.now) }
 {
-    let (attributes, place) = needed_member(alloc, item, "attributes", place)?;
+    let (attributes, place) = needed(alloc, item, "attributes", place)?;
     index_attributes(alloc, attributes, &place)
 }
 
 // The attributes of an index: without WRITTEN, and of a type that a scene can have.
 #[tactic(auto, unfolding(crate::specs::Entities::index_attributes_in))]
-fn index_attributes(alloc: Global, value: &Value, place: &Place) -> Result<u32, SceneFault>
+fn index_attributes(alloc: Global, value: &Value, place: &PlaceRef<'_>) -> Result<u32, PartFault>
     ensures { Gives result (index_attributes_in (view value.now) place.now) }
 {
-    let attributes = u32_of(alloc, value, place)?;
-    if attributes & WRITTEN == 0 && is_index_type(index_type(attributes)) {
+    let attributes = unsigned_32(alloc, value, place)?;
+    if !has_attribute(attributes, NV_WRITTEN) && is_index_type(index_type(attributes)) {
         Ok(attributes)
     } else {
-        refused(alloc, SceneKind::BadState, place)
+        refuse(alloc, SceneKind::BadState, place)
     }
 }
 
-// The type of an index: bits 4 to 7 of its attributes (TPM 2.0 Part 2, TPMA_NV).
-fn index_type(attributes: u32) -> u32
-    ensures { result ≡ index_type attributes }
-{
-    attributes / 16 % 16
-}
-
-// Ordinary, counter, bit field and extend.
-fn is_index_type(kind: u32) -> bool
-    ensures { result ≡ is_index_type kind }
-{
-    kind == 0 || kind == 1 || kind == 2 || kind == 4
-}
-
-#[tactic(auto, using(crate::proofs::BindLemmas::refused_needed))]
 fn needed_size(
     alloc: Global,
     attributes: u32,
     item: &Value,
-    place: &Place,
-) -> Result<u16, SceneFault>
+    place: &PlaceRef<'_>,
+) -> Result<u16, PartFault>
     ensures { Gives result (needed (index_size_in attributes) (codes "size") (view item.now) place.now) }
 {
-    let (size, place) = needed_member(alloc, item, "size", place)?;
+    let (size, place) = needed(alloc, item, "size", place)?;
     index_size(alloc, attributes, size, &place)
 }
 
@@ -145,35 +162,28 @@ fn index_size(
     alloc: Global,
     attributes: u32,
     value: &Value,
-    place: &Place,
-) -> Result<u16, SceneFault>
+    place: &PlaceRef<'_>,
+) -> Result<u16, PartFault>
     ensures { Gives result (index_size_in attributes (view value.now) place.now) }
 {
-    let size = unsigned_of(alloc, value, 1, 2048, place)? as u16;
+    let size = unsigned(alloc, value, 1, MAX_CONTENT, place)? as u16;
     if is_size_of_type(index_type(attributes), size) {
         Ok(size)
     } else {
-        refused(alloc, SceneKind::BadState, place)
+        refuse(alloc, SceneKind::BadState, place)
     }
-}
-
-// Counters and bit fields have 8 bytes, and an extend index 32.
-fn is_size_of_type(kind: u32, size: u16) -> bool
-    ensures { result ≡ is_size_of_type kind size }
-{
-    kind == 0 || kind == 1 && size == 8 || kind == 2 && size == 8 || kind == 4 && size == 32
 }
 
 fn optional_content(
     alloc: Global,
     size: u16,
     item: &Value,
-    place: &Place,
-) -> Result<Option<Blob>, SceneFault>
+    place: &PlaceRef<'_>,
+) -> Result<Option<Blob>, PartFault>
     ensures { Gives result (optional (content_in size) None (codes "content") (view item.now) place.now) }
 {
     match member(item, "content") {
-        Some(content) => content_of(alloc, size, content, &place.member(alloc, "content")?),
+        Some(content) => content_of(alloc, size, content, &place.member("content")),
         None => Ok(None),
     }
 }
@@ -183,16 +193,23 @@ fn content_of(
     alloc: Global,
     size: u16,
     value: &Value,
-    place: &Place,
-) -> Result<Option<Blob>, SceneFault>
+    place: &PlaceRef<'_>,
+) -> Result<Option<Blob>, PartFault>
     ensures { Gives result (content_in size (view value.now) place.now) }
 {
-    let content = bytes_of(alloc, value, place)?;
+    let content = bytes(alloc, value, place)?;
     if content.len() == size as usize {
         Ok(Some(content))
     } else {
-        refused(alloc, SceneKind::BadState, place)
+        refuse(alloc, SceneKind::BadState, place)
     }
+}
+
+// Bytes of any number.
+fn bytes(alloc: Global, value: &Value, place: &PlaceRef<'_>) -> Result<Blob, MemberFault>
+    ensures { members.Gives result (json.read_as members.kind_of (bytes_in (view value.now) place.now)) }
+{
+    Ok(bytes_at(alloc, value, place)?)
 }
 
 // With a content WRITTEN is set.
@@ -200,13 +217,13 @@ fn attributes_with(content: &Option<Blob>, attributes: u32) -> u32
     ensures { result ≡ attributes_with content.now attributes }
 {
     match content {
-        Some(_) => attributes | WRITTEN,
+        Some(_) => attributes | NV_WRITTEN,
         None => attributes,
     }
 }
 
 // The content that is given, or zero bytes.
-fn content_or_zeros(alloc: Global, content: Option<Blob>, size: u16) -> Result<Blob, SceneFault>
+fn content_or_zeros(alloc: Global, content: Option<Blob>, size: u16) -> Result<Blob, PartFault>
     ensures ok { IfOk result (λ bytes. bytes ≡ content_or_zeros content size) }
     ensures err { IfErr result (λ fault. fault ≡ no_memory) }
 {

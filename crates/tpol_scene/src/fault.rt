@@ -1,11 +1,11 @@
-ghost use Rattle.std.specs.Prelude.{◌≡◌, IfOk, IfErr};
-ghost use Rattle.tpol_json.specs.Places.{at_item};
-ghost use Rattle.tpol_scene.specs.declared.fault.SceneFault.TheVariants.{NoMemory as no_memory};
+//! What is wrong in a scene.
+
+ghost use Rattle.std.specs.Prelude.{◌≡◌};
 ghost use Rattle.tpol_scene.specs.Faults.{Gives, bad, kind_of};
 
 use std::alloc::{AllocError, Global};
 use tpol_base::NoMemory;
-use tpol_json::{JsonFault, JsonKind, Place};
+use tpol_json::{MemberFault, MemberKind, Place, PlaceRef};
 
 /// What is wrong in a scene.
 #[derive(Clone, Copy, Debug, PartialEq, Eq)]
@@ -42,72 +42,73 @@ pub enum SceneFault {
     NoMemory,
 }
 
-impl From<NoMemory> for SceneFault {
+/// Why a part of a scene is refused that is read from JSON values.
+#[derive(Drop)]
+pub enum PartFault {
+    /// The first fault in reading order.
+    Bad { kind: SceneKind, place: Place },
+    /// Memory ran out.
+    NoMemory,
+}
+
+impl From<NoMemory> for PartFault {
     ghost use Rattle.std.specs.Prelude.{◌≡◌};
-    ghost use Rattle.tpol_scene.specs.declared.fault.SceneFault.TheVariants as faults;
+    ghost use Rattle.tpol_scene.specs.declared.fault.PartFault.TheVariants as faults;
 
     ghost from_gives = { λ _ fault. fault ≡ faults.NoMemory };
 
     fn from(_: NoMemory) -> Self {
-        SceneFault::NoMemory
+        PartFault::NoMemory
     }
 }
 
-impl From<AllocError> for SceneFault {
+impl From<AllocError> for PartFault {
     ghost use Rattle.std.specs.Prelude.{◌≡◌};
-    ghost use Rattle.tpol_scene.specs.declared.fault.SceneFault.TheVariants as faults;
+    ghost use Rattle.tpol_scene.specs.declared.fault.PartFault.TheVariants as faults;
 
     ghost from_gives = { λ _ fault. fault ≡ faults.NoMemory };
 
     fn from(_: AllocError) -> Self {
-        SceneFault::NoMemory
+        PartFault::NoMemory
     }
 }
 
-impl From<JsonFault> for SceneFault {
+impl From<MemberFault> for PartFault {
     ghost use Rattle.std.specs.Prelude.{◌≡◌};
     ghost use Rattle.tpol_scene.specs.Faults.{fault_of};
 
     ghost from_gives = { λ fault made. made ≡ fault_of fault };
 
-    fn from(fault: JsonFault) -> Self {
+    fn from(fault: MemberFault) -> Self {
         match fault {
-            JsonFault::Bad { kind, place } => SceneFault::Bad {
+            MemberFault::Bad { kind, place } => PartFault::Bad {
                 kind: kind_of(kind),
                 place,
             },
-            JsonFault::NoMemory => SceneFault::NoMemory,
+            MemberFault::NoMemory => PartFault::NoMemory,
         }
     }
 }
 
-fn kind_of(kind: JsonKind) -> SceneKind
+fn kind_of(kind: MemberKind) -> SceneKind
     ensures { result ≡ kind_of kind }
 {
     match kind {
-        JsonKind::WrongKind => SceneKind::WrongKind,
-        JsonKind::BadHex => SceneKind::BadHex,
-        JsonKind::BadNumber => SceneKind::BadNumber,
+        MemberKind::Missing => SceneKind::Missing,
+        MemberKind::WrongKind => SceneKind::WrongKind,
+        MemberKind::BadHex => SceneKind::BadHex,
+        MemberKind::BadNumber => SceneKind::BadNumber,
+        MemberKind::Twice => SceneKind::Twice,
+        MemberKind::TooMany => SceneKind::TooMany,
     }
 }
 
-/// The answer that what stands at the place is at fault.
-pub(crate) fn refused<T>(alloc: Global, kind: SceneKind, place: &Place) -> Result<T, SceneFault>
+/// The refusal of this kind at this place.
+pub fn refuse<T>(alloc: Global, kind: SceneKind, place: &PlaceRef<'_>) -> Result<T, PartFault>
     ensures { Gives result (bad kind place.now) }
 {
-    Err(SceneFault::Bad {
+    Err(PartFault::Bad {
         kind,
-        place: place.try_clone(alloc)?,
+        place: place.to_place(alloc)?,
     })
-}
-
-/// The place of the item at this position of the list at the place.
-pub(crate) fn item_place(alloc: Global, place: &Place, index: usize) -> Result<Place, SceneFault>
-    ensures ok { IfOk result (λ item. item ≡ at_item place.now index) }
-    ensures err { IfErr result (λ fault. fault ≡ no_memory) }
-{
-    match u32::try_from(index) {
-        Ok(index) => Ok(place.item(alloc, index)?),
-        Err(_) => Err(SceneFault::NoMemory),
-    }
 }

@@ -1,25 +1,24 @@
-ghost use Rattle.std.specs.Prelude.{◌≡◌, codes, Option, None, Some};
-ghost use Rattle.std.specs.Prelude.{◌==◌};
+//! What entities of every kind have.
+
+ghost use Rattle.std.specs.Prelude.{◌≡◌, ◌==◌, codes, None};
 ghost use Rattle.std.specs.List.{list_any};
 ghost use Rattle.serde_json.specs.Find.{get};
 ghost use Rattle.serde_json.specs.View.{view};
-ghost use Rattle.tpol_name.specs.Paths.{is_same_path};
 ghost use Rattle.tpol_scene.specs.Entities.{bytes_or_name, has_handle, has_path, heading_in, named_policy_in, new_handle_in, new_path_in, policy_source_in, some_policy_in};
 ghost use Rattle.tpol_scene.specs.Faults.{Gives};
 ghost use Rattle.tpol_scene.specs.Kinds.{kind_in};
 ghost use Rattle.tpol_scene.specs.Members.{needed, optional};
 
+use crate::SceneKind;
 use crate::entities::Entities;
-use crate::fault::refused;
+use crate::fault::{PartFault, refuse};
 use crate::kinds::{EntityKind, kind_of};
-use crate::members::{needed_member, optional_auth};
-use crate::values::{check_object, empty_or_32, text_of, unsigned_of};
-use crate::{SceneFault, SceneKind};
+use crate::members::optional_auth;
 use serde_json::Value;
 use std::alloc::Global;
 use tpol_base::{Blob, Text, without_folder};
-use tpol_json::{Place, member};
-use tpol_name::{IndexEntry, ObjectEntry, same_path};
+use tpol_json::{Place, PlaceRef, check_object, empty_or_32, member, needed, text, unsigned};
+use tpol_name::{IndexEntry, ObjectEntry, hierarchy_at, index_at, object_at};
 
 /// A policy by its name, and where the name stands.
 #[derive(Drop)]
@@ -47,12 +46,12 @@ pub struct Heading {
 
 /// Reads what entities of every kind have, beside the entities before.
 #[tactic(auto, unfolding(crate::specs::Entities::heading_in))]
-pub(crate) fn read_heading(
+pub fn read_heading(
     alloc: Global,
     entities: &Entities,
     item: &Value,
-    place: &Place,
-) -> Result<Heading, SceneFault>
+    place: &PlaceRef<'_>,
+) -> Result<Heading, PartFault>
     ensures { Gives result (heading_in entities.now (view item.now) place.now) }
 {
     check_object(alloc, item, place)?;
@@ -70,24 +69,22 @@ pub(crate) fn read_heading(
     })
 }
 
-#[tactic(auto, using(crate::proofs::BindLemmas::refused_needed))]
-fn needed_kind(alloc: Global, item: &Value, place: &Place) -> Result<EntityKind, SceneFault>
+fn needed_kind(alloc: Global, item: &Value, place: &PlaceRef<'_>) -> Result<EntityKind, PartFault>
     ensures { Gives result (needed kind_in (codes "kind") (view item.now) place.now) }
 {
-    let (kind, place) = needed_member(alloc, item, "kind", place)?;
+    let (kind, place) = needed(alloc, item, "kind", place)?;
     kind_of(alloc, kind, &place)
 }
 
-#[tactic(auto, using(crate::proofs::BindLemmas::refused_needed))]
 fn needed_path(
     alloc: Global,
     entities: &Entities,
     item: &Value,
-    place: &Place,
-) -> Result<Text, SceneFault>
+    place: &PlaceRef<'_>,
+) -> Result<Text, PartFault>
     ensures { Gives result (needed (new_path_in entities.now) (codes "path") (view item.now) place.now) }
 {
-    let (path, place) = needed_member(alloc, item, "path", place)?;
+    let (path, place) = needed(alloc, item, "path", place)?;
     new_path(alloc, entities, path, &place)
 }
 
@@ -95,13 +92,13 @@ fn new_path(
     alloc: Global,
     entities: &Entities,
     value: &Value,
-    place: &Place,
-) -> Result<Text, SceneFault>
+    place: &PlaceRef<'_>,
+) -> Result<Text, PartFault>
     ensures { Gives result (new_path_in entities.now (view value.now) place.now) }
 {
-    let path = text_of(alloc, value, place)?;
+    let path = text(alloc, value, place)?;
     if has_path(entities, path.as_str()) {
-        refused(alloc, SceneKind::Twice, place)
+        refuse(alloc, SceneKind::Twice, place)
     } else {
         Ok(path)
     }
@@ -112,40 +109,21 @@ fn new_path(
 fn has_path(entities: &Entities, path: &str) -> bool
     ensures { result ≡ has_path entities.now path.now }
 {
-    same_path("HS", path)
-        || same_path("HE", path)
-        || same_path("LOCKOUT", path)
-        || has_object_path(entities.objects.as_slice(), path)
-        || has_index_path(entities.indices.as_slice(), path)
+    hierarchy_at(path).is_some()
+        || object_at(entities.objects.as_slice(), path).is_some()
+        || index_at(entities.indices.as_slice(), path).is_some()
 }
 
-fn has_object_path(objects: &[ObjectEntry], path: &str) -> bool
-    ensures { result ≡ list_any (λ object. is_same_path object.path path.now) objects.now }
-{
-    objects
-        .iter()
-        .any(|object| same_path(object.path.as_str(), path))
-}
-
-fn has_index_path(indices: &[IndexEntry], path: &str) -> bool
-    ensures { result ≡ list_any (λ index. is_same_path index.path path.now) indices.now }
-{
-    indices
-        .iter()
-        .any(|index| same_path(index.path.as_str(), path))
-}
-
-#[tactic(auto, using(crate::proofs::BindLemmas::refused_needed))]
 fn needed_handle(
     alloc: Global,
     entities: &Entities,
     kind: EntityKind,
     item: &Value,
-    place: &Place,
-) -> Result<u32, SceneFault>
+    place: &PlaceRef<'_>,
+) -> Result<u32, PartFault>
     ensures { Gives result (needed (new_handle_in entities.now kind) (codes "handle") (view item.now) place.now) }
 {
-    let (handle, place) = needed_member(alloc, item, "handle", place)?;
+    let (handle, place) = needed(alloc, item, "handle", place)?;
     new_handle(alloc, entities, kind, handle, &place)
 }
 
@@ -154,15 +132,15 @@ fn new_handle(
     entities: &Entities,
     kind: EntityKind,
     value: &Value,
-    place: &Place,
-) -> Result<u32, SceneFault>
+    place: &PlaceRef<'_>,
+) -> Result<u32, PartFault>
     ensures { Gives result (new_handle_in entities.now kind (view value.now) place.now) }
 {
     let least = kind.least_handle();
     let greatest = kind.greatest_handle();
-    let handle = unsigned_of(alloc, value, least, greatest, place)? as u32;
+    let handle = unsigned(alloc, value, least, greatest, place)? as u32;
     if has_handle(entities, kind, handle) {
-        refused(alloc, SceneKind::Twice, place)
+        refuse(alloc, SceneKind::Twice, place)
     } else {
         Ok(handle)
     }
@@ -195,22 +173,26 @@ fn has_index_handle(indices: &[IndexEntry], handle: u32) -> bool
 
 // At most one of `authPolicy` and `policy`.
 #[tactic(auto, unfolding(crate::specs::Entities::policy_source_in))]
-fn policy_source(alloc: Global, item: &Value, place: &Place) -> Result<PolicySource, SceneFault>
+fn policy_source(
+    alloc: Global,
+    item: &Value,
+    place: &PlaceRef<'_>,
+) -> Result<PolicySource, PartFault>
     ensures { Gives result (policy_source_in (view item.now) place.now) }
 {
     let bytes = optional_auth_policy(alloc, item, place)?;
-    bytes_or_name(alloc, bytes, item, &place.member(alloc, "policy")?)
+    bytes_or_name(alloc, bytes, item, &place.member("policy"))
 }
 
 fn optional_auth_policy(
     alloc: Global,
     item: &Value,
-    place: &Place,
-) -> Result<Option<Blob>, SceneFault>
+    place: &PlaceRef<'_>,
+) -> Result<Option<Blob>, PartFault>
     ensures { Gives result (optional some_policy_in None (codes "authPolicy") (view item.now) place.now) }
 {
     match member(item, "authPolicy") {
-        Some(bytes) => Ok(Some(empty_or_32(alloc, bytes, &place.member(alloc, "authPolicy")?)?)),
+        Some(bytes) => Ok(Some(empty_or_32(alloc, bytes, &place.member("authPolicy"))?)),
         None => Ok(None),
     }
 }
@@ -219,8 +201,8 @@ fn bytes_or_name(
     alloc: Global,
     bytes: Option<Blob>,
     item: &Value,
-    place: &Place,
-) -> Result<PolicySource, SceneFault>
+    place: &PlaceRef<'_>,
+) -> Result<PolicySource, PartFault>
     ensures { Gives result (bytes_or_name bytes (get (codes "policy") (view item.now)) place.now) }
 {
     match member(item, "policy") {
@@ -230,18 +212,22 @@ fn bytes_or_name(
         }),
         Some(policy) => match bytes {
             None => named_policy(alloc, policy, place),
-            Some(_) => refused(alloc, SceneKind::Twice, place),
+            Some(_) => refuse(alloc, SceneKind::Twice, place),
         },
     }
 }
 
-fn named_policy(alloc: Global, value: &Value, place: &Place) -> Result<PolicySource, SceneFault>
+fn named_policy(
+    alloc: Global,
+    value: &Value,
+    place: &PlaceRef<'_>,
+) -> Result<PolicySource, PartFault>
     ensures { Gives result (named_policy_in (view value.now) place.now) }
 {
-    let text = text_of(alloc, value, place)?;
+    let text = text(alloc, value, place)?;
     let named = NamedPolicy {
         name: Text::from_str(alloc, without_folder(text.as_str()))?,
-        place: place.try_clone(alloc)?,
+        place: place.to_place(alloc)?,
     };
     Ok(PolicySource {
         auth_policy: Blob::new(alloc),

@@ -1,13 +1,15 @@
+//! The kinds of entities.
+
 ghost use Rattle.std.specs.Prelude.{◌≡◌, ◌<◌, ◌^◌};
 ghost use Rattle.serde_json.specs.View.{view};
 ghost use Rattle.tpol_scene.specs.Faults.{Gives};
 ghost use Rattle.tpol_scene.specs.Kinds.{greatest_handle, kind_in, kind_of_word, least_handle};
 
-use crate::fault::refused;
-use crate::{SceneFault, SceneKind};
+use crate::SceneKind;
+use crate::fault::{PartFault, refuse};
 use serde_json::Value;
 use std::alloc::Global;
-use tpol_json::Place;
+use tpol_json::PlaceRef;
 
 /// The kinds of entities: a sealed secret, an HMAC key, an NV index.
 #[derive(Clone, Copy, Debug, PartialEq, Eq)]
@@ -22,7 +24,7 @@ impl EntityKind {
     ghost use Rattle.tpol_scene.specs.Kinds.{greatest_handle, least_handle};
 
     /// The least handle of the kind.
-    pub(crate) fn least_handle(self) -> u64
+    pub fn least_handle(self) -> u64
         ensures value { result ≡ least_handle self }
         ensures limit { result < 2 ^ 32 }
     {
@@ -33,7 +35,7 @@ impl EntityKind {
     }
 
     /// The greatest handle of the kind.
-    pub(crate) fn greatest_handle(self) -> u64
+    pub fn greatest_handle(self) -> u64
         ensures value { result ≡ greatest_handle self }
         ensures limit { result < 2 ^ 32 }
     {
@@ -45,16 +47,16 @@ impl EntityKind {
 }
 
 /// The kind that a text names: `seal`, `key` or `nv`, exactly so.
-pub(crate) fn kind_of(alloc: Global, value: &Value, place: &Place) -> Result<EntityKind, SceneFault>
+pub fn kind_of(alloc: Global, value: &Value, place: &PlaceRef<'_>) -> Result<EntityKind, PartFault>
     ensures { Gives result (kind_in (view value.now) place.now) }
 {
     match value {
         Value::String(word) => kind_of_word(alloc, word.as_str(), place),
-        _ => refused(alloc, SceneKind::WrongKind, place),
+        _ => refuse(alloc, SceneKind::WrongKind, place),
     }
 }
 
-fn kind_of_word(alloc: Global, word: &str, place: &Place) -> Result<EntityKind, SceneFault>
+fn kind_of_word(alloc: Global, word: &str, place: &PlaceRef<'_>) -> Result<EntityKind, PartFault>
     ensures { Gives result (kind_of_word word.now place.now) }
 {
     if word == "seal" {
@@ -64,6 +66,6 @@ fn kind_of_word(alloc: Global, word: &str, place: &Place) -> Result<EntityKind, 
     } else if word == "nv" {
         Ok(EntityKind::Nv)
     } else {
-        refused(alloc, SceneKind::UnknownKind, place)
+        refuse(alloc, SceneKind::UnknownKind, place)
     }
 }

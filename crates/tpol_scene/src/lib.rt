@@ -12,7 +12,6 @@ mod kinds;
 mod members;
 mod pcrs;
 mod scene;
-mod values;
 
 pub use entities::{EntityPolicies, EntityPolicy};
 pub use fault::{SceneFault, SceneKind};

@@ -1,139 +1,90 @@
-ghost use Rattle.std.specs.Prelude.{◌≡◌, [], Some, IfOk, IfErr};
-ghost use Rattle.serde_json.specs.Find.{get};
-ghost use Rattle.serde_json.specs.View.{view};
-ghost use Rattle.tpol_json.specs.Places.{at_member};
-ghost use Rattle.tpol_base.specs.Digest.{zero_digest};
-ghost use Rattle.tpol_scene.specs.Faults.{Gives, Refuses};
-ghost use Rattle.tpol_scene.specs.Members.{any_in, needed, optional};
-ghost use Rattle.tpol_scene.specs.Values.{auth_in, bytes_up_to, digest_in, empty_or_32, truth_in, u32_in};
+//! Members that may be left out, and authorization values.
 
-use crate::fault::refused;
-use crate::values::{auth_of, bytes_up_to, digest_of, empty_or_32, truth_of, u32_of, zero_digest};
-use crate::{SceneFault, SceneKind};
+ghost use Rattle.std.specs.Prelude.{◌≡◌, []};
+ghost use Rattle.serde_json.specs.View.{view};
+ghost use Rattle.tpol_base.specs.Digest.{zero_digest};
+ghost use Rattle.tpol_scene.specs.Faults.{Gives};
+ghost use Rattle.tpol_scene.specs.Members.{optional};
+ghost use Rattle.tpol_scene.specs.Values.{auth_in, truth_in, u32_in, without_zeros};
+
+use crate::fault::PartFault;
 use serde_json::Value;
 use std::alloc::Global;
 use tpol_base::{Blob, Digest32};
-use tpol_json::{Place, member};
+use tpol_json::{PlaceRef, bytes_up_to, member, truth, unsigned_32};
 
-/// A digest, without it 32 zero bytes.
-pub(crate) fn optional_digest(
-    alloc: Global,
-    value: &Value,
-    name: &str,
-    place: &Place,
-) -> Result<Digest32, SceneFault>
-    ensures { Gives result (optional digest_in zero_digest name.now (view value.now) place.now) }
-{
-    match member(value, name) {
-        Some(digest) => digest_of(alloc, digest, &place.member(alloc, name)?),
-        None => Ok(zero_digest()),
-    }
-}
+/// The most bytes of an authorization value.
+const MAX_AUTH: usize = 32;
 
 /// An authorization value, without it the empty one.
-pub(crate) fn optional_auth(
+pub fn optional_auth(
     alloc: Global,
     value: &Value,
     name: &str,
-    place: &Place,
-) -> Result<Blob, SceneFault>
+    place: &PlaceRef<'_>,
+) -> Result<Blob, PartFault>
     ensures { Gives result (optional auth_in [] name.now (view value.now) place.now) }
 {
     match member(value, name) {
-        Some(auth) => auth_of(alloc, auth, &place.member(alloc, name)?),
+        Some(auth) => auth_of(alloc, auth, &place.member(name)),
         None => Ok(Blob::new(alloc)),
     }
 }
 
 /// A number of 32 bits, or its default.
-pub(crate) fn optional_u32(
+pub fn optional_u32(
     alloc: Global,
     value: &Value,
     name: &str,
     default: u32,
-    place: &Place,
-) -> Result<u32, SceneFault>
+    place: &PlaceRef<'_>,
+) -> Result<u32, PartFault>
     ensures { Gives result (optional u32_in default name.now (view value.now) place.now) }
 {
     match member(value, name) {
-        Some(number) => u32_of(alloc, number, &place.member(alloc, name)?),
+        Some(number) => Ok(unsigned_32(alloc, number, &place.member(name))?),
         None => Ok(default),
     }
 }
 
 /// A truth value, or its default.
-pub(crate) fn optional_truth(
+pub fn optional_truth(
     alloc: Global,
     value: &Value,
     name: &str,
     default: bool,
-    place: &Place,
-) -> Result<bool, SceneFault>
+    place: &PlaceRef<'_>,
+) -> Result<bool, PartFault>
     ensures { Gives result (optional truth_in default name.now (view value.now) place.now) }
 {
     match member(value, name) {
-        Some(truth) => truth_of(alloc, truth, &place.member(alloc, name)?),
+        Some(flag) => Ok(truth(alloc, flag, &place.member(name))?),
         None => Ok(default),
     }
 }
 
-/// A member that has to be there, and its place.
-pub(crate) fn needed_member<'a>(
-    alloc: Global,
-    value: &'a Value,
-    name: &str,
-    place: &Place,
-) -> Result<(&'a Value, Place), SceneFault>
-    ensures there { IfOk result (λ found. get name.now (view value.now) ≡ Some (view found.0.now)) }
-    ensures place { IfOk result (λ found. found.1 ≡ at_member place.now name.now) }
-    ensures refused { IfErr result (λ fault. Refuses fault (needed any_in name.now (view value.now) place.now)) }
+// An authorization value: at most 32 bytes, without the zero bytes at their end.
+fn auth_of(alloc: Global, value: &Value, place: &PlaceRef<'_>) -> Result<Blob, PartFault>
+    ensures { Gives result (auth_in (view value.now) place.now) }
 {
-    let place = place.member(alloc, name)?;
-    match member(value, name) {
-        Some(found) => Ok((found, place)),
-        None => refused(alloc, SceneKind::Missing, &place),
+    let bytes = bytes_up_to(alloc, value, MAX_AUTH, place)?;
+    Ok(Blob::from_slice(alloc, without_zeros(bytes.as_slice()))?)
+}
+
+// The bytes without the zero bytes at their end.
+fn without_zeros(bytes: &[u8]) -> &[u8]
+    ensures { result.now ≡ without_zeros bytes.now }
+{
+    let mut end = bytes.len();
+    while end > 0 && bytes[end - 1] == 0 {
+        end -= 1;
     }
+    &bytes[..end]
 }
 
-/// A digest that has to be there.
-#[tactic(auto, using(crate::proofs::BindLemmas::refused_needed))]
-pub(crate) fn needed_digest(
-    alloc: Global,
-    value: &Value,
-    name: &str,
-    place: &Place,
-) -> Result<Digest32, SceneFault>
-    ensures { Gives result (needed digest_in name.now (view value.now) place.now) }
+/// 32 zero bytes.
+pub fn zero_digest() -> Digest32
+    ensures { result ≡ zero_digest }
 {
-    let (digest, place) = needed_member(alloc, value, name, place)?;
-    digest_of(alloc, digest, &place)
-}
-
-/// At most 128 bytes, which have to be there.
-#[tactic(auto, using(crate::proofs::BindLemmas::refused_needed))]
-pub(crate) fn needed_secret(
-    alloc: Global,
-    value: &Value,
-    name: &str,
-    place: &Place,
-) -> Result<Blob, SceneFault>
-    ensures { Gives result (needed (bytes_up_to 128) name.now (view value.now) place.now) }
-{
-    let (secret, place) = needed_member(alloc, value, name, place)?;
-    bytes_up_to(alloc, secret, 128, &place)
-}
-
-/// No byte or 32, without it none.
-pub(crate) fn optional_32(
-    alloc: Global,
-    value: &Value,
-    name: &str,
-    place: &Place,
-) -> Result<Blob, SceneFault>
-    ensures { Gives result (optional empty_or_32 [] name.now (view value.now) place.now) }
-{
-    match member(value, name) {
-        Some(bytes) => empty_or_32(alloc, bytes, &place.member(alloc, name)?),
-        None => Ok(Blob::new(alloc)),
-    }
+    Digest32::ZERO
 }

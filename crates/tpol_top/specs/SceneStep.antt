@@ -8,10 +8,8 @@ use Rattle.tpol_json.specs.Places.{root}
 use Rattle.tpol_name.specs.declared.sight.Sight.{Sight}
 use Rattle.tpol_name.specs.Setups.{first_sight}
 use Rattle.tpol_scene.specs.declared.entities.EntityPolicy.{EntityPolicy}
-use Rattle.tpol_scene.specs.declared.fault.SceneFault.{SceneFault}
-use Rattle.tpol_scene.specs.declared.fault.SceneFault.TheVariants.{NotJson, Bad, NoMemory}
 use Rattle.tpol_scene.specs.declared.scene.Scene.{Scene}
-use Rattle.tpol_scene.specs.Faults.{Found}
+use Rattle.tpol_scene.specs.Faults.{Fault, Found}
 use Rattle.tpol_scene.specs.Scenes.{scene_faults, scene_in}
 use Rattle.tpol_top.specs.declared.outcome.Outcome.{Outcome}
 use Rattle.tpol_top.specs.declared.outcome.Verdict.TheVariants.{BadScene, TooLarge}
@@ -24,13 +22,11 @@ abbrev pub scene_not_json : Outcome
 scene_not_json = one_line (codes "error BadScene NotJson") BadScene
 
 -- the outcome of a fault
-abbrev pub scene_refusal : SceneFault → Outcome
-scene_refusal NotJson = scene_not_json
-scene_refusal (Bad kind place) = bad_scene (scene_kind_name kind) place
-scene_refusal NoMemory = scene_not_json
+abbrev pub scene_refusal : Fault → Outcome
+scene_refusal fault = bad_scene (scene_kind_name fault.0) fault.1
 
 -- what the scene says, unless there is a fault: then the first one ends the run
-abbrev pub unless_scene_fault : List SceneFault → Found Scene → Step Scene
+abbrev pub unless_scene_fault : List Fault → Found Scene → Step Scene
 unless_scene_fault [] (Ok scene) = Ok scene
 unless_scene_fault [] (Err fault) = Err (scene_refusal fault)
 unless_scene_fault (fault ∷ faults) found = Err (scene_refusal fault)

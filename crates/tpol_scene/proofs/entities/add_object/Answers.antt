@@ -7,4 +7,4 @@ use Rattle.tpol_scene.proofs.entities.add_object.Goals as goal
 pub returns : goal.returns
 returns c =
     let read = pair_ok (object_entry_in c.args.scheme c.args.default c.args.heading (view c.args.item.now) c.args.place.now) c.args.heading.policy.named c.in_ok-object.object c.in_ok-object.named c.in_ok-object.ensures in
-    rw (read.0, c.in_ok-push.ensures.ok, c.in_ok-add_policy.ensures, read.1) refl
+    rw (read.0, c.in_ok-push.ensures.ok, c.in_ok-add_policy.ensures.policies, c.in_ok-add_policy.ensures.objects, c.in_ok-add_policy.ensures.indices, read.1) refl

@@ -6,13 +6,13 @@ use Rattle.tpol_scene.proofs.entities.entities_of_items.Goals as goal
 
 pub returns-in_err-read_entity : goal.returns-in_err-read_entity
 returns-in_err-read_entity c =
-    let p = err_from_is_err_and c.from_residual-in_err-read_entity.result c.from_residual-in_err-read_entity.ensures.1 in
-    let refused = rw c.in_ok-place.ensures.ok at c.in_err-read_entity.ensures in
+    let p = err_from_is_err_and c.from_residual.result c.from_residual.ensures.1 in
+    let refused = rw c.item.ensures at c.in_err-read_entity.ensures in
     rw (p.1, p.2) (items_from-refused entity_in c.loop-index.entities c.args.items.now c.loop-index.index c.index-items-index.result c.args.place.now _ _ (omega arith) c.index-items-index.is c.loop-index.invariant refused)
 
 pub loop-index-preserved : goal.loop-index-preserved
 loop-index-preserved c =
-    let read = rw c.in_ok-place.ensures.ok at c.in_ok-read_entity.ensures in
+    let read = rw c.item.ensures at c.in_ok-read_entity.ensures in
     sym (items_from-turn entity_in c.loop-index.entities c.read_entity.new.entities c.args.items.now c.loop-index.index c.index-items-index.result c.args.place.now (omega arith) c.index-items-index.is read)
     ∙ c.loop-index.invariant
 

@@ -1,7 +1,7 @@
 use Rattle.std.proofs.Common.{◌≡◌, drop}
 use Rattle.serde_json.specs.View.{items_view}
 use Rattle.tpol_scene.specs.Entities.{entity_in, no_entities}
-use Rattle.tpol_scene.specs.Lists.{items_from}
+use Rattle.tpol_json.specs.Members.{items_from}
 use Rattle.tpol_scene.proofs.entities.entities_of_items.Given as goal
 
 abbrev pub invariant-loop-index : goal.invariant-loop-index

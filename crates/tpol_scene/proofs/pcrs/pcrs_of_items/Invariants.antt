@@ -1,7 +1,7 @@
 use Rattle.std.proofs.Common.{◌≡◌, drop}
 use Rattle.serde_json.specs.View.{items_view}
 use Rattle.tpol_scene.specs.Pcrs.{pcr_item, zero_bank}
-use Rattle.tpol_scene.specs.Lists.{items_from}
+use Rattle.tpol_json.specs.Members.{items_from}
 use Rattle.tpol_scene.proofs.pcrs.pcrs_of_items.Given as goal
 
 abbrev pub invariant-loop-index : goal.invariant-loop-index

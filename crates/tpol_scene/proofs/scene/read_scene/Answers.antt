@@ -1,13 +1,23 @@
 use Rattle.serde_json.specs.View.{view}
-use Rattle.tpol_scene.proofs.ReadLemmas.{stands, has_setup, is_fault}
+use Rattle.tpol_scene.proofs.ReadLemmas.{has_few_entities, has_places, has_setup, is_fault, stands}
 use Rattle.tpol_scene.proofs.scene.read_scene.Goals as goal
 
-pub returns-in-Ok : goal.returns-in-Ok
-returns-in-Ok c =
-    let reads = rw c.root.ensures at c.scene_of.ensures in
-    let d = view c.in-Ok.value in
-    record {
-      scene = stands c.args.bytes.now d c.scene_of.result c.in-Ok.ensures.value reads;
-      setup = has_setup d c.scene_of.result reads;
-      refused = is_fault c.args.bytes.now d c.scene_of.result c.in-Ok.ensures.value reads;
-    }
+pub returns-in-Ok-scene_of-clause-scene : goal.returns-in-Ok-scene_of-clause-scene
+returns-in-Ok-scene_of-clause-scene c =
+    stands c.args.bytes.now (view c.in-Ok.value) _ c.in-Ok.ensures.value (rw (c.at.ensures, c.root-root.ensures) at c.in-Ok-scene_of.ensures)
+
+pub returns-in-Ok-scene_of-clause-setup : goal.returns-in-Ok-scene_of-clause-setup
+returns-in-Ok-scene_of-clause-setup c =
+    has_setup (view c.in-Ok.value) _ (rw (c.at.ensures, c.root-root.ensures) at c.in-Ok-scene_of.ensures)
+
+pub returns-in-Ok-scene_of-clause-places : goal.returns-in-Ok-scene_of-clause-places
+returns-in-Ok-scene_of-clause-places c =
+    has_places (view c.in-Ok.value) _ (rw (c.at.ensures, c.root-root.ensures) at c.in-Ok-scene_of.ensures)
+
+pub returns-in-Ok-scene_of-clause-limits : goal.returns-in-Ok-scene_of-clause-limits
+returns-in-Ok-scene_of-clause-limits c =
+    has_few_entities (view c.in-Ok.value) _ (rw (c.at.ensures, c.root-root.ensures) at c.in-Ok-scene_of.ensures)
+
+pub returns-in-Err-Bad-clause-refused : goal.returns-in-Err-Bad-clause-refused
+returns-in-Err-Bad-clause-refused c =
+    is_fault c.args.bytes.now (view c.in-Ok.value) _ _ c.in-Ok.ensures.value (rw (c.at.ensures, c.root-root.ensures, c.in-Err-Bad.field-0-is) at c.in-Err-Bad.ensures)

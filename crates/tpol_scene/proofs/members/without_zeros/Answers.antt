@@ -1,6 +1,6 @@
 use Rattle.tpol_scene.proofs.ZerosLemmas.{found_end, no_zero_last, no_byte}
-use Rattle.tpol_scene.proofs.values.without_zeros.Goals as goal
-use Rattle.tpol_scene.proofs.values.without_zeros.Goals.{then-loop-end-test+else-bytes-end-eq0, else-loop-end-test}
+use Rattle.tpol_scene.proofs.members.without_zeros.Goals as goal
+use Rattle.tpol_scene.proofs.members.without_zeros.Goals.{then-loop-end-test+else-bytes-end-eq0, else-loop-end-test}
 
 pub returns : goal.returns
 returns c =

@@ -1,7 +1,7 @@
 use Rattle.std.proofs.Common.{◌≡◌, ◌+◌, ◌≤◌, length, take}
 use Rattle.std.specs.List.{suffix_len}
 use Rattle.std.specs.Prelude.{nat_eq}
-use Rattle.tpol_scene.proofs.values.without_zeros.Given as goal
+use Rattle.tpol_scene.proofs.members.without_zeros.Given as goal
 
 abbrev pub invariant-loop-end : goal.invariant-loop-end
 invariant-loop-end l =
