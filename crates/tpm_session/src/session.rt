@@ -99,9 +99,10 @@ impl Session {
         &self.facts
     }
 
-    /// What its facts bind together.
+    /// What its facts, which agree, bind together.
     pub fn bindings(&self) -> &Bindings
-        ensures { result.now ≡ merged self.now.state.facts }
+        ensures value { result.now ≡ merged self.now.state.facts }
+        ensures agree { Agree (moves_of self.now.state.facts) }
     {
         &self.bindings
     }
