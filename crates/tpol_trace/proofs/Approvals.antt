@@ -20,7 +20,7 @@ use Rattle.tpol_digest.proofs.Meeting.{by_key_each, by_index_each}
 use Rattle.tpol_trace.specs.Matching.{IsListed, approval_for, is_listed}
 use Rattle.tpol_trace.specs.Same.{approved_of}
 use Rattle.tpol_trace.specs.Tables.{IsApproval, move_of_element}
-use Rattle.tpol_trace.proofs.Tests.{listed_Decides}
+use Rattle.tpol_trace.proofs.Deciding.{listed_Decides}
 use Rattle.tpol_trace.proofs.Strings.{IsSane}
 use Rattle.tpol_trace.proofs.Chains.{AreHeld, held_front, held_last}
 use Rattle.tpol_trace.proofs.Halves.{EndsWith, zero_no_half}

@@ -12,7 +12,7 @@ use Rattle.tpol_hash.specs.Sha256.{sha256_digest}
 use Rattle.tpol_digest.specs.Digest.{zero_digest}
 use Rattle.tpol_trace.specs.Openings.{is_clash, clash_with, pair_or, first_clash, first_zero}
 use Rattle.tpol_trace.proofs.Strings.{IsSane, each_left, each_right}
-use Rattle.tpol_trace.proofs.Tests.{and_Decides, Decides-by}
+use Rattle.tpol_trace.proofs.Deciding.{and_Decides, Decides-by}
 use Rattle.tpol_trace.proofs.WaysBack.{IsIn}
 
 pub digest_test_Decides : (a b : Digest32) → Decides (bytes_eq a.bytes b.bytes) (a ≡ b)

@@ -2,6 +2,7 @@ pub mod Approvals
 pub mod Chains
 pub mod Clashes
 pub mod Codes
+pub mod Deciding
 pub mod Elements
 pub mod Entries
 pub mod FirstMatch
@@ -17,6 +18,5 @@ pub mod Rows
 pub mod Search
 pub mod Steps
 pub mod Strings
-pub mod Tests
 pub mod Walked
 pub mod WaysBack

@@ -11,7 +11,7 @@ use Rattle.tpol_tree.specs.declared.path.Path.{Path}
 use Rattle.tpol_digest.specs.Update.{update_of}
 use Rattle.tpol_trace.specs.Same.{AreSame, same_update, are_same}
 use Rattle.tpol_trace.specs.Matching.{IsListed, documents_before, MatchesOutside, MatchesBy, Matches, is_listed, matches_approval, matches_last, last_facts, matches_by, matches}
-use Rattle.tpol_trace.proofs.Tests.{and_Decides, Decides-by, update_Decides, same_Decides, listed_Decides}
+use Rattle.tpol_trace.proofs.Deciding.{and_Decides, Decides-by, update_Decides, same_Decides, listed_Decides}
 
 pub same_length : (a b : List Move) → AreSame a b → length a ≡ length b
 same_length [] [] h = refl

@@ -21,7 +21,7 @@ use Rattle.tpol_trace.specs.Same.{are_same}
 use Rattle.tpol_trace.specs.Tables.{Asks, AllAsk, IsApproval, move_of_element, goes_by, goes, AreInside, capped, earlier, kept, IsTable, IsEverywhere}
 use Rattle.tpol_trace.proofs.Firsts.{first_index-either, first_index-kept, first_index-map, capped-kept, capped-earlier}
 use Rattle.tpol_trace.proofs.Matched.{same_length}
-use Rattle.tpol_trace.proofs.Tests.{same_Decides}
+use Rattle.tpol_trace.proofs.Deciding.{same_Decides}
 
 -- a test that holds of some number below another
 abbrev any_to : (ℕ → Bool) → ℕ → Bool

@@ -33,7 +33,7 @@ use Rattle.tpol_trace.specs.declared.ways.Ways.{Ways}
 use Rattle.tpol_trace.specs.Matching.{documents_before, matches_last, last_facts}
 use Rattle.tpol_trace.specs.Tables.{IsApproval, move_of_element, goes_by, goes, AreInside, capped, IsTable}
 use Rattle.tpol_trace.proofs.Firsts.{first_index-kept, first_index-map}
-use Rattle.tpol_trace.proofs.Tests.{Decides-by}
+use Rattle.tpol_trace.proofs.Deciding.{Decides-by}
 
 -- ---- no way behind an element is outside
 
