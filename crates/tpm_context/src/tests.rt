@@ -16,13 +16,13 @@ fn a_session_has_one_copy(rt: HostRuntime) -> Result<(), Fail> {
     assert!(rt; saved.save(&mut sessions, handle, 3));
     assert!(rt; sessions.find(handle).is_none());
     assert_eq!(rt; saved.slots(), 1);
-    let facts = fresh_facts(alloc)?;
-    assert!(rt; sessions.start(0, Digest32::ZERO, facts, saved.slots()) == Ok(handle + 1));
     assert!(rt; !saved.load(&mut sessions, handle, 4));
     assert!(rt; saved.load(&mut sessions, handle, 3));
     assert!(rt; sessions.find(handle).is_some());
     assert!(rt; !saved.load(&mut sessions, handle, 3));
     assert!(rt; saved.save(&mut sessions, handle, 9));
+    let facts = fresh_facts(alloc)?;
+    assert!(rt; sessions.start(0, Digest32::ZERO, facts, saved.slots()) == Ok(handle + 1));
     assert!(rt; saved.flush(handle) && !saved.flush(handle));
     assert_eq!(rt; saved.slots(), 0);
     Ok(())
