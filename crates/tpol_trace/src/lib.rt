@@ -11,6 +11,8 @@ mod asked;
 mod broken;
 mod laws;
 mod open;
+#[cfg(test)]
+mod tests;
 mod walk;
 mod ways;
 
