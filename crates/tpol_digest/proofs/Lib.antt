@@ -3,7 +3,6 @@ pub mod Documents
 pub mod Erasures
 pub mod Extents
 pub mod Joined
-pub mod Listings
 pub mod Measures
 pub mod Meeting
 pub mod OutsideFirst

@@ -14,15 +14,14 @@ use crate::approval::{accepts, approval};
 use crate::assertion::extend;
 use crate::counting::{extent_of_element, extent_of_elements};
 use crate::limits::MAX_LEVELS;
-use crate::path_parts::{empty_path, zero};
 use crate::policy::{
-    approve_digest, approve_nv_digest, digest_after_elements, or_digest, push_branch_digests,
+    approve_digest, approve_nv_digest, digest_after_elements, or_digest, push_branch_digests, zero,
 };
 use std::alloc::Global;
 use tpol_base::{Blob, Digest32, Digests, NoMemory};
 use tpol_tree::{
-    Approvals, ApprovedDoc, Closed, ClosedBranches, ClosedElement, ClosedElements, Move, Path,
-    PathStep,
+    Approvals, ApprovedDoc, Closed, ClosedBranches, ClosedElement, ClosedElements, Move, Moves,
+    Path, PathStep, PathSteps,
 };
 
 // What each part of a path is found in: the approved documents, which may be entered `levels` deep.
@@ -69,6 +68,17 @@ pub fn path_at(
     let index = u64::from(position - 1);
     let _ = push_elements(&walk, &mut path, &policy.elements, zero(), index, count)?;
     Ok(path)
+}
+
+// The path with no choice and no move.
+fn empty_path(alloc: Global) -> Path
+    ensures { result ≡ spec.empty_path }
+{
+    Path {
+        steps: PathSteps::new(alloc),
+        moves: Moves::new(alloc),
+        outside: false,
+    }
 }
 
 // Adds the way through elements that has an index among their `count` ways, where `before` is the digest

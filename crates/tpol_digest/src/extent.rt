@@ -8,10 +8,10 @@ pub struct Extent {
     pub moves: u64,
 }
 
-/// The greatest number of paths that are listed.
+/// The greatest number of paths that are walked.
 pub const MAX_PATHS: u64 = 65_536;
 
-/// The greatest number of moves of a path that is listed.
+/// The greatest number of moves of a path that is walked.
 pub const MAX_MOVES: u64 = 512;
 
 impl Extent {

@@ -10,8 +10,7 @@ ghost use Rattle.tpol_digest.specs.Update.{joined, update_of};
 ghost use Rattle.tpol_digest.specs.UpdateBytes.{update_value};
 
 use crate::moves::digest_after_move;
-use crate::path_parts::zero;
-use crate::policy::{digest_after_element, push_branch_digests};
+use crate::policy::{digest_after_element, push_branch_digests, zero};
 use crate::update_bytes::{
     UpdateBytes, update_of_approve, update_of_approve_nv, update_of_assertion, update_of_move,
     update_of_or,

@@ -3,34 +3,28 @@
 //!
 //! The layers above cite the definitions of `specs/`: `Update`, what a move hashes, as data, from which the
 //! digest, the strings and a `Term`, what is hashed as a tree, follow; `policy_digest` and `digest_of_moves`;
-//! `paths_of`; `IsSound` and `IsWellFormed`. The theorem that all branches meet stands on `paths`.
+//! `paths_of`; `IsSound` and `IsWellFormed`. The theorem that all branches meet stands on `path_at`.
 #![tactic(auto)]
 
-mod all_paths;
 mod approval;
 mod assertion;
 mod at_position;
 mod command_code;
 mod counting;
 mod extent;
-mod fault;
 mod inputs;
 mod laws;
 mod limits;
-mod listing;
 mod moves;
-mod path_parts;
 mod policy;
 #[cfg(test)]
 mod tests;
 mod update;
 mod update_bytes;
 
-pub use all_paths::paths;
 pub use approval::accepts;
 pub use assertion::extend;
 pub use at_position::path_at;
-pub use fault::TreeFault;
 pub use inputs::{inputs_of, inputs_of_facts};
 pub use laws::{boxes_are_ignored, paths_have_bounds, paths_have_pcr_digests};
 pub use limits::{MAX_LEVELS, PathLimit, check_paths, count_paths};

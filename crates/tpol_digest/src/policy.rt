@@ -55,6 +55,13 @@ pub fn digest_of(policy: &Closed) -> Digest32
     digest_after_elements(&policy.elements, Digest32::ZERO)
 }
 
+// 32 zero bytes.
+pub fn zero() -> Digest32
+    ensures { result ≡ spec.zero_digest }
+{
+    Digest32::ZERO
+}
+
 // The digest after elements.
 #[cycle(policy)]
 pub fn digest_after_elements(elements: &ClosedElements, before: Digest32) -> Digest32

@@ -27,7 +27,7 @@ answer_after view (Some all) scene input policy notes sight result is_read is_se
 -- the scene was not read
 halts_of : (halt : Halt) (scene : Option (List ℕ)) (input : List ℕ) (all : List Document) (policy : Policy) (notes : List Place) → read_step input ≡ Ok (policy, notes) → Halts halt (sight_step scene all) → Halts halt (closed_step scene input all)
 unfolding closed_step
-halts_of (Refused outcome) scene input all policy notes is_read halts = rw (is_read, halts)
+halts_of (Refused answer) scene input all policy notes is_read halts = rw (is_read, halts)
 halts_of ShelfFailed scene input all policy notes is_read halts = tt
 halts_of NoMemory scene input all policy notes is_read halts = tt
 

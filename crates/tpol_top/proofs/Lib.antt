@@ -1,9 +1,0 @@
-pub mod ClosedSteps
-pub mod FilledErased
-pub mod LimitTests
-pub mod ListedSteps
-pub mod Losses
-pub mod NoCommand
-pub mod OwnPaths
-pub mod PathLines
-pub mod Prefixes

@@ -11,7 +11,7 @@ use Rattle.tpol_tree.specs.declared.closed.Closed.{Closed}
 -- a closed policy with the notes on its document
 abbrev pub with_notes : List Place → Step Closed → Step (Closed × List Place)
 with_notes notes (Ok closed) = Ok (closed, notes)
-with_notes notes (Err outcome) = Err outcome
+with_notes notes (Err answer) = Err answer
 
 -- the document in the source, filled with the scene of the shelf if one is named, and its notes
 unfoldable pub closed_step : Option (List ℕ) → List ℕ → List Document → Step (Closed × List Place)

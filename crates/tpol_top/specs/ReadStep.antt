@@ -5,19 +5,19 @@ use Rattle.tpol_json.specs.declared.place.Place.{Place}
 use Rattle.tpol_json.specs.Document.{document_of}
 use Rattle.tpol_read.specs.Documents.{policy_faults, policy_of}
 use Rattle.tpol_elements.specs.Faults.{Fault, Found}
-use Rattle.tpol_top.specs.declared.outcome.Outcome.{Outcome}
-use Rattle.tpol_top.specs.declared.outcome.Verdict.TheVariants.{BadPolicy}
-use Rattle.tpol_top.specs.Outcome.{one_line}
+use Rattle.tpol_top.specs.declared.answer.Answer.{Answer}
+use Rattle.tpol_top.specs.declared.answer.Verdict.TheVariants.{BadPolicy}
+use Rattle.tpol_top.specs.Answer.{one_line}
 use Rattle.tpol_top.specs.Refusals.{bad_policy, policy_kind_name}
 use Rattle.tpol_top.specs.Steps.{Step}
 use Rattle.tpol_tree.specs.declared.policy.Policy.{Policy}
 
--- the outcome of bytes that are no JSON text
-abbrev pub policy_not_json : Outcome
+-- the answer of bytes that are no JSON text
+abbrev pub policy_not_json : Answer
 policy_not_json = one_line (codes "error BadPolicy NotJson") BadPolicy
 
--- the outcome of a fault
-abbrev pub policy_refusal : Fault → Outcome
+-- the answer of a fault
+abbrev pub policy_refusal : Fault → Answer
 policy_refusal fault = bad_policy (policy_kind_name fault.0) fault.1
 
 -- what the document says, unless there is a fault: then the first one ends the run

@@ -8,18 +8,18 @@ use Rattle.tpol_elements.specs.declared.fault.PolicyKind.{PolicyKind}
 use Rattle.tpol_elements.specs.declared.fault.PolicyKind.TheVariants as policy
 use Rattle.tpol_scene.specs.declared.fault.SceneKind.{SceneKind}
 use Rattle.tpol_scene.specs.declared.fault.SceneKind.TheVariants as scene
-use Rattle.tpol_top.specs.declared.outcome.Outcome.{Outcome}
-use Rattle.tpol_top.specs.declared.outcome.Verdict.TheVariants.{BadPolicy, BadScene}
-use Rattle.tpol_top.specs.Outcome.{one_line}
+use Rattle.tpol_top.specs.declared.answer.Answer.{Answer}
+use Rattle.tpol_top.specs.declared.answer.Verdict.TheVariants.{BadPolicy, BadScene}
+use Rattle.tpol_top.specs.Answer.{one_line}
 
 -- what is wrong, and where
 abbrev pub at_place : List ℕ → List ℕ → Place → List ℕ
 at_place what kind place = codes "error " ++ what ++ codes " " ++ kind ++ codes " at " ++ text_of_place place
 
-abbrev pub bad_policy : List ℕ → Place → Outcome
+abbrev pub bad_policy : List ℕ → Place → Answer
 bad_policy kind place = one_line (at_place (codes "BadPolicy") kind place) BadPolicy
 
-abbrev pub bad_scene : List ℕ → Place → Outcome
+abbrev pub bad_scene : List ℕ → Place → Answer
 bad_scene kind place = one_line (at_place (codes "BadScene") kind place) BadScene
 
 abbrev pub fill_kind_name : FillKind → List ℕ

@@ -1,49 +1,49 @@
 -- What a run of the program prints and answers, and what it leaves on the shelf.
 use Rattle.std.specs.Prelude.{◌≡◌, ◌≤◌, ℕ, List, take, drop, length, codes, nat_le, Option, None, Some, IfSome, if◌then◌else◌}
 use Rattle.tpol_base.specs.declared.document.Document.{Document}
-use Rattle.tpol_top.specs.declared.outcome.Outcome.{Outcome}
-use Rattle.tpol_top.specs.declared.outcome.Verdict.TheVariants.{Usage, TooLarge}
-use Rattle.tpol_top.specs.declared.command.Command.{Command}
-use Rattle.tpol_top.specs.Commands.{command_step}
-use Rattle.tpol_top.specs.Outcome.{one_line}
-use Rattle.tpol_top.specs.Steps.{outcome_of}
-use Rattle.tpol_top.specs.Words.{command_of}
+use Rattle.tpol_top.specs.declared.answer.Answer.{Answer}
+use Rattle.tpol_top.specs.declared.answer.Verdict.TheVariants.{Usage, TooLarge}
+use Rattle.tpol_top.specs.declared.request.Request.{Request}
+use Rattle.tpol_top.specs.Commands.{request_step}
+use Rattle.tpol_top.specs.Answer.{one_line}
+use Rattle.tpol_top.specs.Steps.{answer_of}
+use Rattle.tpol_top.specs.Words.{request_of}
 
 -- the lines, how the run ends, and the shelf's documents afterwards
 pub record Report : Type 0 where
-  pub outcome : Outcome
+  pub answer : Answer
   pub documents : List Document
 
 -- a report that leaves the shelf as it was
-abbrev pub leaves : Outcome → List Document → Report
-leaves outcome all = record { outcome = outcome; documents = all }
+abbrev pub leaves : Answer → List Document → Report
+leaves answer all = record { answer = answer; documents = all }
 
 -- the number of bytes that are read of a source at most: one more than a document may have
 unfoldable pub most_read : ℕ
 most_read = 16777217
 
 -- the report of a command on a source that is not too large
-abbrev pub report_of_command : Command → List ℕ → List Document → Report
-report_of_command command input all = leaves (outcome_of (command_step command input all)) all
+abbrev pub report_of_request : Request → List ℕ → List Document → Report
+report_of_request command input all = leaves (answer_of (request_step command input all)) all
 
 -- the report of a command on what was read of the source
-abbrev pub report_of_input : Command → List ℕ → List Document → Report
+abbrev pub report_of_input : Request → List ℕ → List Document → Report
 report_of_input command input all =
     if nat_le most_read (length input) then leaves (one_line (codes "error TooLarge") TooLarge) all
-    else report_of_command command input all
+    else report_of_request command input all
 
 -- the report of what the words are
-abbrev pub report_of_choice : Option Command → List ℕ → List Document → Report
+abbrev pub report_of_choice : Option Request → List ℕ → List Document → Report
 report_of_choice None input all = leaves (one_line (codes "error Usage") Usage) all
 report_of_choice (Some command) input all = report_of_input command input all
 
 -- The report of a run: of its words, of the source's bytes up to byte 16,777,217, and of the shelf's
 -- documents.
 abbrev pub report_of : List (List ℕ) → List ℕ → List Document → Report
-report_of words input all = report_of_choice (command_of words) input all
+report_of words input all = report_of_choice (request_of words) input all
 
 -- where source and shelf tell what they hold, the report of this choice has P
-abbrev pub OfChoice : Option Command → Option (List ℕ) → Option (List Document) → (Report → Type 0) → Type 0
+abbrev pub OfChoice : Option Request → Option (List ℕ) → Option (List Document) → (Report → Type 0) → Type 0
 OfChoice choice left documents P =
     IfSome left (λ held. IfSome documents (λ all. P (report_of_choice choice (take most_read held) all)))
 

@@ -11,18 +11,18 @@ use Rattle.tpol_scene.specs.declared.entities.EntityPolicy.{EntityPolicy}
 use Rattle.tpol_scene.specs.declared.scene.Scene.{Scene}
 use Rattle.tpol_scene.specs.Faults.{Fault, Found}
 use Rattle.tpol_scene.specs.Scenes.{scene_faults, scene_in}
-use Rattle.tpol_top.specs.declared.outcome.Outcome.{Outcome}
-use Rattle.tpol_top.specs.declared.outcome.Verdict.TheVariants.{BadScene, TooLarge}
-use Rattle.tpol_top.specs.Outcome.{one_line}
+use Rattle.tpol_top.specs.declared.answer.Answer.{Answer}
+use Rattle.tpol_top.specs.declared.answer.Verdict.TheVariants.{BadScene, TooLarge}
+use Rattle.tpol_top.specs.Answer.{one_line}
 use Rattle.tpol_top.specs.Refusals.{bad_scene, scene_kind_name}
 use Rattle.tpol_top.specs.Steps.{Step, ◌>>=◌}
 
--- the outcome of bytes that are no JSON text
-abbrev pub scene_not_json : Outcome
+-- the answer of bytes that are no JSON text
+abbrev pub scene_not_json : Answer
 scene_not_json = one_line (codes "error BadScene NotJson") BadScene
 
--- the outcome of a fault
-abbrev pub scene_refusal : Fault → Outcome
+-- the answer of a fault
+abbrev pub scene_refusal : Fault → Answer
 scene_refusal fault = bad_scene (scene_kind_name fault.0) fault.1
 
 -- what the scene says, unless there is a fault: then the first one ends the run
@@ -48,7 +48,7 @@ without_policies (policy ∷ rest) sight = Err (bad_scene (codes "NoSuchPolicy")
 abbrev pub opening_of : Scene → Step Sight
 opening_of scene = without_policies scene.policies (first_sight scene.setup)
 
-abbrev pub too_large_in : List ℕ → Outcome
+abbrev pub too_large_in : List ℕ → Answer
 too_large_in name = one_line (codes "error TooLarge in " ++ name) TooLarge
 
 -- the sight of the scene of this name, where the shelf hands out this
@@ -64,7 +64,7 @@ scene_file name = name ++ codes ".scene"
 
 abbrev pub known_sight : Step Sight → Step (Option Sight)
 known_sight (Ok sight) = Ok (Some sight)
-known_sight (Err outcome) = Err outcome
+known_sight (Err answer) = Err answer
 
 -- the sight of a scene of the shelf, if one is named
 unfoldable pub sight_step : Option (List ℕ) → List Document → Step (Option Sight)

@@ -37,13 +37,13 @@ IsPastReading ReadFault = ⊥
 IsPastReading NoMemory = ⊥
 IsPastReading _ = ⊤
 
--- the status of a run that stopped before it had an outcome
+-- the status of a run that stopped before it had an answer
 abbrev pub status_of_stop : Stop → Status
 status_of_stop S.ReadFault = ReadFault
 status_of_stop S.ShelfFault = ShelfFault
 status_of_stop S.NoMemory = NoMemory
 
--- the same of a run's outcome, or of why it has none
+-- the same of a run's answer, or of why it has none
 abbrev pub IsPastReadingResult : {T : Type 0} → Result T Stop → Type 0
-IsPastReadingResult (Ok outcome) = ⊤
+IsPastReadingResult (Ok answer) = ⊤
 IsPastReadingResult (Err stop) = IsPastReading (status_of_stop stop)

@@ -1,25 +1,25 @@
--- A command goes from step to step: each gives a value, or ends the run with an outcome.
+-- A command goes from step to step: each gives a value, or ends the run with an answer.
 use Rattle.std.specs.Prelude.{◌≡◌, ⊤, Result, Ok, Err}
 use Rattle.tpol_top.specs.declared.halt.Halt.{Halt}
 use Rattle.tpol_top.specs.declared.halt.Halt.TheVariants.{Refused, ShelfFailed, NoMemory}
-use Rattle.tpol_top.specs.declared.outcome.Outcome.{Outcome}
+use Rattle.tpol_top.specs.declared.answer.Answer.{Answer}
 
 abbrev pub Step : Type 0 → Type 0
-Step A = Result A Outcome
+Step A = Result A Answer
 
 infixl 10 ◌>>=◌
 abbrev pub ◌>>=◌ : {A B : Type 0} → Step A → (A → Step B) → Step B
 Ok x >>= next = next x
-Err outcome >>= next = Err outcome
+Err answer >>= next = Err answer
 
--- the outcome of the last step, or of the one that ended the run
-abbrev pub outcome_of : Step Outcome → Outcome
-outcome_of (Ok outcome) = outcome
-outcome_of (Err outcome) = outcome
+-- the answer of the last step, or of the one that ended the run
+abbrev pub answer_of : Step Answer → Answer
+answer_of (Ok answer) = answer
+answer_of (Err answer) = answer
 
--- a call that did not give a value tells the step's outcome, unless the shelf failed or memory ran out
+-- a call that did not give a value tells the step's answer, unless the shelf failed or memory ran out
 abbrev pub Halts : {A : Type 0} → Halt → Step A → Type 0
-Halts (Refused outcome) step = step ≡ Err outcome
+Halts (Refused answer) step = step ≡ Err answer
 Halts ShelfFailed step = ⊤
 Halts NoMemory step = ⊤
 

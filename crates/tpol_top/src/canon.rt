@@ -1,22 +1,23 @@
 ghost use Rattle.std.specs.Prelude.{◌≡◌, IfOk, IsErrOf};
 ghost use Rattle.tpol_top.specs.Canon.{canon_step};
-ghost use Rattle.tpol_top.specs.Outcome.{one_line};
+ghost use Rattle.tpol_top.specs.Answer.{one_line};
 ghost use Rattle.tpol_top.specs.Steps.{Answers};
 ghost use Rattle.tpol_tree.specs.Erased.{erased_policy};
 ghost use Rattle.tpol_write.specs.Canonical.{canonical_text};
 
+use crate::answer::{Answer, Verdict};
 use crate::halt::Halt;
-use crate::outcome::{Lines, Outcome, Verdict, push_bytes};
 use crate::read_step::read_document;
 use std::alloc::Global;
 use tpol_base::NoMemory;
+use tpol_lines::{Lines, push_bytes};
 use tpol_tree::Policy;
 use tpol_write::write_policy;
 
 /// The command `canon`: the canonical text of the document.
 #[tactic(auto, unfolding(crate::specs::Canon::canon_step))]
-pub fn canon(alloc: Global, input: &[u8]) -> Result<Outcome, Halt>
-    ensures answer { Answers (λ outcome. outcome) (canon_step input.now) result }
+pub fn canon(alloc: Global, input: &[u8]) -> Result<Answer, Halt>
+    ensures answer { Answers (λ answer. answer) (canon_step input.now) result }
     ensures shelf { IsErrOf result Halt.ShelfFailed → ⊥ }
 {
     match read_document(alloc, input) {
@@ -26,11 +27,11 @@ pub fn canon(alloc: Global, input: &[u8]) -> Result<Outcome, Halt>
 }
 
 #[tactic(auto, using(tpol_write::proofs::CanonErased::canonical_text_erased))]
-fn canonical(alloc: Global, policy: &Policy) -> Result<Outcome, NoMemory>
-    ensures { IfOk result (λ outcome. outcome ≡ one_line (canonical_text (erased_policy policy.now)) Verdict.Done) }
+fn canonical(alloc: Global, policy: &Policy) -> Result<Answer, NoMemory>
+    ensures { IfOk result (λ answer. answer ≡ one_line (canonical_text (erased_policy policy.now)) Verdict.Done) }
 {
     let mut lines = Lines::new(alloc);
     push_bytes(&mut lines, write_policy(alloc, policy)?)?;
     let verdict = Verdict::Done;
-    Ok(Outcome { lines, verdict })
+    Ok(Answer { lines, verdict })
 }

@@ -2,26 +2,27 @@ ghost use Rattle.std.specs.Prelude.{◌≡◌, ◌++◌, IfOk, OnOk, map};
 ghost use Rattle.tpol_tree.specs.ClosedErased.{erased};
 ghost use Rattle.tpol_top.specs.Compile.{compiled};
 ghost use Rattle.tpol_top.specs.Lines.{note_line};
-ghost use Rattle.tpol_top.specs.Outcome.{line_of};
+ghost use Rattle.tpol_lines.specs.Lines.{line_of};
 
+use crate::answer::{Answer, Verdict};
 use crate::lines::{digest_line, note_line};
-use crate::outcome::{Lines, Outcome, Verdict, push_line};
 use std::alloc::Global;
 use tpol_base::NoMemory;
 use tpol_digest::digest_of;
 use tpol_json::Place;
+use tpol_lines::{Lines, push_line};
 use tpol_tree::Closed;
 
 /// What `compile` prints: a line for each note, and the digest.
 #[tactic(auto, using(crate::proofs::FilledErased::policy_digest_erased), unfolding(crate::specs::Compile::compiled))]
-pub fn compiled(alloc: Global, notes: &[Place], closed: &Closed) -> Result<Outcome, NoMemory>
-    ensures { IfOk result (λ outcome. outcome ≡ compiled notes.now (erased closed.now)) }
+pub fn compiled(alloc: Global, notes: &[Place], closed: &Closed) -> Result<Answer, NoMemory>
+    ensures { IfOk result (λ answer. answer ≡ compiled notes.now (erased closed.now)) }
 {
     let mut lines = Lines::new(alloc);
     push_notes(alloc, &mut lines, notes)?;
     let digest = digest_line(alloc, &digest_of(closed))?;
     push_line(alloc, &mut lines, digest.as_str())?;
-    Ok(Outcome {
+    Ok(Answer {
         lines,
         verdict: Verdict::Done,
     })

@@ -1,11 +1,11 @@
-use crate::outcome::Outcome;
+use crate::answer::Answer;
 use tpol_base::{Lapse, NoMemory};
 
 /// Why a step of a command gives no value.
 #[derive(Drop)]
 pub enum Halt {
-    /// The run ends with this outcome.
-    Refused(Outcome),
+    /// The run ends with this answer.
+    Refused(Answer),
     /// The shelf failed.
     ShelfFailed,
     /// Memory ran out.

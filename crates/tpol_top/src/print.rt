@@ -1,6 +1,6 @@
 ghost use Rattle.std.specs.Prelude.{◌≡◌, MatchResult, OnOk};
 ghost use Rattle.tpol_base.specs.Causes.{HasCause, Grows, GrowsInPart};
-ghost use Rattle.tpol_top.specs.Outcome.{text_of};
+ghost use Rattle.tpol_top.specs.Answer.{text_of};
 
 use tpol_base::{Blob, Failed, Sink};
 

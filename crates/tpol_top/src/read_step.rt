@@ -4,8 +4,8 @@ ghost use Rattle.std.specs.Prelude.{IfOk, IsErrOf};
 ghost use Rattle.tpol_tree.specs.Elements as written;
 ghost use Rattle.tpol_tree.specs.Erased.{erased_policy};
 
+use crate::answer::{Answer, Verdict};
 use crate::halt::Halt;
-use crate::outcome::{Outcome, Verdict};
 use crate::refusals::{bad_policy, policy_kind_name};
 use std::alloc::Global;
 use tpol_read::{Notes, PolicyFault, read_policy};
@@ -22,7 +22,7 @@ pub fn read_document(alloc: Global, input: &[u8]) -> Result<(Policy, Notes), Hal
         Ok(found) => Ok(found),
         Err(PolicyFault::NotJson) => {
             let line = "error BadPolicy NotJson";
-            Err(Halt::Refused(Outcome::of_line(alloc, line, Verdict::BadPolicy)?))
+            Err(Halt::Refused(Answer::of_line(alloc, line, Verdict::BadPolicy)?))
         }
         Err(PolicyFault::Bad { kind, place }) => {
             Err(Halt::Refused(bad_policy(alloc, policy_kind_name(kind), &place)?))

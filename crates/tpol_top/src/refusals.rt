@@ -1,7 +1,7 @@
 ghost use Rattle.std.specs.Prelude.{◌≡◌, IfOk};
 ghost use Rattle.tpol_top.specs.Refusals.{at_place, bad_policy, bad_scene, fill_kind_name, policy_kind_name, scene_kind_name};
 
-use crate::outcome::{Outcome, Verdict};
+use crate::answer::{Answer, Verdict};
 use std::alloc::Global;
 use tpol_base::{NoMemory, Text};
 use tpol_fill::FillKind;
@@ -9,20 +9,20 @@ use tpol_json::{Place, place_text};
 use tpol_read::PolicyKind;
 use tpol_scene::SceneKind;
 
-/// The outcome of a policy document that is refused.
-pub fn bad_policy(alloc: Global, kind: &str, place: &Place) -> Result<Outcome, NoMemory>
-    ensures { IfOk result (λ outcome. outcome ≡ bad_policy kind.now place.now) }
+/// The answer of a policy document that is refused.
+pub fn bad_policy(alloc: Global, kind: &str, place: &Place) -> Result<Answer, NoMemory>
+    ensures { IfOk result (λ answer. answer ≡ bad_policy kind.now place.now) }
 {
     let line = at_place(alloc, "BadPolicy", kind, place)?;
-    Outcome::of_line(alloc, line.as_str(), Verdict::BadPolicy)
+    Answer::of_line(alloc, line.as_str(), Verdict::BadPolicy)
 }
 
-/// The outcome of a scene that is refused.
-pub fn bad_scene(alloc: Global, kind: &str, place: &Place) -> Result<Outcome, NoMemory>
-    ensures { IfOk result (λ outcome. outcome ≡ bad_scene kind.now place.now) }
+/// The answer of a scene that is refused.
+pub fn bad_scene(alloc: Global, kind: &str, place: &Place) -> Result<Answer, NoMemory>
+    ensures { IfOk result (λ answer. answer ≡ bad_scene kind.now place.now) }
 {
     let line = at_place(alloc, "BadScene", kind, place)?;
-    Outcome::of_line(alloc, line.as_str(), Verdict::BadScene)
+    Answer::of_line(alloc, line.as_str(), Verdict::BadScene)
 }
 
 // What is wrong, and where.

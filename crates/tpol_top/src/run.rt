@@ -3,20 +3,20 @@ ghost use Rattle.std.specs.String.{string_bytes};
 ghost use Rattle.tpol_base.specs.Causes.{Rose, HasLapse, IsQuiet};
 ghost use Rattle.tpol_top.specs.ReadStep.{read_step};
 ghost use Rattle.tpol_top.specs.Reached.{IsPolicyDocument};
-ghost use Rattle.tpol_top.specs.Report.{LosesAtMost, OfChoice, OfReport, most_read, report_of_command, report_of_input};
-ghost use Rattle.tpol_top.specs.Words.{command_of, reads_source, uses_shelf, uses_shelf_for};
+ghost use Rattle.tpol_top.specs.Report.{LosesAtMost, OfChoice, OfReport, most_read, report_of_request, report_of_input};
+ghost use Rattle.tpol_top.specs.Words.{request_of, reads_source, uses_shelf, uses_shelf_for};
 ghost use Rattle.tpol_top.specs.Status.{status_of_stop, IsPastReadingResult};
 
 use crate::Status;
-use crate::command::Command;
-use crate::commands::answer_of_command;
+use crate::answer::{Answer, Verdict};
+use crate::commands::carry_out;
 use crate::halt::Halt;
 use crate::input::read_input;
-use crate::outcome::{Outcome, Verdict};
+use crate::request::Request;
 use std::alloc::Global;
 use tpol_base::{Lapse, NoMemory, Shelf, Source};
 
-/// Why a run has no outcome.
+/// Why a run has no answer.
 #[derive(Clone, Copy, Debug, PartialEq, Eq)]
 pub enum Stop {
     ReadFault,
@@ -47,16 +47,16 @@ impl From<NoMemory> for Stop {
     }
 }
 
-/// The outcome of the words: of no command, or of the command that they are.
-pub fn outcome_of_words<S: Source, H: Shelf>(
+/// The answer of the words: of no command, or of the command that they are.
+pub fn answer_of_words<S: Source, H: Shelf>(
     alloc: Global,
     words: &Vec<String>,
     source: &mut S,
     shelf: &mut H,
-) -> Result<Outcome, Stop>
-    ensures report { IfOk result (λ outcome.
+) -> Result<Answer, Stop>
+    ensures report { IfOk result (λ answer.
         OfReport (map string_bytes words.now.items) (S.left source.old) (H.documents shelf.old) (λ report.
-        (outcome ≡ report.outcome) × (H.documents shelf.new ≡ Some report.documents))) }
+        (answer ≡ report.answer) × (H.documents shelf.new ≡ Some report.documents))) }
     ensures keeps { OnErr result (H.documents shelf.new ≡ H.documents shelf.old) }
     ensures read_whole { IsTrue (reads_source (map string_bytes words.now.items))
         → IsPastReadingResult result
@@ -77,32 +77,32 @@ pub fn outcome_of_words<S: Source, H: Shelf>(
     ensures source_count { S.faults source.old ≤ S.faults source.new }
     ensures shelf_count { H.faults shelf.old ≤ H.faults shelf.new }
 {
-    match Command::from_words(alloc, words)? {
-        Some(command) => outcome_of_source(alloc, &command, source, shelf),
-        None => Ok(Outcome::of_line(alloc, "error Usage", Verdict::Usage)?),
+    match Request::from_words(alloc, words)? {
+        Some(request) => answer_of_source(alloc, &request, source, shelf),
+        None => Ok(Answer::of_line(alloc, "error Usage", Verdict::Usage)?),
     }
 }
 
-// The outcome of a command that reads the source.
-fn outcome_of_source<S: Source, H: Shelf>(
+// The answer of a command that reads the source.
+fn answer_of_source<S: Source, H: Shelf>(
     alloc: Global,
-    command: &Command,
+    request: &Request,
     source: &mut S,
     shelf: &mut H,
-) -> Result<Outcome, Stop>
-    ensures report { IfOk result (λ outcome.
-        OfChoice (Some command.now) (S.left source.old) (H.documents shelf.old) (λ report.
-        (outcome ≡ report.outcome) × (H.documents shelf.new ≡ Some report.documents))) }
+) -> Result<Answer, Stop>
+    ensures report { IfOk result (λ answer.
+        OfChoice (Some request.now) (S.left source.old) (H.documents shelf.old) (λ report.
+        (answer ≡ report.answer) × (H.documents shelf.new ≡ Some report.documents))) }
     ensures keeps { OnErr result (H.documents shelf.new ≡ H.documents shelf.old) }
     ensures read_whole { IsPastReadingResult result
         → IfSome (S.left source.old) (λ held. S.left source.new ≡ Some (drop most_read held)) }
     ensures read_at_most { LosesAtMost most_read (S.left source.old) (S.left source.new) }
-    ensures untouched { uses_shelf_for command.now ≡ false → shelf.new ≡ shelf.old }
+    ensures untouched { uses_shelf_for request.now ≡ false → shelf.new ≡ shelf.old }
     ensures asked { IfSome (S.left source.old) (λ held.
         (shelf.new ≡ shelf.old) ⊎ IsPolicyDocument (take most_read held)) }
     ensures read_fault { IsErrOf result Stop.ReadFault → Rose (S.faults source.old) (S.faults source.new) }
     ensures shelf_fault { IsErrOf result Stop.ShelfFault → Rose (H.faults shelf.old) (H.faults shelf.new) }
-    ensures shelf_fault_of { IsErrOf result Stop.ShelfFault → IsTrue (uses_shelf_for command.now) }
+    ensures shelf_fault_of { IsErrOf result Stop.ShelfFault → IsTrue (uses_shelf_for request.now) }
     ensures read_told { IsErrOf result Stop.ReadFault ⊎ (S.faults source.new ≡ S.faults source.old) }
     ensures shelf_told { IsErrOf result Stop.ShelfFault ⊎ (H.faults shelf.new ≡ H.faults shelf.old) }
     ensures source_count { S.faults source.old ≤ S.faults source.new }
@@ -113,8 +113,8 @@ fn outcome_of_source<S: Source, H: Shelf>(
         Err(Lapse::Failed) => return Err(Stop::ReadFault),
         Err(Lapse::NoMemory) => return Err(Stop::NoMemory),
     };
-    match outcome_of_input(alloc, command, input.as_slice(), shelf) {
-        Ok(outcome) => Ok(outcome),
+    match answer_of_input(alloc, request, input.as_slice(), shelf) {
+        Ok(answer) => Ok(answer),
         Err(Lapse::Failed) => Err(Stop::ShelfFault),
         Err(Lapse::NoMemory) => Err(Stop::NoMemory),
     }
@@ -127,49 +127,49 @@ fn most_read() -> usize
     16_777_217
 }
 
-// The outcome of a command on what was read.
-fn outcome_of_input<H: Shelf>(
+// The answer of a command on what was read.
+fn answer_of_input<H: Shelf>(
     alloc: Global,
-    command: &Command,
+    request: &Request,
     input: &[u8],
     shelf: &mut H,
-) -> Result<Outcome, Lapse>
-    ensures report { IfOk result (λ outcome. IfSome (H.documents shelf.old) (λ all.
-        let report = report_of_input command.now input.now all in
-        (outcome ≡ report.outcome) × (H.documents shelf.new ≡ Some report.documents))) }
+) -> Result<Answer, Lapse>
+    ensures report { IfOk result (λ answer. IfSome (H.documents shelf.old) (λ all.
+        let report = report_of_input request.now input.now all in
+        (answer ≡ report.answer) × (H.documents shelf.new ≡ Some report.documents))) }
     ensures keeps { OnErr result (H.documents shelf.new ≡ H.documents shelf.old) }
-    ensures untouched { uses_shelf_for command.now ≡ false → shelf.new ≡ shelf.old }
+    ensures untouched { uses_shelf_for request.now ≡ false → shelf.new ≡ shelf.old }
     ensures asked { (shelf.new ≡ shelf.old) ⊎ IsPolicyDocument input.now }
     ensures cause { HasLapse (H.faults shelf.old) (H.faults shelf.new) result }
     ensures quiet { IsQuiet (H.faults shelf.old) (H.faults shelf.new) result }
-    ensures shelf_fault_of { IsErrOf result Lapse.Failed → IsTrue (uses_shelf_for command.now) }
+    ensures shelf_fault_of { IsErrOf result Lapse.Failed → IsTrue (uses_shelf_for request.now) }
 {
     if input.len() >= most_read() {
-        return Ok(Outcome::of_line(alloc, "error TooLarge", Verdict::TooLarge)?);
+        return Ok(Answer::of_line(alloc, "error TooLarge", Verdict::TooLarge)?);
     }
-    outcome_of_command(alloc, command, input, shelf)
+    answer_of_request(alloc, request, input, shelf)
 }
 
-// The outcome of a command on a document that is not too large.
-fn outcome_of_command<H: Shelf>(
+// The answer of a command on a document that is not too large.
+fn answer_of_request<H: Shelf>(
     alloc: Global,
-    command: &Command,
+    request: &Request,
     input: &[u8],
     shelf: &mut H,
-) -> Result<Outcome, Lapse>
-    ensures report { IfOk result (λ outcome. IfSome (H.documents shelf.old) (λ all.
-        let report = report_of_command command.now input.now all in
-        (outcome ≡ report.outcome) × (H.documents shelf.new ≡ Some report.documents))) }
+) -> Result<Answer, Lapse>
+    ensures report { IfOk result (λ answer. IfSome (H.documents shelf.old) (λ all.
+        let report = report_of_request request.now input.now all in
+        (answer ≡ report.answer) × (H.documents shelf.new ≡ Some report.documents))) }
     ensures keeps { OnErr result (H.documents shelf.new ≡ H.documents shelf.old) }
-    ensures untouched { uses_shelf_for command.now ≡ false → shelf.new ≡ shelf.old }
+    ensures untouched { uses_shelf_for request.now ≡ false → shelf.new ≡ shelf.old }
     ensures asked { (shelf.new ≡ shelf.old) ⊎ IsOk (read_step input.now) }
     ensures cause { HasLapse (H.faults shelf.old) (H.faults shelf.new) result }
     ensures quiet { IsQuiet (H.faults shelf.old) (H.faults shelf.new) result }
-    ensures shelf_fault_of { IsErrOf result Lapse.Failed → IsTrue (uses_shelf_for command.now) }
+    ensures shelf_fault_of { IsErrOf result Lapse.Failed → IsTrue (uses_shelf_for request.now) }
 {
-    match answer_of_command(alloc, command, input, shelf) {
-        Ok(outcome) => Ok(outcome),
-        Err(Halt::Refused(outcome)) => Ok(outcome),
+    match carry_out(alloc, request, input, shelf) {
+        Ok(answer) => Ok(answer),
+        Err(Halt::Refused(answer)) => Ok(answer),
         Err(Halt::ShelfFailed) => Err(Lapse::Failed),
         Err(Halt::NoMemory) => Err(Lapse::NoMemory),
     }

@@ -4,8 +4,8 @@ ghost use Rattle.tpol_base.specs.Documents.{most_handed_out};
 ghost use Rattle.tpol_top.specs.SceneStep.{opening_of, scene_file, scene_of_bytes, sight_of_found, sight_step, too_large_in};
 ghost use Rattle.tpol_top.specs.Steps.{Answers};
 
+use crate::answer::{Answer, Verdict};
 use crate::halt::Halt;
-use crate::outcome::{Outcome, Verdict};
 use crate::refusals::{bad_scene, scene_kind_name};
 use std::alloc::Global;
 use tpol_base::{Blob, Lapse, NoMemory, Shelf, Text, most_handed_out};
@@ -68,7 +68,7 @@ fn sight_of_found(alloc: Global, name: &Text, found: Option<Blob>) -> Result<Sig
 {
     let Some(bytes) = found else {
         let line = "error BadScene NoSuchScene";
-        return Err(Halt::Refused(Outcome::of_line(alloc, line, Verdict::BadScene)?));
+        return Err(Halt::Refused(Answer::of_line(alloc, line, Verdict::BadScene)?));
     };
     if bytes.len() >= most_handed_out() {
         return Err(Halt::Refused(too_large_in(alloc, name)?));
@@ -77,12 +77,12 @@ fn sight_of_found(alloc: Global, name: &Text, found: Option<Blob>) -> Result<Sig
     opening_of(alloc, &scene)
 }
 
-fn too_large_in(alloc: Global, name: &Text) -> Result<Outcome, NoMemory>
-    ensures { IfOk result (λ outcome. outcome ≡ too_large_in name.now) }
+fn too_large_in(alloc: Global, name: &Text) -> Result<Answer, NoMemory>
+    ensures { IfOk result (λ answer. answer ≡ too_large_in name.now) }
 {
     let mut line = Text::from_str(alloc, "error TooLarge in ")?;
     line.push_str(name.as_str())?;
-    Outcome::of_line(alloc, line.as_str(), Verdict::TooLarge)
+    Answer::of_line(alloc, line.as_str(), Verdict::TooLarge)
 }
 
 #[tactic(auto, unfolding(crate::specs::SceneStep::scene_of_bytes))]
@@ -94,7 +94,7 @@ fn scene_of_bytes(alloc: Global, bytes: &[u8]) -> Result<Scene, Halt>
         Ok(scene) => Ok(scene),
         Err(SceneFault::NotJson) => {
             let line = "error BadScene NotJson";
-            Err(Halt::Refused(Outcome::of_line(alloc, line, Verdict::BadScene)?))
+            Err(Halt::Refused(Answer::of_line(alloc, line, Verdict::BadScene)?))
         }
         Err(SceneFault::Bad { kind, place }) => {
             Err(Halt::Refused(bad_scene(alloc, scene_kind_name(kind), &place)?))

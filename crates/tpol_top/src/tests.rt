@@ -187,6 +187,22 @@ fn canonical_texts_are_printed(rt: HostRuntime) -> Result<(), Fail> {
     Ok(())
 }
 
+// Nine branches stand in two groups, of which the second is the ninth branch.
+const NINE_BRANCHES: &str =
+    r#"{"policy":[{"type":"POLICYOR","branches":[{"name":"b1","policy":[{"type":"POLICYAUTHVALUE"}]},{"name":"b2","policy":[{"type":"POLICYAUTHVALUE"}]},{"name":"b3","policy":[{"type":"POLICYAUTHVALUE"}]},{"name":"b4","policy":[{"type":"POLICYAUTHVALUE"}]},{"name":"b5","policy":[{"type":"POLICYAUTHVALUE"}]},{"name":"b6","policy":[{"type":"POLICYAUTHVALUE"}]},{"name":"b7","policy":[{"type":"POLICYAUTHVALUE"}]},{"name":"b8","policy":[{"type":"POLICYAUTHVALUE"}]},{"name":"b9","policy":[{"type":"POLICYAUTHVALUE"}]}]}]}"#;
+
+#[test]
+fn paths_of_more_than_eight_branches(rt: HostRuntime) -> Result<(), Fail> {
+    let alloc = rt.alloc();
+    let mut shelf = MemoryShelf::new(alloc);
+    let (_, text) = run(alloc, &["paths"], NINE_BRANCHES, &mut shelf)?;
+    let start =
+        "path 1 \"#1\"/\"b1\" AuthValue,Or,Or\npath 2 \"#1\"/\"b2\" AuthValue,Or,Or\n";
+    assert!(rt; text.as_str().starts_with(start));
+    assert!(rt; text.as_str().contains("\npath 9 \"b9\" AuthValue,Or\ndigest "));
+    Ok(())
+}
+
 #[test]
 fn paths_are_listed_in_document_order(rt: HostRuntime) -> Result<(), Fail> {
     let alloc = rt.alloc();
@@ -203,7 +219,7 @@ fn paths_are_listed_in_document_order(rt: HostRuntime) -> Result<(), Fail> {
         "path 1 \"a\" CommandCode,AuthValue,Or\npath 2 \"b\" CommandCode,Locality,Or\ndigest ";
     assert!(rt; text.as_str().starts_with(start));
 
-    let many = ors(alloc, 13)?;
+    let many = ors(alloc, 17)?;
     let (status, text) = run(alloc, &["paths"], many.as_str(), &mut shelf)?;
     assert_eq!(rt; status, Status::PathLimit);
     assert_eq!(rt; text.as_str(), "error PathLimit TooManyPaths\n");

@@ -1,7 +1,7 @@
 ghost use Rattle.std.specs.Prelude.{◌≡◌, ◌≤◌, ◌⊎◌, Some, false, IsTrue, IfSome, map, take, drop};
 ghost use Rattle.std.specs.String.{string_bytes};
 ghost use Rattle.tpol_base.specs.Causes.{Rose, Grows, GrowsInPart};
-ghost use Rattle.tpol_top.specs.Outcome.{status_of, text_of};
+ghost use Rattle.tpol_top.specs.Answer.{status_of, text_of};
 ghost use Rattle.tpol_top.specs.Reached.{IsPolicyDocument};
 ghost use Rattle.tpol_top.specs.Report.{LosesAtMost, OfReport, most_read};
 ghost use Rattle.tpol_top.specs.Status.{IsWhole, IsSilent, IsPastReading};
@@ -9,7 +9,7 @@ ghost use Rattle.tpol_top.specs.Words.{reads_source, uses_shelf};
 
 use crate::Status;
 use crate::print::print_lines;
-use crate::run::outcome_of_words;
+use crate::run::answer_of_words;
 use std::alloc::Global;
 use tpol_base::{Failed, Shelf, Sink, Source};
 
@@ -30,20 +30,20 @@ pub fn policy_main<S: Source, K: Sink, H: Shelf>(
     // byte 16,777,217) and the shelf's documents.
     ensures report { IsWhole result
         → OfReport (map string_bytes words.now.items) (S.left source.old) (H.documents shelf.old) (λ report.
-        (result ≡ status_of report.outcome.verdict)
-        × Grows (K.contents out.old) (K.contents out.new) (text_of report.outcome.lines)
+        (result ≡ status_of report.answer.verdict)
+        × Grows (K.contents out.old) (K.contents out.new) (text_of report.answer.lines)
         × (H.documents shelf.new ≡ Some report.documents)) }
 
     // Where the sink failed, a first part of the report was written.
     ensures prefix { result ≡ Status.WriteFault
         → OfReport (map string_bytes words.now.items) (S.left source.old) (H.documents shelf.old) (λ report.
-        GrowsInPart (K.contents out.old) (K.contents out.new) (text_of report.outcome.lines)
+        GrowsInPart (K.contents out.old) (K.contents out.new) (text_of report.answer.lines)
         × (H.documents shelf.new ≡ Some report.documents)) }
 
     // Where memory ran out too.
     ensures memory { result ≡ Status.NoMemory
         → OfReport (map string_bytes words.now.items) (S.left source.old) (H.documents shelf.old) (λ report.
-        GrowsInPart (K.contents out.old) (K.contents out.new) (text_of report.outcome.lines)
+        GrowsInPart (K.contents out.old) (K.contents out.new) (text_of report.answer.lines)
         × ((H.documents shelf.new ≡ H.documents shelf.old) ⊎ (H.documents shelf.new ≡ Some report.documents))) }
 
     // Where the source or the shelf failed, the sink was not called, and the shelf is as before.
@@ -79,9 +79,9 @@ pub fn policy_main<S: Source, K: Sink, H: Shelf>(
     ensures sink_count { K.faults out.old ≤ K.faults out.new }
     ensures shelf_count { H.faults shelf.old ≤ H.faults shelf.new }
 {
-    match outcome_of_words(alloc, words, source, shelf) {
-        Ok(outcome) => match print_lines(out, outcome.lines.as_slice()) {
-            Ok(()) => outcome.verdict.status(),
+    match answer_of_words(alloc, words, source, shelf) {
+        Ok(answer) => match print_lines(out, answer.lines.as_slice()) {
+            Ok(()) => answer.verdict.status(),
             Err(Failed) => Status::WriteFault,
         },
         Err(stop) => stop.status(),

@@ -1,6 +1,6 @@
 use Rattle.std.proofs.Common.{◌≡◌, ◌++◌, map, take}
 use Rattle.tpol_top.specs.Lines.{note_line}
-use Rattle.tpol_top.specs.Outcome.{line_of}
+use Rattle.tpol_lines.specs.Lines.{line_of}
 use Rattle.tpol_top.proofs.compile.push_notes.Given as goal
 
 -- the notes so far are printed

@@ -1,0 +1,1 @@
+use Rattle.tpol_top.proofs.paths.listed.Goals as goal
