@@ -1,7 +1,7 @@
 -- The step that fills a document.
 use Rattle.std.specs.Prelude.{List, [], ◌∷◌, Option, Ok, Err}
 use Rattle.tpol_fill.specs.Filling.{filled, fill_faults}
-use Rattle.tpol_fill.specs.Answer.{Fault}
+use Rattle.tpol_fill.specs.Outcome.{Fault}
 use Rattle.tpol_name.specs.declared.sight.Sight.{Sight}
 use Rattle.tpol_tree.specs.declared.closed.Closed.{Closed}
 use Rattle.tpol_tree.specs.declared.policy.Policy.{Policy}

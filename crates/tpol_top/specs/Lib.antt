@@ -1,0 +1,16 @@
+pub mod Answer
+pub mod Canon
+pub mod Closed
+pub mod Commands
+pub mod Compile
+pub mod Filled
+pub mod Lines
+pub mod Paths
+pub mod Reached
+pub mod ReadStep
+pub mod Refusals
+pub mod Report
+pub mod SceneStep
+pub mod Status
+pub mod Steps
+pub mod Words

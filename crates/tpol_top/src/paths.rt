@@ -24,12 +24,17 @@ pub fn listed(alloc: Global, closed: &Closed) -> Result<Answer, Halt>
     ensures shelf { IsErrOf result Halt.ShelfFailed → ⊥ }
 {
     let none = Sequence::new(alloc);
-    let line = match check_paths(closed, &none) {
-        Ok(_) => return Ok(path_answer(alloc, closed, &none)?),
-        Err(PathLimit::TooManyPaths) => "error PathLimit TooManyPaths",
-        Err(PathLimit::TooLong) => "error PathLimit TooLong",
-    };
-    Err(Halt::Refused(Answer::of_line(alloc, line, Verdict::PathLimit)?))
+    match check_paths(closed, &none) {
+        Ok(_) => Ok(path_answer(alloc, closed, &none)?),
+        Err(PathLimit::TooManyPaths) => {
+            let line = "error PathLimit TooManyPaths";
+            Err(Halt::Refused(Answer::of_line(alloc, line, Verdict::PathLimit)?))
+        }
+        Err(PathLimit::TooLong) => {
+            let line = "error PathLimit TooLong";
+            Err(Halt::Refused(Answer::of_line(alloc, line, Verdict::PathLimit)?))
+        }
+    }
 }
 
 // A line for each path, and the digest.

@@ -196,10 +196,12 @@ fn paths_of_more_than_eight_branches(rt: HostRuntime) -> Result<(), Fail> {
     let alloc = rt.alloc();
     let mut shelf = MemoryShelf::new(alloc);
     let (_, text) = run(alloc, &["paths"], NINE_BRANCHES, &mut shelf)?;
-    let start =
-        "path 1 \"#1\"/\"b1\" AuthValue,Or,Or\npath 2 \"#1\"/\"b2\" AuthValue,Or,Or\n";
+    let start = "path 1 \"#1\"/\"b1\" AuthValue,Or,Or\npath 2 \"#1\"/\"b2\" AuthValue,Or,Or\n";
     assert!(rt; text.as_str().starts_with(start));
-    assert!(rt; text.as_str().contains("\npath 9 \"b9\" AuthValue,Or\ndigest "));
+    assert!(rt;
+        text.as_str()
+            .contains("\npath 9 \"b9\" AuthValue,Or\ndigest ")
+    );
     Ok(())
 }
 
