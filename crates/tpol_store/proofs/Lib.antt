@@ -1,0 +1,4 @@
+pub mod ApprovedErased
+pub mod Endings
+pub mod ListedNames
+pub mod SortedNames

@@ -1,0 +1,4 @@
+pub mod Approvals
+pub mod FileNames
+pub mod Loading
+pub mod Stores

@@ -1,0 +1,142 @@
+//! Approved documents.
+
+ghost use Rattle.std.specs.Prelude.{◌≡◌, ◌++◌, All, IfOk, IfSome, OnOk, map};
+ghost use Rattle.std.specs.Option.{option_copied, option_to_list};
+ghost use Rattle.tpol_digest.specs.WellFormed.{IsWellFormedDocument};
+ghost use Rattle.tpol_store.specs.Approvals.{HasApprovedBounds, approved_by, approved_documents, approved_in, approver};
+ghost use Rattle.tpol_store.specs.Stores.{IsReadable, policies_of, stored};
+ghost use Rattle.tpol_tree.specs.ClosedErased.{erased_document};
+ghost use Rattle.tpol_tree.specs.Erased.{erased_policy};
+
+use crate::{Store, StoredPolicy};
+use std::alloc::Global;
+use tpol_base::{ExactClone, NoMemory};
+use tpol_digest::digest_of;
+use tpol_fill::{FillFault, fill, name_of_index, name_of_key};
+use tpol_name::Sight;
+use tpol_tree::{ApprovalWish, Approvals, ApprovedBy, ApprovedDoc};
+
+impl Store {
+    /// The documents that are approved, in the order of the store, and each by its authorizations in the
+    /// order of the document (TPM 2.0 Part 3, PolicyAuthorize and PolicyAuthorizeNV): each with the policy
+    /// that is filled with the sight, and that policy's digest. A document that cannot be filled is not
+    /// approved, nor does an authorization approve whose key or index has no value.
+    pub fn approvals(&self, alloc: Global, sight: Option<&Sight>) -> Result<Approvals, NoMemory>
+        ensures documents { IfOk result (λ approvals.
+            map erased_document approvals ≡ approved_documents (policies_of self.now) (option_copied sight.entry)) }
+        ensures well_formed { All IsReadable (stored self.now) → IfOk result (All IsWellFormedDocument) }
+        ensures bounded { All IsReadable (stored self.now) → IfOk result (All HasApprovedBounds) }
+    {
+        let mut approvals = Approvals::new(alloc);
+        for document in self.documents() {
+            push_approved(alloc, document, sight, &mut approvals)?;
+        }
+        Ok(approvals)
+    }
+}
+
+// What a document's authorizations approve, behind what is approved so far.
+fn push_approved(
+    alloc: Global,
+    document: &StoredPolicy,
+    sight: Option<&Sight>,
+    approvals: &mut Approvals,
+) -> Result<(), NoMemory>
+    ensures documents { OnOk result (map erased_document approvals.new
+        ≡ map erased_document approvals.old ++ approved_in document.now.name (erased_policy document.now.policy) (option_copied sight.entry)) }
+    ensures well_formed { IsReadable document.now → All IsWellFormedDocument approvals.old
+        → OnOk result (All IsWellFormedDocument approvals.new) }
+    ensures bounded { IsReadable document.now → All HasApprovedBounds approvals.old
+        → OnOk result (All HasApprovedBounds approvals.new) }
+{
+    for wish in document.policy.approvals.as_slice() {
+        let found = approved_by(alloc, document, wish, sight)?;
+        push_found(approvals, found)?;
+    }
+    Ok(())
+}
+
+fn push_found(approvals: &mut Approvals, found: Option<ApprovedDoc>) -> Result<(), NoMemory>
+    ensures documents { OnOk result (map erased_document approvals.new
+        ≡ map erased_document approvals.old ++ map erased_document (option_to_list found)) }
+    ensures well_formed { IfSome found IsWellFormedDocument → All IsWellFormedDocument approvals.old
+        → OnOk result (All IsWellFormedDocument approvals.new) }
+    ensures bounded { IfSome found HasApprovedBounds → All HasApprovedBounds approvals.old
+        → OnOk result (All HasApprovedBounds approvals.new) }
+{
+    match found {
+        Some(approved) => approvals.push(approved),
+        None => Ok(()),
+    }
+}
+
+// What one authorization approves.
+#[tactic(auto, using(crate::proofs::ApprovedErased::approved_by_erased))]
+fn approved_by(
+    alloc: Global,
+    document: &StoredPolicy,
+    wish: &ApprovalWish,
+    sight: Option<&Sight>,
+) -> Result<Option<ApprovedDoc>, NoMemory>
+    ensures documents { IfOk result (λ found. map erased_document (option_to_list found)
+        ≡ approved_by document.now.name (erased_policy document.now.policy) (option_copied sight.entry) wish.now) }
+    ensures well_formed { IsReadable document.now → IfOk result (λ found. IfSome found IsWellFormedDocument) }
+    ensures bounded { IsReadable document.now → IfOk result (λ found. IfSome found HasApprovedBounds) }
+{
+    approved_as_it_lies(alloc, document, wish, sight)
+}
+
+// The policy is filled for each authorization, since each approved document owns its tree.
+#[tactic(auto, unfolding(crate::specs::Approvals::approved_by))]
+fn approved_as_it_lies(
+    alloc: Global,
+    document: &StoredPolicy,
+    wish: &ApprovalWish,
+    sight: Option<&Sight>,
+) -> Result<Option<ApprovedDoc>, NoMemory>
+    ensures documents { IfOk result (λ found. map erased_document (option_to_list found)
+        ≡ approved_by document.now.name document.now.policy (option_copied sight.entry) wish.now) }
+    ensures well_formed { IsReadable document.now → IfOk result (λ found. IfSome found IsWellFormedDocument) }
+    ensures bounded { IsReadable document.now → IfOk result (λ found. IfSome found HasApprovedBounds) }
+{
+    let Some(by) = approver(wish, sight)? else {
+        return Ok(None);
+    };
+    match fill(alloc, &document.policy, sight) {
+        Ok(closed) => {
+            let digest = digest_of(&closed);
+            Ok(Some(ApprovedDoc {
+                document: document.name.exact_clone()?,
+                by,
+                closed,
+                digest,
+            }))
+        }
+        Err(FillFault::Bad { .. }) => Ok(None),
+        Err(FillFault::NoMemory) => Err(NoMemory),
+    }
+}
+
+// The key or the index of an authorization, by its Name; `None` where it has no value.
+fn approver(wish: &ApprovalWish, sight: Option<&Sight>) -> Result<Option<ApprovedBy>, NoMemory>
+    ensures { IfOk result (λ by. by ≡ approver wish.now (option_copied sight.entry)) }
+{
+    match wish {
+        ApprovalWish::ByKey {
+            key,
+            policy_ref,
+            signature,
+        } => match name_of_key(key, sight) {
+            Some(key) => Ok(Some(ApprovedBy::Key {
+                key,
+                policy_ref: policy_ref.exact_clone()?,
+                signature: *signature,
+            })),
+            None => Ok(None),
+        },
+        ApprovalWish::ByIndex { index } => match name_of_index(index, sight) {
+            Some(index) => Ok(Some(ApprovedBy::Index { index })),
+            None => Ok(None),
+        },
+    }
+}
