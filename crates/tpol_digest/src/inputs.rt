@@ -2,15 +2,13 @@
 
 ghost use Rattle.std.specs.Prelude.{◌≡◌, ◌++◌, IfOk, OnOk};
 ghost use Rattle.std.specs.Option.{option_map, option_to_list};
-ghost use Rattle.tpol_hash.specs.Sha256.{sha256_digest};
-ghost use Rattle.tpol_digest.specs.Digest.{first_string, digest_after};
+ghost use Rattle.tpol_digest.specs.Digest as digest;
 ghost use Rattle.tpol_digest.specs.Inputs as spec;
 ghost use Rattle.tpol_digest.specs.Sound.{moves_of_facts};
 ghost use Rattle.tpol_digest.specs.Update.{joined, update_of};
 ghost use Rattle.tpol_digest.specs.UpdateBytes.{update_value};
 
-use crate::moves::digest_after_move;
-use crate::policy::{digest_after_element, push_branch_digests, zero};
+use crate::policy::zero;
 use crate::update_bytes::{
     UpdateBytes, update_of_approve, update_of_approve_nv, update_of_assertion, update_of_move,
     update_of_or,
@@ -30,9 +28,9 @@ pub fn inputs_of(alloc: Global, policy: &Closed, approvals: &Approvals) -> Resul
     ensures { IfOk result (λ inputs. inputs ≡ spec.inputs_of_policy policy.now approvals.now) }
 {
     let mut inputs = Inputs::new(alloc);
-    push_elements(alloc, &mut inputs, &policy.elements, zero())?;
+    let _ = push_elements(alloc, &mut inputs, &policy.elements, zero())?;
     for document in approvals.as_slice() {
-        push_elements(alloc, &mut inputs, &document.closed.elements, zero())?;
+        let _ = push_elements(alloc, &mut inputs, &document.closed.elements, zero())?;
     }
     Ok(inputs)
 }
@@ -49,7 +47,7 @@ pub fn inputs_of_facts(alloc: Global, facts: &Facts) -> Result<Inputs, NoMemory>
 
 // The string of an update's first hash.
 fn string_of_first(alloc: Global, update: &UpdateBytes, before: &Digest32) -> Result<Blob, NoMemory>
-    ensures { IfOk result (λ string. string ≡ first_string (update_value update.now) before.now) }
+    ensures { IfOk result (λ string. string ≡ digest.first_string (update_value update.now) before.now) }
 {
     let mut string = if update.fresh {
         Blob::from_slice(alloc, &Digest32::ZERO.bytes)?
@@ -64,22 +62,25 @@ fn string_of_first(alloc: Global, update: &UpdateBytes, before: &Digest32) -> Re
     Ok(string)
 }
 
-// Adds the string of a second hash, if there is one, at the end.
+// Adds the string of a second hash, if there is one, at the end, and answers the digest after it.
 fn push_second(
     alloc: Global,
     inputs: &mut Inputs,
-    first: &Digest32,
+    first: Digest32,
     policy_ref: &Option<Blob>,
-) -> Result<(), NoMemory>
-    ensures { OnOk result (inputs.new ≡ inputs.old
-        ++ option_to_list (option_map (λ behind. first.now.bytes ++ behind) policy_ref.now)) }
+) -> Result<Digest32, NoMemory>
+    ensures digest { IfOk result (λ after. after ≡ digest.after_second policy_ref.now first) }
+    ensures strings { OnOk result (inputs.new ≡ inputs.old
+        ++ option_to_list (option_map (λ behind. first.bytes ++ behind) policy_ref.now)) }
 {
     match policy_ref {
-        None => Ok(()),
+        None => Ok(first),
         Some(behind) => {
             let mut string = Blob::from_slice(alloc, &first.bytes)?;
             string.extend_from_slice(behind.as_slice())?;
-            inputs.push(string)
+            let after = hash(string.as_slice());
+            inputs.push(string)?;
+            Ok(after)
         }
     }
 }
@@ -94,20 +95,21 @@ fn push_inner(alloc: Global, inputs: &mut Inputs, inner: &Option<Blob>) -> Resul
     }
 }
 
-// Adds the strings of an update at the end.
+// Adds the strings of an update at the end, and answers the digest after it.
 fn push_strings(
     alloc: Global,
     inputs: &mut Inputs,
     update: &UpdateBytes,
     before: &Digest32,
-) -> Result<(), NoMemory>
-    ensures { OnOk result (inputs.new ≡ inputs.old ++ spec.strings_of (update_value update.now) before.now) }
+) -> Result<Digest32, NoMemory>
+    ensures digest { IfOk result (λ after. after ≡ digest.after_update (update_value update.now) before.now) }
+    ensures strings { OnOk result (inputs.new ≡ inputs.old ++ spec.strings_of (update_value update.now) before.now) }
 {
     push_inner(alloc, inputs, &update.inner)?;
     let string = string_of_first(alloc, update, before)?;
     let first = hash(string.as_slice());
     inputs.push(string)?;
-    push_second(alloc, inputs, &first, &update.policy_ref)
+    push_second(alloc, inputs, first, &update.policy_ref)
 }
 
 // Adds the joined values of a PCR assertion at the end.
@@ -142,34 +144,36 @@ fn joined_digests(alloc: Global, digests: &Digests) -> Result<Blob, NoMemory>
     Ok(bytes)
 }
 
-// Adds the strings of elements at the end.
+// Adds the strings of elements at the end, and answers the digest after them.
 #[cycle(inputs)]
 fn push_elements(
     alloc: Global,
     inputs: &mut Inputs,
     elements: &ClosedElements,
     before: Digest32,
-) -> Result<(), NoMemory>
-    ensures { OnOk result (inputs.new ≡ inputs.old ++ spec.inputs_at elements.now before) }
+) -> Result<Digest32, NoMemory>
+    ensures digest { IfOk result (λ after. after ≡ digest.digest_at elements.now before) }
+    ensures strings { OnOk result (inputs.new ≡ inputs.old ++ spec.inputs_at elements.now before) }
 {
     match elements {
-        ClosedElements::End => Ok(()),
+        ClosedElements::End => Ok(before),
         ClosedElements::More(element, rest) => {
-            push_element(alloc, inputs, element, before)?;
-            push_elements(alloc, inputs, rest, digest_after_element(element, before))
+            let after = push_element(alloc, inputs, element, before)?;
+            push_elements(alloc, inputs, rest, after)
         }
     }
 }
 
-// Adds the strings of one element at the end.
+// The same of one element.
 #[cycle(inputs)]
 fn push_element(
     alloc: Global,
     inputs: &mut Inputs,
     element: &ClosedElement,
     before: Digest32,
-) -> Result<(), NoMemory>
-    ensures { OnOk result (inputs.new ≡ inputs.old ++ spec.inputs_at_element element.now before) }
+) -> Result<Digest32, NoMemory>
+    ensures digest { IfOk result (λ after. after ≡ digest.digest_at_element element.now before) }
+    ensures strings { OnOk result (inputs.new ≡ inputs.old ++ spec.inputs_at_element element.now before) }
 {
     match element {
         ClosedElement::Assert(assertion) => {
@@ -178,9 +182,8 @@ fn push_element(
             push_strings(alloc, inputs, &update, &before)
         }
         ClosedElement::Or(branches) => {
-            push_branches(alloc, inputs, branches, before)?;
             let mut digests = Digests::new(alloc);
-            push_branch_digests(&mut digests, branches, before)?;
+            push_branches(alloc, inputs, &mut digests, branches, before)?;
             let update = update_of_or(alloc, &digests)?;
             push_strings(alloc, inputs, &update, &before)
         }
@@ -195,33 +198,37 @@ fn push_element(
     }
 }
 
-// Adds the strings of branches at the end.
+// Adds the strings of branches at the end; adds the digests of the branches.
 #[cycle(inputs)]
 fn push_branches(
     alloc: Global,
     inputs: &mut Inputs,
+    digests: &mut Digests,
     branches: &ClosedBranches,
     before: Digest32,
 ) -> Result<(), NoMemory>
-    ensures { OnOk result (inputs.new ≡ inputs.old ++ spec.inputs_at_branches branches.now before) }
+    ensures digests { OnOk result (digests.new ≡ digests.old ++ digest.branch_digests branches.now before) }
+    ensures strings { OnOk result (inputs.new ≡ inputs.old ++ spec.inputs_at_branches branches.now before) }
 {
     match branches {
         ClosedBranches::End => Ok(()),
         ClosedBranches::More(branch, rest) => {
-            push_elements(alloc, inputs, &branch.policy.elements, before)?;
-            push_branches(alloc, inputs, rest, before)
+            let after = push_elements(alloc, inputs, &branch.policy.elements, before)?;
+            digests.push(after)?;
+            push_branches(alloc, inputs, digests, rest, before)
         }
     }
 }
 
-// Adds the strings of one move at the end.
+// Adds the strings of one move at the end, and answers the digest after it.
 fn push_move(
     alloc: Global,
     inputs: &mut Inputs,
     act: &Move,
     before: &Digest32,
-) -> Result<(), NoMemory>
-    ensures { OnOk result (inputs.new ≡ inputs.old ++ spec.strings_of (update_of act.now) before.now) }
+) -> Result<Digest32, NoMemory>
+    ensures digest { IfOk result (λ after. after ≡ digest.digest_after act.now before.now) }
+    ensures strings { OnOk result (inputs.new ≡ inputs.old ++ spec.strings_of (update_of act.now) before.now) }
 {
     let update = update_of_move(alloc, act)?;
     push_strings(alloc, inputs, &update, before)
@@ -239,8 +246,8 @@ fn push_facts(
     match facts.split_first() {
         None => Ok(()),
         Some((fact, rest)) => {
-            push_move(alloc, inputs, &fact.act, &before)?;
-            push_facts(alloc, inputs, rest, digest_after_move(before, &fact.act))
+            let after = push_move(alloc, inputs, &fact.act, &before)?;
+            push_facts(alloc, inputs, rest, after)
         }
     }
 }
