@@ -24,7 +24,7 @@ use Rattle.tpol_digest.specs.Positions.{path_of_step}
 use Rattle.std.proofs.lemmas.List.Concat.{flat_map-append}
 use Rattle.tpol_base.proofs.Digests.{same_digest}
 use Rattle.tpol_digest.specs.Update.{update_of}
-use Rattle.tpol_digest.proofs.Listings.{no_level}
+use Rattle.tpol_digest.proofs.Documents.{approved_none}
 use Rattle.tpol_trace.proofs.Approvals.{uses_approval}
 use Rattle.tpol_trace.specs.Same.{approved_of}
 use Rattle.tpol_digest.proofs.Products.{Each-append, Each-map, Each-product, product_assoc}
@@ -171,7 +171,7 @@ module _ (approvals : List ApprovedDoc) (facts : List Move) where
 
   pub no_level_table : (level : ℕ) (element : ClosedElement) (table : Ways) (done ways : List Path) → level ≡ 0 → IsTable approvals level facts table done → IsTable approvals level facts table (done ++ product (approved_paths (document_paths approvals level) approvals element) ways)
   no_level_table level element table done ways zero_level t =
-      subst (IsTable approvals level facts table) (sym (append-nil done) ∙ ap (λ l. done ++ product l ways) (no_level approvals level element [] zero_level)) t
+      subst (IsTable approvals level facts table) (sym (append-nil done) ∙ ap (λ l. done ++ product l ways) (sym (approved_none approvals approvals element) ∙ ap (λ n. approved_paths (document_paths approvals n) approvals element) (sym zero_level))) t
 
   -- the ways by one document more
   by : ℕ → ClosedElement → ApprovedDoc → List Path
