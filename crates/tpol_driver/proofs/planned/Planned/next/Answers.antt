@@ -1,0 +1,14 @@
+use Rattle.std.proofs.Common.{◌≡◌, subst, IfOk}
+use Rattle.tpol_driver.specs.Driving.{Driving, sends}
+use Rattle.tpol_driver.specs.States.{IsSent}
+use Rattle.tpol_driver.proofs.planned.Planned.next.Goals as goal
+use Rattle.tpol_wire.specs.declared.command.Command.{Command}
+use Rattle.tpol_wire.specs.Commands.{spelling}
+
+pub returns : goal.returns
+returns c = record {
+  sends =
+      let P : Driving → Type 0 = λ d. IfOk c.write_command.result (IsSent (sends d.plan d.standing)) in
+      let Q : Command → Type 0 = λ command. IfOk c.write_command.result (λ bytes. bytes ≡ spelling command) in
+      subst P c.self.view_is (subst Q c.command-command.ensures c.write_command.ensures.spelling);
+}

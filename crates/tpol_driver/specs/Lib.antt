@@ -1,0 +1,9 @@
+pub mod Answers
+pub mod Causes
+pub mod Codes
+pub mod Commands
+pub mod Driving
+pub mod GoalUse
+pub mod Plans
+pub mod States
+pub mod Underway

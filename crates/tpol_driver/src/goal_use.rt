@@ -1,0 +1,326 @@
+//! The use of the session on the goal: the goal's command with its authorization, and what its reply has to
+//! be.
+
+ghost use Rattle.std.specs.Prelude.{◌≡◌, [], IfOk, length};
+ghost use Rattle.tpol_driver.specs.GoalUse.{area_of_goal, auth_after, auth_of_path, bytes_of_reply, command_of_goal, goal_command, goal_cp_hash, goal_hmac, goal_rp_hash, goal_secret, is_right_area, mac_key, right_hmac, unless_empty};
+ghost use Rattle.std.specs.Str.{bytes_eq};
+ghost use Rattle.tpm_auth.specs.SessionMacs.{command_mac};
+ghost use Rattle.tpol_base.specs.CommandCode.{number_of_code};
+ghost use Rattle.tpol_goal.specs.Goals.{code_of_goal};
+ghost use Rattle.tpol_wire.specs.ReplyReading.{reply_reading};
+ghost use Rattle.tpol_driver.specs.Answers.{answer_of};
+ghost use Rattle.tpol_driver.specs.Driving.{goal_done, goal_heard};
+
+use crate::answer::{Answer, read_answer};
+use crate::commands::start_auth_session::caller_nonce;
+use crate::end::{End, Stage};
+use crate::plan::Plan;
+use crate::session::Session;
+use std::alloc::Global;
+use tpm_auth::{command_mac, reply_mac};
+use tpol_base::constants::TPM_ALG_SHA256;
+use tpol_base::{Blob, Digest32, NoMemory};
+use tpol_goal::Goal;
+use tpol_hash::Hasher;
+use tpol_tree::{Assertion, Move};
+use tpol_wire::{AuthArea, Command, Reply, ReplyAuth, fields_of, parameters_of};
+
+/// What authorizes the use of the session: the last PolicyAuthValue or PolicyPassword of the path.
+#[derive(Clone, Copy)]
+pub(crate) enum GoalAuth {
+    /// Neither stands on the path: the policy alone.
+    Nothing,
+    /// PolicyAuthValue: an HMAC under the value of the goal's entity.
+    Hmac,
+    /// PolicyPassword: the value itself.
+    Password,
+}
+
+/// The session attributes of the use: continueSession is clear, so that the session ends with it.
+const ATTRIBUTES: u8 = 0;
+
+fn auth_after(auth: GoalAuth, act: &Move) -> GoalAuth
+    ensures { result ≡ auth_after auth act.now }
+{
+    match act {
+        Move::Assert(Assertion::AuthValue) => GoalAuth::Hmac,
+        Move::Assert(Assertion::Password) => GoalAuth::Password,
+        _ => auth,
+    }
+}
+
+fn auth_of_path(moves: &[Move]) -> GoalAuth
+    ensures { result ≡ auth_of_path moves.now }
+{
+    moves
+        .iter()
+        .fold(GoalAuth::Nothing, |auth, act| auth_after(auth, act))
+}
+
+// The value that is granted for the goal's entity, empty where none is.
+fn goal_secret(plan: &Plan) -> &[u8]
+    ensures { result.now ≡ goal_secret plan.now }
+{
+    plan.grants.secret(plan.goal.entity())
+}
+
+// The key of the HMACs of the command and of its reply.
+fn mac_key(plan: &Plan) -> &[u8]
+    ensures { result.now ≡ mac_key plan.now }
+{
+    match auth_of_path(plan.path.moves.as_slice()) {
+        GoalAuth::Hmac => goal_secret(plan),
+        GoalAuth::Nothing | GoalAuth::Password => &[],
+    }
+}
+
+// The goal's command with this authorization.
+fn command_of_goal(goal: &Goal, auth: AuthArea) -> Result<Command, NoMemory>
+    ensures { IfOk result (λ command. command ≡ command_of_goal goal.now auth) }
+{
+    match goal {
+        Goal::Unseal { object } => Ok(Command::Unseal {
+            object: *object,
+            auth,
+        }),
+        Goal::Hmac { key, buffer } => Ok(Command::Hmac {
+            key: *key,
+            auth,
+            buffer: buffer.clone()?,
+            hash: TPM_ALG_SHA256,
+        }),
+        Goal::NvRead {
+            index,
+            size,
+            offset,
+        } => Ok(Command::NvRead {
+            authority: *index,
+            index: *index,
+            auth,
+            size: *size,
+            offset: *offset,
+        }),
+        Goal::NvWrite {
+            index,
+            offset,
+            bytes,
+        } => Ok(Command::NvWrite {
+            authority: *index,
+            index: *index,
+            auth,
+            bytes: bytes.clone()?,
+            offset: *offset,
+        }),
+        Goal::NvIncrement { index } => Ok(Command::NvIncrement {
+            authority: *index,
+            index: *index,
+            auth,
+        }),
+        Goal::Duplicate { object, parent } => Ok(Command::Duplicate {
+            object: *object,
+            parent: *parent,
+            auth,
+        }),
+    }
+}
+
+// The session's authorization of the use.
+fn area_of_goal(
+    alloc: Global,
+    session: &Session,
+    nonce_caller: &Digest32,
+    hmac: Blob,
+) -> Result<AuthArea, NoMemory>
+    ensures { IfOk result (λ area. area ≡ area_of_goal session.now nonce_caller.now hmac) }
+{
+    Ok(AuthArea {
+        session: session.handle,
+        nonce: Blob::from_slice(alloc, &nonce_caller.bytes)?,
+        attributes: ATTRIBUTES,
+        hmac,
+    })
+}
+
+// The hash of the goal's code, the Names of its handles and its parameters.
+fn goal_cp_hash(
+    alloc: Global,
+    plan: &Plan,
+    session: &Session,
+    nonce_caller: &Digest32,
+) -> Result<Digest32, NoMemory>
+    ensures { IfOk result (λ hash. hash ≡ goal_cp_hash plan.now (area_of_goal session.now nonce_caller.now [])) }
+{
+    let area = area_of_goal(alloc, session, nonce_caller, Blob::new(alloc))?;
+    let parameters = parameters_of(alloc, &command_of_goal(&plan.goal, area)?)?;
+    let mut hasher = Hasher::new();
+    hasher.put(&plan.goal.code().number().to_be_bytes());
+    plan.goal.put_names(plan.directory.as_slice(), &mut hasher);
+    hasher.put(parameters.as_slice());
+    Ok(hasher.done())
+}
+
+// The HMAC of the goal's command, empty where its key is.
+fn command_hmac(
+    alloc: Global,
+    plan: &Plan,
+    session: &Session,
+    nonce_caller: &Digest32,
+) -> Result<Blob, NoMemory>
+    ensures { IfOk result (λ hmac. hmac ≡ unless_empty (mac_key plan.now)
+        (command_mac (mac_key plan.now) (goal_cp_hash plan.now (area_of_goal session.now nonce_caller.now [])) nonce_caller.now.bytes session.now.nonce 0)) }
+{
+    let key = mac_key(plan);
+    if key.is_empty() {
+        return Ok(Blob::new(alloc));
+    }
+    let cp_hash = goal_cp_hash(alloc, plan, session, nonce_caller)?;
+    let mac = command_mac(
+        key,
+        &cp_hash,
+        &nonce_caller.bytes,
+        &session.nonce,
+        ATTRIBUTES,
+    );
+    Blob::from_slice(alloc, &mac.bytes)
+}
+
+// The field hmac of the goal's command.
+fn goal_hmac(
+    alloc: Global,
+    plan: &Plan,
+    session: &Session,
+    nonce_caller: &Digest32,
+) -> Result<Blob, NoMemory>
+    ensures { IfOk result (λ hmac. hmac ≡ goal_hmac plan.now session.now nonce_caller.now) }
+{
+    match auth_of_path(plan.path.moves.as_slice()) {
+        GoalAuth::Password => Blob::from_slice(alloc, goal_secret(plan)),
+        GoalAuth::Nothing | GoalAuth::Hmac => command_hmac(alloc, plan, session, nonce_caller),
+    }
+}
+
+/// The goal's command as the run's command with this number.
+pub(crate) fn command(
+    alloc: Global,
+    plan: &Plan,
+    session: &Session,
+    number: u32,
+) -> Result<Command, NoMemory>
+    ensures { IfOk result (λ command. command ≡ goal_command plan.now session.now number) }
+{
+    let nonce_caller = caller_nonce(&plan.nonce_seed, number);
+    let hmac = goal_hmac(alloc, plan, session, &nonce_caller)?;
+    let area = area_of_goal(alloc, session, &nonce_caller, hmac)?;
+    command_of_goal(&plan.goal, area)
+}
+
+// The hash of the code 0, the goal's code and the reply's fields.
+fn goal_rp_hash(alloc: Global, plan: &Plan, reply: &Reply) -> Result<Digest32, NoMemory>
+    ensures { IfOk result (λ hash. hash ≡ goal_rp_hash plan.now reply.now) }
+{
+    let fields = fields_of(alloc, reply)?;
+    let mut hasher = Hasher::new();
+    hasher.put(&0u32.to_be_bytes());
+    hasher.put(&plan.goal.code().number().to_be_bytes());
+    hasher.put(fields.as_slice());
+    Ok(hasher.done())
+}
+
+// Whether the field hmac of the reply is the right one, for an area with this nonce of 32 bytes.
+fn is_right_hmac(
+    alloc: Global,
+    plan: &Plan,
+    number: u32,
+    reply: &Reply,
+    nonce: &[u8],
+    given: &[u8],
+) -> Result<bool, NoMemory>
+    requires { length nonce.now ≡ 32 }
+    ensures { IfOk result (λ right. right ≡ bytes_eq given.now (right_hmac plan.now number reply.now nonce.now)) }
+{
+    let key = mac_key(plan);
+    if key.is_empty() {
+        return Ok(given.is_empty());
+    }
+    let rp_hash = goal_rp_hash(alloc, plan, reply)?;
+    let nonce_caller = caller_nonce(&plan.nonce_seed, number);
+    let mac = reply_mac(
+        key,
+        &rp_hash,
+        &Digest32::from_slice(nonce),
+        &nonce_caller.bytes,
+        ATTRIBUTES,
+    );
+    Ok(given == mac.bytes.as_slice())
+}
+
+// Whether the authorization of the goal's reply is right: a nonce of 32 bytes, the attributes of the command,
+// and the right hmac.
+fn is_right_area(
+    alloc: Global,
+    plan: &Plan,
+    number: u32,
+    reply: &Reply,
+    area: &ReplyAuth,
+) -> Result<bool, NoMemory>
+    ensures { IfOk result (λ right. right ≡ is_right_area plan.now number reply.now area.now) }
+{
+    if area.nonce.len() != 32 || area.attributes != ATTRIBUTES {
+        return Ok(false);
+    }
+    is_right_hmac(
+        alloc,
+        plan,
+        number,
+        reply,
+        area.nonce.as_slice(),
+        area.hmac.as_slice(),
+    )
+}
+
+/// The end that these bytes give as the reply to the goal's command, which was the run's command with this
+/// number.
+pub(crate) fn hear(alloc: Global, plan: &Plan, number: u32, reply: &[u8]) -> Result<End, NoMemory>
+    ensures { IfOk result (λ end. end
+        ≡ goal_heard plan.now number (answer_of (reply_reading (number_of_code (code_of_goal plan.now.goal)) reply.now))) }
+{
+    match read_answer(alloc, plan.goal.code(), reply)? {
+        Answer::Done(reply, area) => done(alloc, plan, number, reply, &area),
+        Answer::Denied(rc) => Ok(End::Denied {
+            at: Stage::Goal,
+            rc,
+        }),
+        Answer::Malformed => Ok(End::BadReply(Stage::Goal)),
+    }
+}
+
+// The end that a reply without a refusal gives.
+fn done(
+    alloc: Global,
+    plan: &Plan,
+    number: u32,
+    reply: Reply,
+    area: &Option<ReplyAuth>,
+) -> Result<End, NoMemory>
+    ensures { IfOk result (λ end. end ≡ goal_done plan.now number reply area.now) }
+{
+    let Some(area) = area else {
+        return Ok(End::BadReply(Stage::Goal));
+    };
+    if is_right_area(alloc, plan, number, &reply, area)? {
+        Ok(End::Served(bytes_of_reply(alloc, reply)?))
+    } else {
+        Ok(End::BadReply(Stage::Goal))
+    }
+}
+
+// What the goal's command gave.
+fn bytes_of_reply(alloc: Global, reply: Reply) -> Result<Blob, NoMemory>
+    ensures { IfOk result (λ bytes. bytes ≡ bytes_of_reply reply) }
+{
+    match reply {
+        Reply::Unseal { bytes } | Reply::NvRead { bytes } | Reply::Duplicate { bytes } => Ok(bytes),
+        Reply::Hmac { digest } => Blob::from_slice(alloc, &digest.bytes),
+        _ => Ok(Blob::new(alloc)),
+    }
+}

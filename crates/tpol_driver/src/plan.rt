@@ -1,0 +1,65 @@
+//! What a run is to do.
+
+ghost use Rattle.std.specs.Prelude.{◌≡◌};
+ghost use Rattle.std.specs.List.{list_all};
+ghost use Rattle.tpol_driver.specs.Plans.{is_complete, is_known_move};
+
+use tpol_base::Digest32;
+use tpol_goal::{Goal, Grants, entity_of_name, index_of_name, object_of_name};
+use tpol_name::{DirEntry, Directory};
+use tpol_tree::{Assertion, Move, Path};
+
+/// What a run is to do: the path whose moves it sends, the command that it wants after them, the values and
+/// keys that it may use, the directory by which it finds the handles of Names, and the seed of its nonces.
+#[derive(Drop)]
+pub struct Plan {
+    pub path: Path,
+    pub goal: Goal,
+    pub grants: Grants,
+    pub directory: Directory,
+    pub nonce_seed: Digest32,
+}
+
+impl Plan {
+    /// Whether a run can make each command of its path: no step is an approval by a policy that is not listed,
+    /// each Name stands for an entity of the kind that its command takes, and each key that signs is granted.
+    pub fn complete(&self) -> bool
+        ensures complete { result ≡ is_complete self.now }
+    {
+        !self.path.outside
+            && are_known(
+                self.directory.as_slice(),
+                &self.grants,
+                self.path.moves.as_slice(),
+            )
+    }
+}
+
+fn are_known(directory: &[DirEntry], grants: &Grants, moves: &[Move]) -> bool
+    ensures { result ≡ list_all (is_known_move directory.now grants.now) moves.now }
+{
+    moves
+        .iter()
+        .all(|act| is_known_move(directory, grants, act))
+}
+
+// Whether each Name of a move is in the directory with the kind that its command takes, and each key that it
+// signs with is granted.
+fn is_known_move(directory: &[DirEntry], grants: &Grants, act: &Move) -> bool
+    ensures { result ≡ is_known_move directory.now grants.now act.now }
+{
+    match act {
+        Move::Assert(Assertion::Secret { entity, .. }) => entity_of_name(
+            directory, entity,
+        ).is_some(),
+        Move::Assert(Assertion::Signed { key, .. }) => match object_of_name(directory, key) {
+            Some(entry) => grants.key(entry.handle).is_some(),
+            None => false,
+        },
+        Move::Assert(Assertion::Nv { index, .. }) | Move::ApproveNv { index, .. } => index_of_name(
+            directory, index,
+        ).is_some(),
+        Move::Approve { key, .. } => object_of_name(directory, key).is_some(),
+        _ => true,
+    }
+}

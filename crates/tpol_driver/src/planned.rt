@@ -1,0 +1,97 @@
+//! The start of a run.
+
+ghost use Rattle.std.specs.Prelude.{◌≡◌, ◌≤◌, length, IfOk, IfErr};
+ghost use Rattle.tpol_driver.specs.Driving.{Moving, Starting, hears, sends, start_heard};
+ghost use Rattle.tpol_driver.specs.States.{IsNext, IsSent};
+
+use crate::answer::{Answer, read_answer};
+use crate::asserting::Asserting;
+use crate::commands::start_auth_session;
+use crate::end::{End, Stage};
+use crate::next::{Next, Over};
+use crate::plan::Plan;
+use crate::ready::Ready;
+use crate::session::Session;
+use std::alloc::Global;
+use std::marker::Model;
+use tpol_base::{Blob, CommandCode, NoMemory};
+use tpol_wire::{Reply, write_command};
+
+/// A run before its start.
+#[derive(Drop)]
+pub struct Planned {
+    plan: Plan,
+}
+
+impl Model for Planned {
+    ghost use Rattle.std.specs.Prelude.{◌≤◌, length};
+    ghost use Rattle.tpol_driver.specs.Driving.{Driving, Starting};
+
+    ghost Value = { Driving };
+
+    ghost view = { λ p. record { plan = p.plan; standing = Starting } };
+
+    ghost invariant = { λ p. length p.plan.path.moves ≤ 512 };
+}
+
+impl Planned {
+    /// A run of this plan.
+    pub fn new(plan: Plan) -> Planned
+        requires { length plan.path.moves ≤ 512 }
+        ensures { result ≡ record { plan = plan; standing = Starting } }
+    {
+        Planned { plan }
+    }
+
+    /// The next command: StartAuthSession.
+    pub fn next(&self, alloc: Global) -> Result<Blob, NoMemory>
+        ensures sends { IfOk result (IsSent (sends self.now.plan self.now.standing)) }
+    {
+        let command = start_auth_session::command(&self.plan.nonce_seed);
+        write_command(alloc, &command)
+    }
+
+    /// Goes on with the reply. With `NoMemory` the state comes back unchanged.
+    pub fn take(self, alloc: Global, reply: &[u8]) -> Result<Next, (Planned, NoMemory)>
+        ensures next { IfOk result (IsNext self.plan (hears self.plan self.standing reply.now)) }
+        ensures back { IfErr result (λ refused. refused.0 ≡ self) }
+    {
+        match read_answer(alloc, CommandCode::StartAuthSession, reply) {
+            Ok(answer) => Ok(self.after(answer)),
+            Err(no_memory) => Err((self, no_memory)),
+        }
+    }
+
+    // The state after this answer.
+    fn after(self, answer: Answer) -> Next
+        ensures { IsNext self.plan (start_heard answer) result }
+    {
+        match answer {
+            Answer::Done(Reply::StartAuthSession { session, nonce }, _) => self.started(Session {
+                handle: session,
+                nonce,
+            }),
+            Answer::Denied(rc) => Next::Over(Over {
+                end: End::Denied {
+                    at: Stage::Start,
+                    rc,
+                },
+            }),
+            Answer::Done(..) | Answer::Malformed => Next::Over(Over {
+                end: End::BadReply(Stage::Start),
+            }),
+        }
+    }
+
+    // The state at the front of the path.
+    fn started(self, session: Session) -> Next
+        ensures { IsNext self.plan (Moving session 1 None 0) result }
+    {
+        let Planned { plan } = self;
+        if plan.path.moves.is_empty() {
+            Next::Ready(Ready::new(plan, session, 1))
+        } else {
+            Next::Asserting(Asserting::new(plan, session))
+        }
+    }
+}

@@ -1,0 +1,79 @@
+//! The use of the session on the goal.
+
+ghost use Rattle.std.specs.Prelude.{◌≡◌, length, IfOk, IfErr};
+ghost use Rattle.tpol_driver.specs.Driving.{Moving, after_goal, hears, sends};
+ghost use Rattle.tpol_driver.specs.declared.plan.Plan.{Plan as PlanOf};
+ghost use Rattle.tpol_driver.specs.States.{IsNext, IsSent};
+
+use crate::closing::Closing;
+use crate::end::End;
+use crate::goal_use;
+use crate::next::{Next, Over};
+use crate::plan::Plan;
+use crate::session::Session;
+use std::alloc::Global;
+use std::marker::Model;
+use tpol_base::{Blob, NoMemory};
+use tpol_wire::write_command;
+
+/// A run whose session has all moves of the path, before its use on the goal.
+#[derive(Drop)]
+pub struct Ready {
+    plan: Plan,
+    session: Session,
+    // The number of the goal's command.
+    sent: u32,
+}
+
+impl Model for Ready {
+    ghost use Rattle.std.specs.Prelude.{None, length};
+    ghost use Rattle.tpol_driver.specs.Driving.{Driving, Moving};
+
+    ghost Value = { Driving };
+
+    ghost view = { λ r. record { plan = r.plan; standing = Moving r.session r.sent None (length r.plan.path.moves) } };
+}
+
+impl Ready {
+    pub(crate) fn new(plan: Plan, session: Session, sent: u32) -> Ready
+        ensures { result ≡ record { plan = plan; standing = Moving session sent None (length plan.path.moves) } }
+    {
+        Ready {
+            plan,
+            session,
+            sent,
+        }
+    }
+
+    /// The next command: the goal's, authorized by the session with continueSession clear.
+    pub fn next(&self, alloc: Global) -> Result<Blob, NoMemory>
+        ensures sends { IfOk result (IsSent (sends self.now.plan self.now.standing)) }
+    {
+        let command = goal_use::command(alloc, &self.plan, &self.session, self.sent)?;
+        write_command(alloc, &command)
+    }
+
+    /// Goes on with the reply. With `NoMemory` the state comes back unchanged.
+    pub fn take(self, alloc: Global, reply: &[u8]) -> Result<Next, (Ready, NoMemory)>
+        ensures next { IfOk result (IsNext self.plan (hears self.plan self.standing reply.now)) }
+        ensures back { IfErr result (λ refused. refused.0 ≡ self) }
+    {
+        match goal_use::hear(alloc, &self.plan, self.sent, reply) {
+            Ok(end) => Ok(after(self.session.handle, end)),
+            Err(no_memory) => Err((self, no_memory)),
+        }
+    }
+}
+
+// The state after the goal's command: a served goal has ended the session.
+fn after(session: u32, end: End) -> Next
+    ensures { (plan : PlanOf) → IsNext plan (after_goal session end) result }
+{
+    match end {
+        End::Served(bytes) => Next::Over(Over {
+            end: End::Served(bytes),
+        }),
+        End::Denied { at, rc } => Next::Closing(Closing::new(session, End::Denied { at, rc })),
+        End::BadReply(stage) => Next::Closing(Closing::new(session, End::BadReply(stage))),
+    }
+}
