@@ -1,9 +1,11 @@
 //! Sessions that went a branch of a policy. A clash and a string of digest zero can not be made up.
 
-ghost use Rattle.std.specs.Prelude.{◌≡◌, true, false, IfOk, IsTrue};
+ghost use Rattle.std.specs.Prelude.{◌≡◌, true, false, All, IfOk, IsTrue};
 ghost use Rattle.tpol_digest.specs.Sound.{Among, IsSound, IsSoundFrom, Meets, moves_of_facts};
 ghost use Rattle.tpol_digest.specs.Digest.{digest_of_moves, policy_digest, zero_digest};
-ghost use Rattle.tpol_digest.specs.WellFormed.{HasPcrDigest};
+ghost use Rattle.tpol_digest.specs.Update.{joined};
+ghost use Rattle.tpol_digest.specs.WellFormed.{HasPcrDigest, IsWellFormed, IsWellFormedDocument, IsWellFormedPolicy};
+ghost use Rattle.tpol_hash.specs.Sha256.{sha256_digest};
 ghost use Rattle.tpol_tree.specs.Closed.{ApprovalsLead, ApprovalsLeadElement, EachAssertion, EachAssertionOfElement, ElementHasBranchCounts, HasBranchCounts};
 
 use crate::{Opening, opening};
@@ -11,24 +13,76 @@ use std::alloc::Global;
 use std::process::Abort;
 use std::test::Fail;
 use tpol_base::{Blob, Digest32, Digests, Name, NoMemory, Text};
-use tpol_digest::{check_paths, digest_after_move, digest_of, extend, run_facts};
+use tpol_digest::{check_paths, digest_after_move, digest_of, run_facts};
+use tpol_hash::Hasher;
 use tpol_tree::{
-    Approvals, Assertion, Closed, ClosedBranch, ClosedBranches, ClosedElement, ClosedElements,
-    Fact, Facts, Move,
+    Approvals, ApprovedBy, ApprovedDoc, Assertion, Closed, ClosedBranch, ClosedBranches,
+    ClosedElement, ClosedElements, Fact, Facts, Move,
 };
 
 // The bytes of a PolicyCommandCode update.
 const POLICY_REF: [u8; 8] = [0x00, 0x00, 0x01, 0x6c, 0x00, 0x00, 0x01, 0x5e];
 
-fn secret(alloc: Global) -> Result<Assertion, NoMemory>
+// The digest of a policy of a PolicyAuthValue alone, which a TPM 2.0 gave.
+const AUTH_VALUE: &[u8; 32] = b"\x8f\xcd\x21\x69\xab\x92\x69\x4e\x0c\x63\x3f\x1a\xb7\x72\x84\x2b\
+              \x82\x41\xbb\xc2\x02\x88\x98\x1f\xc7\xac\x1e\xdd\xc1\xfd\xdb\x0e";
+
+// The digest in the Name of a key.
+const KEY: &[u8; 32] = b"\x0f\xb3\x7b\x52\xfb\x77\xd5\x6d\x3b\x9e\xe9\xa5\x92\xe0\xbb\xfb\
+              \x07\x20\xc7\x8d\x12\x3e\x8f\x63\x04\x09\x37\x79\x0a\xb7\x18\xd1";
+
+// Digests that were computed with another SHA-256: PolicySecret of the owner with POLICY_REF; four PCRs of
+// zeros; PolicyPCR of PCRs 0, 2, 4 and 7 of zeros with a PolicyAuthValue; PolicySecret of the owner with a
+// PolicyCommandCode of Unseal.
+const SECRET_OF_OWNER: &[u8; 32] =
+    b"\xe9\x71\x5d\xae\xf5\xc1\x0e\xd8\x0d\x4c\x43\xc7\x39\x1e\xd2\x94\
+              \x12\x35\xdb\xf1\xb4\x9a\x4d\xfe\x00\x06\xe2\x39\x5d\xa6\x1c\xc6";
+
+const FOUR_ZERO_PCRS: &[u8; 32] =
+    b"\x38\x72\x3a\x2e\x5e\x8a\x17\xaa\x79\x50\xdc\x00\x82\x09\x94\x4e\
+              \x89\x8f\x69\xa7\xbd\x10\xa2\x3c\x83\x9d\x34\x1e\x93\x5f\xd5\xca";
+
+const BOOT: &[u8; 32] = b"\x90\x93\x8e\x03\xc6\x35\x65\x05\xa1\x82\xcf\x9c\x16\x6d\xaa\x30\
+              \xc0\xa6\x9c\x6f\x13\xf6\xbb\xca\x77\x7d\xf6\xa8\x83\xdd\xf7\xb6";
+
+const OWNER: &[u8; 32] = b"\x51\xae\x7a\x4a\xb4\xb3\xef\xdd\xde\xd3\xe8\x78\xf9\x2b\xec\x2c\
+              \x9f\x5e\x2e\x88\xb9\xc7\xe6\x7e\x1b\x22\x96\x94\xef\x4b\x90\xf2";
+
+// The PCRs 0, 2, 4 and 7.
+const BOOT_PCRS: u32 = 0x95;
+
+const UNSEAL: u32 = 0x15e;
+
+fn secret(alloc: Global, policy_ref: &[u8]) -> Result<Assertion, NoMemory>
     ensures { IfOk result (λ assertion. HasPcrDigest assertion) }
 {
     Ok(Assertion::Secret {
         entity: Name::Handle(0x4000_0001),
-        policy_ref: Blob::from_slice(alloc, &POLICY_REF)?,
+        policy_ref: Blob::from_slice(alloc, policy_ref)?,
         cp_hash: None,
         expiration: 0,
     })
+}
+
+// The digest of values joined.
+fn digest_of_values(values: &[Digest32]) -> Digest32
+    ensures { result ≡ sha256_digest (joined values.now) }
+{
+    let mut hasher = Hasher::new();
+    for value in values {
+        hasher.put(&value.bytes);
+    }
+    hasher.done()
+}
+
+fn pcrs(mask: u32, values: Digests) -> Assertion
+    ensures { HasPcrDigest result }
+{
+    Assertion::Pcr {
+        mask,
+        pcr_digest: digest_of_values(values.as_slice()),
+        values,
+    }
 }
 
 fn before(
@@ -37,6 +91,7 @@ fn before(
     rest: ClosedElements,
 ) -> Result<ClosedElements, NoMemory>
     ensures lead { IfOk result (λ all. ApprovalsLeadElement true element → ApprovalsLead false rest → ApprovalsLead true all) }
+    ensures behind { IfOk result (λ all. ApprovalsLeadElement false element → ApprovalsLead false rest → ApprovalsLead false all) }
     ensures digests { IfOk result (λ all. EachAssertionOfElement HasPcrDigest element → EachAssertion HasPcrDigest rest → EachAssertion HasPcrDigest all) }
     ensures counts { IfOk result (λ all. ElementHasBranchCounts element → HasBranchCounts rest → HasBranchCounts all) }
 {
@@ -52,9 +107,10 @@ fn branch(alloc: Global, name: &str, elements: ClosedElements) -> Result<ClosedB
     })
 }
 
-// An OR of the branches "a" and "b".
+// An OR of two branches of these names.
 fn either(
     alloc: Global,
+    names: [&str; 2],
     first: ClosedElements,
     second: ClosedElements,
 ) -> Result<ClosedElement, NoMemory>
@@ -62,8 +118,8 @@ fn either(
     ensures digests { IfOk result (λ element. EachAssertion HasPcrDigest first → EachAssertion HasPcrDigest second → EachAssertionOfElement HasPcrDigest element) }
     ensures counts { IfOk result (λ element. HasBranchCounts first → HasBranchCounts second → ElementHasBranchCounts element) }
 {
-    let first = branch(alloc, "a", first)?;
-    let second = branch(alloc, "b", second)?;
+    let first = branch(alloc, names[0], first)?;
+    let second = branch(alloc, names[1], second)?;
     let last = ClosedBranches::More(
         Box::new(alloc, second)?,
         Box::new(alloc, ClosedBranches::End)?,
@@ -137,36 +193,206 @@ fn fact(event: u32, act: Move) -> Fact {
     }
 }
 
+// The facts open this path, with these event numbers.
+fn open(
+    rt: &impl Abort,
+    alloc: Global,
+    policy: &Closed,
+    approvals: &Approvals,
+    facts: &Facts,
+    number: u32,
+    numbers: &[u32],
+) -> Result<(), NoMemory>
+    requires well_formed { IsWellFormed policy.now approvals.now }
+{
+    assert!(rt; check_paths(policy, approvals).is_ok());
+    assert!(rt; is_sound(facts));
+    assert!(rt; lead_to(facts, policy));
+    match opening(alloc, policy, approvals, facts)? {
+        Opening::Branch { path, events } => {
+            assert_eq!(rt; path, number);
+            assert_eq!(rt; events.as_slice(), numbers);
+        }
+        Opening::Clash { .. } | Opening::ZeroInput { .. } => assert!(rt; false),
+    }
+    Ok(())
+}
+
+// An OR of two branches, as a policy.
+fn policy_of_two(
+    alloc: Global,
+    names: [&str; 2],
+    first: ClosedElements,
+    second: ClosedElements,
+) -> Result<Closed, NoMemory>
+    ensures lead { IfOk result (λ policy. ApprovalsLead true first → ApprovalsLead true second → ApprovalsLead true policy.elements) }
+    ensures digests { IfOk result (λ policy. EachAssertion HasPcrDigest first → EachAssertion HasPcrDigest second → EachAssertion HasPcrDigest policy.elements) }
+    ensures counts { IfOk result (λ policy. HasBranchCounts first → HasBranchCounts second → HasBranchCounts policy.elements) }
+{
+    let or = either(alloc, names, first, second)?;
+    Ok(Closed {
+        elements: before(alloc, or, ClosedElements::End)?,
+    })
+}
+
+// One assertion.
+fn one(alloc: Global, assertion: Assertion) -> Result<ClosedElements, NoMemory>
+    ensures lead { IfOk result (λ all. ApprovalsLead true all) }
+    ensures digests { IfOk result (λ all. HasPcrDigest assertion → EachAssertion HasPcrDigest all) }
+    ensures counts { IfOk result (λ all. HasBranchCounts all) }
+{
+    before(alloc, ClosedElement::Assert(assertion), ClosedElements::End)
+}
+
+// Two assertions.
+fn two(alloc: Global, first: Assertion, second: Assertion) -> Result<ClosedElements, NoMemory>
+    ensures lead { IfOk result (λ all. ApprovalsLead true all) }
+    ensures digests { IfOk result (λ all. HasPcrDigest first → HasPcrDigest second → EachAssertion HasPcrDigest all) }
+    ensures counts { IfOk result (λ all. HasBranchCounts all) }
+{
+    let rest = before(alloc, ClosedElement::Assert(second), ClosedElements::End)?;
+    before(alloc, ClosedElement::Assert(first), rest)
+}
+
+fn two_digests(alloc: Global, first: Digest32, second: Digest32) -> Result<Digests, NoMemory> {
+    let mut digests = Digests::new(alloc);
+    digests.push(first)?;
+    digests.push(second)?;
+    Ok(digests)
+}
+
 // A PolicySecret whose policyRef is the bytes of a PolicyCommandCode update, and then the OR.
 #[test]
 fn policy_ref_like_a_command_code(rt: HostRuntime) -> Result<(), Fail> {
     let alloc = rt.alloc();
-    let first = before(
-        alloc,
-        ClosedElement::Assert(secret(alloc)?),
-        ClosedElements::End,
-    )?;
-    let auth_value = ClosedElement::Assert(Assertion::AuthValue);
-    let second = before(alloc, auth_value, ClosedElements::End)?;
-    let policy = Closed {
-        elements: before(alloc, either(alloc, first, second)?, ClosedElements::End)?,
-    };
+    let first = one(alloc, secret(alloc, &POLICY_REF)?)?;
+    let second = one(alloc, Assertion::AuthValue)?;
+    let policy = policy_of_two(alloc, ["a", "b"], first, second)?;
     let approvals = Approvals::new(alloc);
-    let mut digests = Digests::new(alloc);
-    digests.push(extend(Digest32::ZERO, &secret(alloc)?))?;
-    digests.push(extend(Digest32::ZERO, &Assertion::AuthValue))?;
+    let digests = two_digests(
+        alloc,
+        Digest32 {
+            bytes: *SECRET_OF_OWNER,
+        },
+        Digest32 { bytes: *AUTH_VALUE },
+    )?;
     let mut facts = Facts::new(alloc)?;
-    facts.push(fact(2, Move::Assert(secret(alloc)?)));
+    facts.push(fact(2, Move::Assert(secret(alloc, &POLICY_REF)?)));
     facts.push(fact(3, Move::Or(digests)));
-    assert!(rt; check_paths(&policy, &approvals).is_ok());
-    assert!(rt; is_sound(&facts));
-    assert!(rt; lead_to(&facts, &policy));
-    match opening(alloc, &policy, &approvals, &facts)? {
-        Opening::Branch { path, events } => {
-            assert_eq!(rt; path, 1);
-            assert_eq!(rt; events.as_slice(), [2, 3].as_slice());
-        }
-        Opening::Clash { .. } | Opening::ZeroInput { .. } => assert!(rt; false),
-    }
+    open(&rt, alloc, &policy, &approvals, &facts, 1, &[2, 3])?;
+    Ok(())
+}
+
+// The values of four PCRs and the authorization value, or the owner's secret for an Unseal.
+fn disk(alloc: Global) -> Result<Closed, NoMemory>
+    ensures { IfOk result (λ policy. IsWellFormedPolicy policy) }
+{
+    let values = Digests::from_slice(alloc, &[Digest32::ZERO; 4])?;
+    let boot = two(alloc, pcrs(BOOT_PCRS, values), Assertion::AuthValue)?;
+    let owner = two(alloc, secret(alloc, &[])?, Assertion::CommandCode(UNSEAL))?;
+    policy_of_two(alloc, ["boot", "owner"], boot, owner)
+}
+
+fn disk_digests(alloc: Global) -> Result<Digests, NoMemory> {
+    two_digests(alloc, Digest32 { bytes: *BOOT }, Digest32 { bytes: *OWNER })
+}
+
+#[test]
+fn disk_by_its_first_branch(rt: HostRuntime) -> Result<(), Fail> {
+    let alloc = rt.alloc();
+    let policy = disk(alloc)?;
+    let approvals = Approvals::new(alloc);
+    let boot_pcrs = Assertion::Pcr {
+        mask: BOOT_PCRS,
+        pcr_digest: Digest32 {
+            bytes: *FOUR_ZERO_PCRS,
+        },
+        values: Digests::new(alloc),
+    };
+    let mut facts = Facts::new(alloc)?;
+    facts.push(fact(2, Move::Assert(boot_pcrs)));
+    facts.push(fact(3, Move::Assert(Assertion::AuthValue)));
+    facts.push(fact(4, Move::Or(disk_digests(alloc)?)));
+    open(&rt, alloc, &policy, &approvals, &facts, 1, &[2, 3, 4])?;
+    Ok(())
+}
+
+#[test]
+fn disk_by_its_second_branch(rt: HostRuntime) -> Result<(), Fail> {
+    let alloc = rt.alloc();
+    let policy = disk(alloc)?;
+    let approvals = Approvals::new(alloc);
+    let mut facts = Facts::new(alloc)?;
+    facts.push(fact(3, Move::Assert(secret(alloc, &[])?)));
+    facts.push(fact(4, Move::Assert(Assertion::CommandCode(UNSEAL))));
+    facts.push(fact(5, Move::Or(disk_digests(alloc)?)));
+    open(&rt, alloc, &policy, &approvals, &facts, 2, &[3, 4, 5])?;
+    Ok(())
+}
+
+fn approver() -> Name {
+    Name::Hash(Digest32 { bytes: *KEY })
+}
+
+// A document of one assertion that the key approved.
+fn approved(alloc: Global, name: &str, assertion: Assertion) -> Result<ApprovedDoc, NoMemory>
+    ensures { IfOk result (λ document. HasPcrDigest assertion → IsWellFormedDocument document) }
+{
+    let closed = Closed {
+        elements: one(alloc, assertion)?,
+    };
+    let digest = digest_of(&closed);
+    let by = ApprovedBy::Key {
+        key: approver(),
+        policy_ref: Blob::new(alloc),
+        signature: Digest32 { bytes: [0xa5; 32] },
+    };
+    Ok(ApprovedDoc {
+        document: Text::from_str(alloc, name)?,
+        by,
+        closed,
+        digest,
+    })
+}
+
+// The value of PCR 0, and the authorization value in its place.
+fn versions(alloc: Global) -> Result<Approvals, NoMemory>
+    ensures { IfOk result (λ approvals. All IsWellFormedDocument approvals) }
+{
+    let values = Digests::from_slice(alloc, &[Digest32 { bytes: [0xff; 32] }])?;
+    let mut approvals = Approvals::new(alloc);
+    approvals.push(approved(alloc, "v1", pcrs(1, values))?)?;
+    approvals.push(approved(alloc, "v2", Assertion::AuthValue)?)?;
+    Ok(approvals)
+}
+
+// Whatever the key approves.
+fn base(alloc: Global) -> Result<Closed, NoMemory>
+    ensures { IfOk result (λ policy. IsWellFormedPolicy policy) }
+{
+    let authorize = ClosedElement::Authorize {
+        key: approver(),
+        policy_ref: Blob::new(alloc),
+    };
+    Ok(Closed {
+        elements: before(alloc, authorize, ClosedElements::End)?,
+    })
+}
+
+#[test]
+fn second_approved_document(rt: HostRuntime) -> Result<(), Fail> {
+    let alloc = rt.alloc();
+    let policy = base(alloc)?;
+    let approvals = versions(alloc)?;
+    let approve = Move::Approve {
+        key: approver(),
+        policy_ref: Blob::new(alloc),
+        approved: Digest32 { bytes: *AUTH_VALUE },
+        signature: Digest32::ZERO,
+    };
+    let mut facts = Facts::new(alloc)?;
+    facts.push(fact(2, Move::Assert(Assertion::AuthValue)));
+    facts.push(fact(4, approve));
+    open(&rt, alloc, &policy, &approvals, &facts, 2, &[2, 4])?;
     Ok(())
 }
