@@ -5,7 +5,7 @@ ghost use Rattle.std.specs.Option.{option_copied};
 ghost use Rattle.std.specs.List.{IsDistinct};
 ghost use Rattle.tpm_nv.specs.Contents.{HasContent};
 ghost use Rattle.tpm_nv.specs.Counters.{greatest_count};
-ghost use Rattle.tpm_nv.specs.Indices.{counter_rule, incremented_at, index_of, rule_of, written_at};
+ghost use Rattle.tpm_nv.specs.Indices.{count_after, counter_rule, incremented_at, index_of, rule_of, written_at};
 ghost use Rattle.tpm_nv.specs.Rules.{read_rule, write_rule};
 
 use crate::contents::write_at;
@@ -98,6 +98,18 @@ impl NvTable {
         check_write(self.entry_at(index), offset, bytes.len())?;
         self.overwrite(index, offset as usize, bytes);
         Ok(())
+    }
+
+    /// The count of a counter after an increment; one that was never written goes on from the greatest count
+    /// of all written counters, or from 0 (TPM 2.0 Part 3, TPM2_NV_Increment). Refuses as `next_count`.
+    pub fn next_count(&self, index: u32) -> Result<u64, Rc>
+        requires there { IsSome (index_of index self.now) }
+        ensures next { IfOk result (λ next. next ≡ count_after index self.now) }
+        ensures ok { OnOk result (rule_of (counter_rule self.now) index self.now ≡ None) }
+        ensures refused { IfErr result (λ rc. rule_of (counter_rule self.now) index self.now ≡ Some rc.code) }
+    {
+        let greatest = self.greatest_count();
+        next_count(self.entry_at(index), greatest)
     }
 
     /// Raises a counter by one and sets WRITTEN; one that was never written goes on from the greatest count

@@ -4,6 +4,7 @@ pub mod Inputs
 pub mod Laws
 pub mod Limits
 pub mod Paths
+pub mod Pieces
 pub mod Positions
 pub mod Sound
 pub mod Update

@@ -1,12 +1,13 @@
 -- What each move of a policy hashes (TPM 2.0 Part 3, the policy commands), once, as data.
-use Rattle.std.specs.Prelude.{ℕ, Bool, true, false, List, [], ◌∷◌, ◌++◌, take, Option, Some, None}
-use Rattle.std.specs.Int.{to_be_bytes, to_le_bytes, w16, w32}
+use Rattle.std.specs.Prelude.{ℕ, Bool, true, false, List, [], ◌∷◌, ◌++◌, Option, Some, None}
+use Rattle.std.specs.Int.{to_be_bytes, w16, w32}
 use Rattle.std.specs.List.{flat_map}
 use Rattle.tpol_base.specs.declared.digest.Digest32.{Digest32}
 use Rattle.tpol_base.specs.declared.name.Name.{Name}
 use Rattle.tpol_base.specs.declared.compare.Compare.{Compare}
 use Rattle.tpol_base.specs.Name.{name_bytes}
 use Rattle.tpol_base.specs.Compare.{number_of_compare}
+pub use Rattle.tpol_base.specs.Pcr.{pcr_selection}
 use Rattle.tpol_tree.specs.declared.closed.Assertion.{Assertion}
 use Rattle.tpol_tree.specs.declared.closed.Assertion.TheVariants.{Pcr, Nv, Secret, Signed, CounterTimer, CommandCode, Locality, CpHash, NameHash, NvWritten, AuthValue, Password, PhysicalPresence, Duplication}
 use Rattle.tpol_tree.specs.declared.path.Move.{Move}
@@ -40,10 +41,6 @@ two_hashes code rest policy_ref = record { fresh = false; code = code; inner = N
 -- the same from 32 zero bytes
 abbrev pub from_zero : Update → Update
 from_zero s = record s { fresh = true }
-
--- a selection of SHA-256 PCRs (TPM 2.0 Part 2, TPML_PCR_SELECTION): PCR n is bit n mod 8 of byte n / 8
-abbrev pub pcr_selection : ℕ → List ℕ
-pcr_selection mask = 0 ∷ 0 ∷ 0 ∷ 1 ∷ 0 ∷ 0x0b ∷ 3 ∷ take 3 (to_le_bytes w32 mask)
 
 -- what PolicyNV and PolicyCounterTimer compare with, and how
 abbrev pub comparison : List ℕ → ℕ → Compare → List ℕ

@@ -16,6 +16,7 @@ mod inputs;
 mod laws;
 mod limits;
 mod moves;
+mod pieces;
 mod policy;
 #[cfg(test)]
 mod tests;

@@ -3,12 +3,13 @@
 
 ghost use Rattle.std.specs.Prelude.{◌≡◌, ◌++◌};
 ghost use Rattle.std.specs.Int.{to_be_bytes, w16, w32};
+ghost use Rattle.std.specs.Option.{option_copied};
 ghost use Rattle.tpol_base.specs.Compare.{number_of_compare};
 ghost use Rattle.tpol_base.specs.Name.{name_bytes};
 ghost use Rattle.tpol_hash.specs.Sha256.{sha256_digest};
 ghost use Rattle.tpol_hash.specs.Messages.{Holds};
-ghost use Rattle.tpol_digest.specs.Update.{comparison, one_hash, pcr_selection, two_hashes};
-ghost use Rattle.tpol_digest.specs.Digest.{after_update};
+ghost use Rattle.tpol_digest.specs.Digest.{after_second, after_update};
+ghost use Rattle.tpol_digest.specs.Update.{two_hashes};
 
 use tpol_base::{Blob, Compare, Digest32, Name};
 use tpol_hash::Hasher;
@@ -23,36 +24,33 @@ pub fn start(old: &Digest32, code: u32) -> Hasher
     hasher
 }
 
-// The digest after a command that hashes these bytes behind its code.
-pub fn hash_once(old: &Digest32, code: u32, rest: &[u8]) -> Digest32
-    ensures { result ≡ after_update (one_hash code rest.now) old.now }
-{
-    let mut hasher = start(old, code);
-    hasher.put(rest);
-    hasher.done()
-}
-
 // The digest after a command that hashes a Name, and then the first digest with the policyRef.
 pub fn hash_twice(old: &Digest32, code: u32, name: &Name, policy_ref: &Blob) -> Digest32
     ensures { result ≡ after_update (two_hashes code (name_bytes name.now) policy_ref.now) old.now }
 {
     let mut hasher = start(old, code);
     hasher.put_name(name);
-    let first = hasher.done();
-    let mut second = Hasher::new();
-    second.put(&first.bytes);
-    second.put(policy_ref.as_slice());
-    second.done()
+    hash_again(hasher.done(), Some(policy_ref))
 }
 
-// The bytes of a selection of SHA-256 PCRs.
-pub fn selection_bytes(mask: u32) -> [u8; 10]
-    ensures { result ≡ pcr_selection mask }
+// The digest after a second hash with the policyRef, if there is one.
+pub fn hash_again(first: Digest32, policy_ref: Option<&Blob>) -> Digest32
+    ensures { result ≡ after_second (option_copied policy_ref.entry) first }
 {
-    let [first, second, third, _] = mask.to_le_bytes();
-    [
-        0x00, 0x00, 0x00, 0x01, 0x00, 0x0b, 0x03, first, second, third,
-    ]
+    match policy_ref {
+        None => first,
+        Some(policy_ref) => digest_of_two(&first.bytes, policy_ref.as_slice()),
+    }
+}
+
+// The digest of two strings joined.
+pub fn digest_of_two(front: &[u8], behind: &[u8]) -> Digest32
+    ensures { result ≡ sha256_digest (front.now ++ behind.now) }
+{
+    let mut hasher = Hasher::new();
+    hasher.put(front);
+    hasher.put(behind);
+    hasher.done()
 }
 
 // The bytes behind the operand of a comparison.
@@ -62,14 +60,4 @@ pub fn comparison_end(offset: u16, operation: Compare) -> [u8; 4]
     let [high, low] = offset.to_be_bytes();
     let [number_high, number_low] = operation.number().to_be_bytes();
     [high, low, number_high, number_low]
-}
-
-// The digest of what PolicyNV and PolicyCounterTimer compare with, and how.
-pub fn comparison_digest(operand: &Blob, offset: u16, operation: Compare) -> Digest32
-    ensures { result ≡ sha256_digest (comparison operand.now offset operation) }
-{
-    let mut hasher = Hasher::new();
-    hasher.put(operand.as_slice());
-    hasher.put(&comparison_end(offset, operation));
-    hasher.done()
 }

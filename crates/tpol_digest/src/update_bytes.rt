@@ -1,14 +1,14 @@
 // What a move hashes, as bytes; the strings of its hashes follow from it.
 
-ghost use Rattle.std.specs.Prelude.{◌≡◌, ◌++◌, [], IfOk};
+ghost use Rattle.std.specs.Prelude.{◌≡◌, IfOk};
 ghost use Rattle.tpol_base.specs.Name.{name_bytes};
 ghost use Rattle.tpol_digest.specs.Update as spec;
 ghost use Rattle.tpol_digest.specs.UpdateBytes.{update_value};
 
 use crate::command_code::{self, code_of_assertion};
-use crate::update::{comparison_end, selection_bytes};
+use crate::pieces::{comparison_of, policy_ref_of, rest_of};
 use std::alloc::Global;
-use tpol_base::{Blob, Compare, Digest32, Digests, Name, NoMemory};
+use tpol_base::{Blob, Digests, Name, NoMemory};
 use tpol_tree::{Assertion, Move};
 
 /// What a policy command hashes (TPM 2.0 Part 3, the policy commands). The new digest is
@@ -61,118 +61,44 @@ fn two_hashes(
     })
 }
 
-// A command that compares an operand, and hashes the digest of the comparison in front of the rest.
-fn comparison(
-    alloc: Global,
-    code: u32,
-    operand: &Blob,
-    offset: u16,
-    operation: Compare,
-    rest: Blob,
-) -> Result<UpdateBytes, NoMemory>
-    ensures { IfOk result (λ update. update_value update
-        ≡ spec.hash_of_inner code (spec.comparison operand.now offset operation) rest) }
-{
-    let mut inner = Blob::from_slice(alloc, operand.as_slice())?;
-    inner.extend_from_slice(&comparison_end(offset, operation))?;
-    Ok(UpdateBytes {
-        fresh: false,
-        code,
-        inner: Some(inner),
-        rest,
-        policy_ref: None,
-    })
-}
-
-fn pcr(alloc: Global, mask: u32, pcr_digest: &Digest32) -> Result<UpdateBytes, NoMemory>
-    ensures { IfOk result (λ update. update_value update
-        ≡ spec.one_hash 0x17f (spec.pcr_selection mask ++ pcr_digest.now.bytes)) }
-{
-    let mut rest = Blob::from_slice(alloc, &selection_bytes(mask))?;
-    rest.extend_from_slice(&pcr_digest.bytes)?;
-    Ok(one_hash(command_code::POLICY_PCR, rest))
-}
-
-fn duplication(
-    alloc: Global,
-    object: &Name,
-    parent: &Name,
-    include: bool,
-) -> Result<UpdateBytes, NoMemory>
-    ensures { IfOk result (λ update. update_value update
-        ≡ spec.one_hash 0x188 (spec.duplication include (name_bytes object.now) (name_bytes parent.now))) }
-{
-    let second = parent.to_bytes(alloc)?;
-    let mut rest = if include {
-        object.to_bytes(alloc)?
-    } else {
-        Blob::new(alloc)
-    };
-    rest.extend_from_slice(second.as_slice())?;
-    rest.extend_from_slice(&[u8::from(include)])?;
-    Ok(one_hash(command_code::POLICY_DUPLICATION_SELECT, rest))
-}
-
 /// What an assertion hashes.
 pub fn update_of_assertion(alloc: Global, assertion: &Assertion) -> Result<UpdateBytes, NoMemory>
     ensures { IfOk result (λ update. update_value update ≡ spec.update_of_assertion assertion.now) }
 {
-    let code = code_of_assertion(assertion);
-    match assertion {
-        Assertion::Pcr {
-            mask,
-            pcr_digest,
-            ..
-        } => pcr(alloc, *mask, pcr_digest),
-        Assertion::Nv {
-            index,
-            operand,
-            offset,
-            operation,
-        } => {
-            let rest = index.to_bytes(alloc)?;
-            comparison(alloc, code, operand, *offset, *operation, rest)
+    let rest = rest_of(assertion).to_bytes(alloc)?;
+    let inner = comparison(alloc, assertion)?;
+    let policy_ref = policy_ref(alloc, assertion)?;
+    Ok(UpdateBytes {
+        fresh: false,
+        code: code_of_assertion(assertion),
+        inner,
+        rest,
+        policy_ref,
+    })
+}
+
+// What an assertion compares with, if it does, as a string.
+fn comparison(alloc: Global, assertion: &Assertion) -> Result<Option<Blob>, NoMemory>
+    ensures { IfOk result (λ inner. inner ≡ (spec.update_of_assertion assertion.now).inner) }
+{
+    match comparison_of(assertion) {
+        None => Ok(None),
+        Some(compared) => {
+            let mut inner = Blob::from_slice(alloc, compared.0.as_slice())?;
+            inner.extend_from_slice(&compared.1)?;
+            Ok(Some(inner))
         }
-        Assertion::Secret {
-            entity: name,
-            policy_ref,
-            ..
-        }
-        | Assertion::Signed {
-            key: name,
-            policy_ref,
-            ..
-        } => two_hashes(alloc, code, name, policy_ref),
-        Assertion::CounterTimer {
-            operand,
-            offset,
-            operation,
-        } => { comparison(alloc, code, operand, *offset, *operation, Blob::new(alloc)) }
-        Assertion::CommandCode(command) => hashed(alloc, code, &command.to_be_bytes()),
-        Assertion::Locality(localities) => hashed(alloc, code, &[*localities]),
-        Assertion::CpHash(digest) | Assertion::NameHash(digest) => hashed(
-            alloc,
-            code,
-            &digest.bytes,
-        ),
-        Assertion::NvWritten(written) => hashed(alloc, code, &[u8::from(*written)]),
-        Assertion::AuthValue | Assertion::Password | Assertion::PhysicalPresence => {
-            hashed(alloc, code, &[])
-        }
-        Assertion::Duplication {
-            object,
-            parent,
-            include,
-        } => duplication(alloc, object, parent, *include),
     }
 }
 
-// A command that hashes a copy of these bytes behind its code.
-fn hashed(alloc: Global, code: u32, rest: &[u8]) -> Result<UpdateBytes, NoMemory>
-    ensures { IfOk result (λ update. update_value update ≡ spec.one_hash code rest.now) }
+// A copy of what an assertion's second hash takes, if there is one.
+fn policy_ref(alloc: Global, assertion: &Assertion) -> Result<Option<Blob>, NoMemory>
+    ensures { IfOk result (λ policy_ref. policy_ref ≡ (spec.update_of_assertion assertion.now).policy_ref) }
 {
-    let rest = Blob::from_slice(alloc, rest)?;
-    Ok(one_hash(code, rest))
+    match policy_ref_of(assertion) {
+        None => Ok(None),
+        Some(policy_ref) => Ok(Some(Blob::from_slice(alloc, policy_ref.as_slice())?)),
+    }
 }
 
 /// What an OR hashes.

@@ -1,2 +1,3 @@
 mod Causes
 mod GoalLaws
+pub mod Ending

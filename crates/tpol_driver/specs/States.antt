@@ -22,5 +22,6 @@ IsNext plan standing (states.Asserting state) =
     (state ≡ record { plan = plan; standing = standing }) × (is_over standing ≡ false)
 IsNext plan standing (states.Ready state) =
     (state ≡ record { plan = plan; standing = standing }) × (is_over standing ≡ false)
-IsNext plan standing (states.Closing state) = (state ≡ standing) × (is_over standing ≡ false)
+IsNext plan standing (states.Closing state) =
+    (state ≡ record { plan = plan; standing = standing }) × (is_over standing ≡ false)
 IsNext plan standing (states.Over over) = standing ≡ Over over.end

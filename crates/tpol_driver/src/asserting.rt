@@ -111,7 +111,7 @@ fn goes_on(plan: Plan, session: Session, sent: u32, done: usize, heard: Heard) -
             done,
         }),
         Heard::Accepted => accepted(plan, session, sent + 1, done + 1),
-        Heard::Failed(end) => Next::Closing(Closing::new(session.handle, end)),
+        Heard::Failed(end) => Next::Closing(Closing::new(plan, session.handle, end)),
     }
 }
 

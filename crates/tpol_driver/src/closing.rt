@@ -3,40 +3,41 @@
 ghost use Rattle.std.specs.Prelude.{◌≡◌, IfOk, IfErr};
 ghost use Rattle.tpol_driver.specs.Driving.{Closing as StandsClosing, hears, sends};
 ghost use Rattle.tpol_driver.specs.States.{IsNext, IsSent};
-ghost use Rattle.tpol_driver.specs.declared.plan.Plan.{Plan as PlanOf};
 
 use crate::end::End;
 use crate::next::{Next, Over};
+use crate::plan::Plan;
 use std::alloc::Global;
 use std::marker::Model;
 use tpol_base::{Blob, NoMemory};
 use tpol_wire::{Command, write_command};
 
-/// A run whose end is known, before its session is ended. Contracts see where it stands.
+/// A run whose end is known, before its session is ended.
 #[derive(Drop)]
 pub struct Closing {
+    plan: Plan,
     session: u32,
     end: End,
 }
 
 impl Model for Closing {
-    ghost use Rattle.tpol_driver.specs.Driving.{Standing, Closing as StandsClosing};
+    ghost use Rattle.tpol_driver.specs.Driving.{Driving, Closing as StandsClosing};
 
-    ghost Value = { Standing };
+    ghost Value = { Driving };
 
-    ghost view = { λ c. StandsClosing c.session c.end };
+    ghost view = { λ c. record { plan = c.plan; standing = StandsClosing c.session c.end } };
 }
 
 impl Closing {
-    pub(crate) fn new(session: u32, end: End) -> Closing
-        ensures { result ≡ StandsClosing session end }
+    pub(crate) fn new(plan: Plan, session: u32, end: End) -> Closing
+        ensures { result ≡ record { plan = plan; standing = StandsClosing session end } }
     {
-        Closing { session, end }
+        Closing { plan, session, end }
     }
 
     /// The next command: FlushContext of the session.
     pub fn next(&self, alloc: Global) -> Result<Blob, NoMemory>
-        ensures sends { (plan : PlanOf) → IfOk result (IsSent (sends plan self.now)) }
+        ensures sends { IfOk result (IsSent (sends self.now.plan self.now.standing)) }
     {
         let command = Command::FlushContext {
             session: self.session,
@@ -46,7 +47,7 @@ impl Closing {
 
     /// Ends the run with the end that is known, whatever is answered.
     pub fn take(self, _alloc: Global, reply: &[u8]) -> Result<Next, (Closing, NoMemory)>
-        ensures next { (plan : PlanOf) → IfOk result (IsNext plan (hears plan self reply.now)) }
+        ensures next { IfOk result (IsNext self.plan (hears self.plan self.standing reply.now)) }
         ensures back { IfErr result (λ refused. refused.0 ≡ self) }
     {
         let Closing { end, .. } = self;

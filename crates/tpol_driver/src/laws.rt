@@ -1,6 +1,6 @@
 //! What the definitions promise together: functions without a body, whose clauses are the laws.
 
-ghost use Rattle.std.specs.Prelude.{◌≡◌, ◌⊎◌, ◌++◌, ◌∷◌, [], List, None, ℕ};
+ghost use Rattle.std.specs.Prelude.{◌≡◌, ◌≤◌, ◌+◌, ◌*◌, ◌⊎◌, ◌++◌, ◌∷◌, [], List, None, length, true, ℕ};
 ghost use Rattle.tpol_base.specs.CommandCode.{number_of_code};
 ghost use Rattle.tpol_base.specs.declared.digest.Digest32.{Digest32};
 ghost use Rattle.tpol_base.specs.declared.name.Name.{Name};
@@ -9,6 +9,7 @@ ghost use Rattle.tpol_base.specs.declared.command_code.CommandCode.TheVariants a
 ghost use Rattle.tpol_driver.specs.Answers.{answer_of};
 ghost use Rattle.tpol_driver.specs.Causes.{HasWrongArea, IsBytes};
 ghost use Rattle.tpol_driver.specs.Driving.{Over, drive, goal_heard, hears, move_heard, sends, start_heard, stands_after};
+ghost use Rattle.tpol_driver.specs.States.{is_over};
 ghost use Rattle.tpol_driver.specs.declared.end.End.TheVariants as ends;
 ghost use Rattle.tpol_driver.specs.declared.end.Stage.TheVariants as stages;
 ghost use Rattle.tpol_goal.specs.Goals.{code_of_goal};
@@ -21,6 +22,12 @@ ghost use Rattle.tpol_driver.specs.declared.step.Heard.TheVariants.{Failed};
 pub fn driving_goes_on()
     ensures stands { (plan : Plan) (replies : List (List ℕ)) (reply : List ℕ) → stands_after plan (replies ++ reply ∷ []) ≡ hears plan (stands_after plan replies) reply }
     ensures drives { (plan : Plan) (replies : List (List ℕ)) (reply : List ℕ) → drive plan (replies ++ reply ∷ []) ≡ sends plan (hears plan (stands_after plan replies) reply) }
+{}
+
+/// A run ends, whatever is replied: it has at most two commands for each move, and the start, the goal and the
+/// end of its session.
+pub fn driving_ends()
+    ensures { (plan : Plan) (replies : List (List ℕ)) → 2 * length plan.path.moves + 4 ≤ length replies → is_over (stands_after plan replies) ≡ true }
 {}
 
 /// A reply is bad only where it is no reply to the command, or where the goal's authorization is wrong: what is

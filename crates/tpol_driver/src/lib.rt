@@ -25,7 +25,7 @@ mod tests;
 pub use asserting::Asserting;
 pub use closing::Closing;
 pub use end::{End, Stage};
-pub use laws::{bad_replies_have_their_causes, driving_goes_on};
+pub use laws::{bad_replies_have_their_causes, driving_ends, driving_goes_on};
 pub use next::{Next, Over};
 pub use plan::Plan;
 pub use planned::Planned;

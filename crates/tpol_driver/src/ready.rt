@@ -2,7 +2,6 @@
 
 ghost use Rattle.std.specs.Prelude.{◌≡◌, length, IfOk, IfErr};
 ghost use Rattle.tpol_driver.specs.Driving.{Moving, after_goal, hears, sends};
-ghost use Rattle.tpol_driver.specs.declared.plan.Plan.{Plan as PlanOf};
 ghost use Rattle.tpol_driver.specs.States.{IsNext, IsSent};
 
 use crate::closing::Closing;
@@ -59,21 +58,28 @@ impl Ready {
         ensures back { IfErr result (λ refused. refused.0 ≡ self) }
     {
         match goal_use::hear(alloc, &self.plan, self.sent, reply) {
-            Ok(end) => Ok(after(self.session.handle, end)),
+            Ok(end) => {
+                let Ready { plan, session, .. } = self;
+                Ok(after(plan, session.handle, end))
+            }
             Err(no_memory) => Err((self, no_memory)),
         }
     }
 }
 
 // The state after the goal's command: a served goal has ended the session.
-fn after(session: u32, end: End) -> Next
-    ensures { (plan : PlanOf) → IsNext plan (after_goal session end) result }
+fn after(plan: Plan, session: u32, end: End) -> Next
+    ensures { IsNext plan (after_goal session end) result }
 {
     match end {
         End::Served(bytes) => Next::Over(Over {
             end: End::Served(bytes),
         }),
-        End::Denied { at, rc } => Next::Closing(Closing::new(session, End::Denied { at, rc })),
-        End::BadReply(stage) => Next::Closing(Closing::new(session, End::BadReply(stage))),
+        End::Denied { at, rc } => Next::Closing(Closing::new(
+            plan,
+            session,
+            End::Denied { at, rc },
+        )),
+        End::BadReply(stage) => Next::Closing(Closing::new(plan, session, End::BadReply(stage))),
     }
 }

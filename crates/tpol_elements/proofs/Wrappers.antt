@@ -10,7 +10,7 @@ use Rattle.tpol_json.specs.declared.place.Place.{Place}
 use Rattle.tpol_json.specs.Places.{at_member}
 use Rattle.tpol_elements.specs.declared.walk.Walk.{Walk}
 use Rattle.tpol_elements.specs.Faults.{Found}
-use Rattle.tpol_elements.specs.Publics.{then_noted, through, through_member}
+use Rattle.tpol_elements.specs.Publics.{then_noted, through, through_member, through_wrapped, ThroughLooksUp}
 use Rattle.tpol_elements.specs.Walks.{Reading}
 
 chosen : (order : Ordering) (o p : Option Data) (e : Data) (m n : ℕ) → (o ≡ Some e → depth e ≤ n) → (p ≡ Some e → depth e ≤ m) → match_ordering order o p o ≡ Some e → depth e ≤ max m n
@@ -72,3 +72,11 @@ module _ {A : Type 0} (name : List ℕ) (read : Data → Place → Reading A) wh
   through-none (string s) place walk h = refl
   through-none (array ds) place walk h = refl
   through-none (object ms) place walk h = through_member-none (object ms) ms place walk h
+
+-- a wrapper is found by a look-up of its member
+pub through-looks-up : (A : Type 0) → ThroughLooksUp A
+through-looks-up A name read d place walk = by_member (get name d) refl
+  where
+    by_member : (o : Option Data) → get name d ≡ o → through name read d place walk ≡ through_wrapped name read o d place walk
+    by_member None h = through-none name read d place walk h
+    by_member (Some e) h = through-some name read d place walk e h

@@ -1,8 +1,9 @@
 -- Public areas of keys and of indices.
-use Rattle.std.specs.Prelude.{ℕ, List, [], ◌∷◌, codes, Bool, Ok, ⊤}
+use Rattle.std.specs.Prelude.{◌≡◌, ℕ, List, [], ◌∷◌, codes, Bool, Option, Some, None, Ok, ⊤}
 use Rattle.std.specs.Ordering.{nat_cmp, match_ordering}
 use Rattle.std.specs.Cmp.Lexicographic.{slice_cmp}
 use Rattle.serde_json.specs.Data.{Data, null, boolean, number, string, array, object, Members, no_members, member}
+use Rattle.serde_json.specs.Find.{get}
 use Rattle.tpol_json.specs.declared.place.Place.{Place}
 use Rattle.tpol_json.specs.Places.{at_member}
 use Rattle.tpol_elements.specs.declared.walk.Walk.{Walk}
@@ -35,6 +36,16 @@ unfoldable mutual
   through_member name read whole (member other d ms) place walk =
       match_ordering (slice_cmp nat_cmp name other) (through_member name read whole ms place walk)
       (then_noted name whole place (through name read d (at_member place name) walk)) (through_member name read whole ms place walk)
+
+-- What that is, by a look-up of the member: without it the value is read as it is, and else what it wraps, with
+-- the value's other members noted after that.
+abbrev pub through_wrapped : {A : Type 0} → List ℕ → (Data → Place → Reading A) → Option Data → Data → Place → Reading A
+through_wrapped name read None d place walk = read d place walk
+through_wrapped name read (Some wrapped) d place walk = then_noted name d place (through name read wrapped (at_member place name) walk)
+
+abbrev pub ThroughLooksUp : Type 0 → Type 0
+ThroughLooksUp A =
+    (name : List ℕ) (read : Data → Place → Reading A) (d : Data) (place : Place) (walk : Walk) → through name read d place walk ≡ through_wrapped name read (get name d) d place walk
 
 unfoldable pub key_type_member : Data → Place → Found ⊤
 key_type_member = needed key_type_in (codes "type")

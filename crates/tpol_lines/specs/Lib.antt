@@ -1,4 +1,10 @@
+pub mod BlockLine
+pub mod Events
+pub mod Generated
+pub mod Hex
 pub mod Lines
+pub mod OpeningLine
 pub mod PathLine
 pub mod Pen
+pub mod Runs
 pub mod Texts

@@ -35,7 +35,7 @@ IsDistinct-last {K} e flips xs k distinct none =
     let P : List K → Type 0 = λ l. IsDistinct e l in
     IsDistinct-insert e flips xs [] k (subst P (sym (append-nil xs)) distinct) (ap (list_any (λ x. e x k)) (append-nil xs) ∙ none)
 
-handles-push : {X : Type 0} (handle : X → ℕ) (xs : List X) (x : X) → IsDistinct nat_eq (map handle xs)
+pub handles-push : {X : Type 0} (handle : X → ℕ) (xs : List X) (x : X) → IsDistinct nat_eq (map handle xs)
     → list_any (λ y. handle y == handle x) xs ≡ false → IsDistinct nat_eq (map handle (xs ++ x ∷ []))
 handles-push handle xs x distinct none =
     let P : List ℕ → Type 0 = λ l. IsDistinct nat_eq l in

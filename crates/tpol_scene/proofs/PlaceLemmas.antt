@@ -17,16 +17,13 @@ use Rattle.tpol_name.specs.declared.entries.ObjectEntry.{ObjectEntry}
 use Rattle.tpol_scene.specs.Entities.{entities_in, entity_by, entity_in, heading_in, index_behind, index_entry_in, no_entities, object_behind, object_entry_in, policies_with}
 use Rattle.tpol_scene.specs.Faults.{kind_of, read_as}
 use Rattle.tpol_scene.specs.Members.{optional}
-use Rattle.tpol_scene.specs.Pcrs.{pcrs_in, zero_bank}
-use Rattle.tpol_scene.specs.Scenes.{HasFewEntities, HasPlaces, StandsBehind, authorities_in, scene_in, times_in}
-use Rattle.tpol_scene.specs.Values.{object_in, u32_in}
+use Rattle.tpol_scene.specs.Conditions.{StandsBehind}
 use Rattle.tpol_scene.specs.declared.entities.Entities.{Entities}
 use Rattle.tpol_scene.specs.declared.entities.EntityPolicy.{EntityPolicy}
 use Rattle.tpol_scene.specs.declared.heading.Heading.{Heading}
 use Rattle.tpol_scene.specs.declared.heading.NamedPolicy.{NamedPolicy}
 use Rattle.tpol_scene.specs.declared.kinds.EntityKind.{EntityKind}
 use Rattle.tpol_scene.specs.declared.kinds.EntityKind.TheVariants.{Seal, Key, Nv}
-use Rattle.tpol_scene.specs.declared.scene.Scene.{Scene}
 use Rattle.tpol_scene.proofs.ValueLemmas.{any_ok, list_counted, optional_ok, tested}
 
 -- ---- items of a list with one more at its end
@@ -121,7 +118,7 @@ placed-index entities index (Some named) h =
 
 -- ---- so many entities were read, and each that names a policy is in its place
 
-record Counted (n : ℕ) (entities : Entities) : Type 0 where
+pub record Counted (n : ℕ) (entities : Entities) : Type 0 where
   pub placed : All (StandsBehind entities.objects entities.indices) entities.policies
   pub count : length entities.objects + length entities.indices ≡ n
   pub few : n ≤ 256
@@ -162,27 +159,13 @@ counted-entity entities index d place h =
     all_then (λ _. ⊤) (Counted (suc index)) (heading_in entities d place) _ (any_ok _) (λ heading _.
     counted-by_kind heading.kind index entities heading less h d place))
 
-abbrev IsCounted : Entities → Type 0
+abbrev pub IsCounted : Entities → Type 0
 IsCounted entities = (n : ℕ) × Counted n entities
 
 none-counted : Counted 0 no_entities
 none-counted = record { placed = All-nil (StandsBehind [] []); count = refl; few = omega arith }
 
-entities_counted : (d : Data) (place : Place) → AllFound IsCounted (optional entities_in no_entities (codes "entities") d place)
+pub entities_counted : (d : Data) (place : Place) → AllFound IsCounted (optional entities_in no_entities (codes "entities") d place)
 entities_counted d place =
     optional_ok IsCounted entities_in no_entities (0, none-counted)
     (λ e at. list_counted Counted entity_in counted-entity no_entities none-counted e at) (codes "entities") d place
-
-abbrev HasCounted : Scene → Type 0
-HasCounted scene = HasPlaces scene × HasFewEntities scene
-
-pub scene_counted : (d : Data) (place : Place) → AllFound HasCounted (scene_in d place)
-unfolding scene_in
-scene_counted d place =
-    all_then (λ _. ⊤) HasCounted (object_in d place) _ (any_ok _) (λ is_object _.
-    all_then (λ _. ⊤) HasCounted (authorities_in d place) _ (any_ok _) (λ authorities _.
-    all_then (λ _. ⊤) HasCounted (optional pcrs_in zero_bank (codes "pcrs") d place) _ (any_ok _) (λ bank _.
-    all_then (λ _. ⊤) HasCounted (optional u32_in 0 (codes "pcrCounter") d place) _ (any_ok _) (λ pcr_counter _.
-    all_then (λ _. ⊤) HasCounted (times_in d place) _ (any_ok _) (λ times _.
-    all_then IsCounted HasCounted (optional entities_in no_entities (codes "entities") d place) _ (entities_counted d place) (λ entities counted.
-    (counted.1.placed, omega (arith, counted.1.count, counted.1.few))))))))

@@ -6,33 +6,21 @@ use Rattle.tpol_json.proofs.AllFound.{AllFound}
 use Rattle.tpol_json.specs.Document.{document_of}
 use Rattle.tpol_json.specs.Places.{root}
 use Rattle.tpol_json.specs.declared.place.Place.{Place}
-use Rattle.tpol_name.specs.Setups.{IsSetup}
 use Rattle.tpol_scene.specs.Faults.{Found}
-use Rattle.tpol_scene.specs.Scenes.{HasFewEntities, HasPlaces, IsDocumentOf, IsFaultOf, scene_in}
+use Rattle.tpol_scene.specs.Scenes.{IsDocumentOf, IsFaultOf, scene_in}
 use Rattle.tpol_scene.specs.declared.fault.SceneFault.TheVariants.{Bad}
 use Rattle.tpol_scene.specs.declared.fault.SceneKind.{SceneKind}
 use Rattle.tpol_scene.specs.declared.scene.Scene.{Scene}
-use Rattle.tpol_scene.proofs.PlaceLemmas.{scene_counted}
+use Rattle.tpol_scene.proofs.SceneLemmas.{SceneFits, scene_ok}
 use Rattle.tpol_scene.proofs.SceneFaultsLemmas.{no_fault, first_fault}
-use Rattle.tpol_scene.proofs.SetupLemmas.{scene_ok}
 
 pub stands : (bytes : List ℕ) (d : Data) (scene : Scene) → document_of bytes ≡ Some d → scene_in d root ≡ Ok scene → IsDocumentOf bytes scene
 stands bytes d scene document reads = (d, document, record { no_fault = no_fault d scene reads; value = reads })
 
-pub has_setup : (d : Data) (scene : Scene) → scene_in d root ≡ Ok scene → IsSetup scene.setup
-has_setup d scene reads =
-    let P : Found Scene → Type 0 = AllFound (λ scene. IsSetup scene.setup) in
+pub fits : (d : Data) (scene : Scene) → scene_in d root ≡ Ok scene → SceneFits scene
+fits d scene reads =
+    let P : Found Scene → Type 0 = AllFound SceneFits in
     subst P reads (scene_ok d root)
-
-pub has_places : (d : Data) (scene : Scene) → scene_in d root ≡ Ok scene → HasPlaces scene
-has_places d scene reads =
-    let P : Found Scene → Type 0 = AllFound (λ scene. HasPlaces scene × HasFewEntities scene) in
-    (subst P reads (scene_counted d root)).0
-
-pub has_few_entities : (d : Data) (scene : Scene) → scene_in d root ≡ Ok scene → HasFewEntities scene
-has_few_entities d scene reads =
-    let P : Found Scene → Type 0 = AllFound (λ scene. HasPlaces scene × HasFewEntities scene) in
-    (subst P reads (scene_counted d root)).1
 
 pub is_fault : (bytes : List ℕ) (d : Data) (kind : SceneKind) (place : Place) → document_of bytes ≡ Some d → scene_in d root ≡ Err (kind, place) → IsFaultOf bytes (Bad kind place)
 is_fault bytes d kind place document refused = (d, document, first_fault d (kind, place) refused)

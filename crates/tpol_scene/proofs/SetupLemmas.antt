@@ -12,12 +12,12 @@ use Rattle.tpol_json.proofs.AllFound.{AllFound, all_map, all_then}
 use Rattle.tpol_json.specs.Places.{at_member}
 use Rattle.tpol_json.specs.declared.place.Place.{Place}
 use Rattle.tpol_name.specs.Areas.{is_written}
-use Rattle.tpol_name.specs.Setups.{IsAuthValue, IsDigestOrEmpty, IsObject, IsIndex, IsTypeOfSize, IsSetup}
+use Rattle.tpol_name.specs.Setups.{IsAuthValue, IsDigestOrEmpty, IsObject, IsIndex, IsTypeOfSize}
 use Rattle.tpol_name.specs.declared.areas.Scheme.{Scheme}
 use Rattle.tpol_name.specs.declared.areas.Scheme.TheVariants.{Sealed, HmacKey}
 use Rattle.tpol_name.specs.declared.entries.IndexEntry.{IndexEntry}
 use Rattle.tpol_name.specs.declared.entries.ObjectEntry.{ObjectEntry}
-use Rattle.tpol_scene.specs.Entities.{no_entities, has_path, new_path_in, has_handle, new_handle_in, bytes_or_name, some_policy_in, policy_source_in, heading_in, object_entry_in, index_attributes_in, index_size_in, content_in, content_or_zeros, index_entry_in, object_behind, index_behind, entity_by, entity_in, entities_in}
+use Rattle.tpol_scene.specs.Entities.{no_entities, has_path, new_path_in, has_handle, new_handle_in, bytes_or_name, policy_name_in, some_policy_in, policy_source_in, heading_in, object_entry_in, index_attributes_in, index_size_in, content_in, content_or_zeros, index_entry_in, object_behind, index_behind, entity_by, entity_in, entities_in}
 use Rattle.tpol_base.specs.Attributes.{index_type, is_index_type, is_size_of_type, object_sign, object_user_with_auth}
 use Rattle.tpol_json.specs.Faults as members
 use Rattle.tpol_json.specs.Reading as json
@@ -26,7 +26,7 @@ use Rattle.tpol_scene.specs.Faults.{read_as}
 use Rattle.tpol_scene.specs.Kinds.{kind_in, least_handle, greatest_handle}
 use Rattle.tpol_scene.specs.Members.{needed, optional}
 use Rattle.tpol_scene.specs.Pcrs.{new_pcr_in, pcr_in, pcr_item, pcrs_in, zero_bank}
-use Rattle.tpol_scene.specs.Scenes.{authorities_in, times_in, time_in, scene_in}
+use Rattle.tpol_scene.specs.Scenes.{authorities_in, start_in, times_in, time_in}
 use Rattle.tpol_base.specs.Digest.{zero_digest}
 use Rattle.tpol_scene.specs.Values.{object_in, text_in, unsigned_in, u32_in, truth_in, digest_in, bytes_up_to, empty_or_32, auth_in}
 use Rattle.tpol_scene.specs.declared.entities.Entities.{Entities}
@@ -36,9 +36,9 @@ use Rattle.tpol_scene.specs.declared.heading.PolicySource.{PolicySource}
 use Rattle.tpol_scene.specs.declared.kinds.EntityKind.{EntityKind}
 use Rattle.tpol_scene.specs.declared.kinds.EntityKind.TheVariants.{Seal, Key, Nv}
 use Rattle.tpol_scene.specs.declared.pcrs.PcrBank.{PcrBank}
-use Rattle.tpol_scene.specs.declared.scene.Authorities.{Authorities}
-use Rattle.tpol_scene.specs.declared.scene.Times.{Times}
-use Rattle.tpol_scene.specs.declared.scene.Scene.{Scene}
+use Rattle.tpol_scene.specs.declared.start.Authorities.{Authorities}
+use Rattle.tpol_scene.specs.declared.start.Times.{Times}
+use Rattle.tpol_scene.specs.declared.start.Start.{Start}
 use Rattle.tpol_scene.proofs.EntryLemmas.{Entered, object_entered, index_entered, type_of_size, type-with, unwritten-zeros}
 use Rattle.tpol_scene.proofs.ValueLemmas.{any_ok, tested, refuted, needed_ok, optional_ok, list_ok, short_ok, empty_or_32_ok, empty_auth, auth_ok, unsigned_ok}
 
@@ -55,7 +55,7 @@ some_policy_ok d place = all_then IsDigestOrEmpty BytesFit (empty_or_32 d place)
 
 bytes_or_name_ok : (bytes : Option (List ℕ)) → BytesFit bytes → (there : Option Data) (place : Place) → AllFound SourceFits (bytes_or_name bytes there place)
 bytes_or_name_ok None fits None place = inl refl
-bytes_or_name_ok None fits (Some d) place = all_then (λ _. ⊤) SourceFits (text_in d place) _ (any_ok _) (λ text _. inl refl)
+bytes_or_name_ok None fits (Some d) place = all_then (λ _. ⊤) SourceFits (policy_name_in d place) _ (any_ok _) (λ named _. inl refl)
 bytes_or_name_ok (Some bytes) fits None place = fits
 bytes_or_name_ok (Some bytes) fits (Some d) place = tt
 
@@ -250,7 +250,7 @@ no_entities_entered = record {
   paths = ((refl, (refl, tt)), ((refl, tt), (tt, tt)));
 }
 
-entities_ok : (d : Data) (place : Place) → AllFound Entered (optional entities_in no_entities (codes "entities") d place)
+pub entities_ok : (d : Data) (place : Place) → AllFound Entered (optional entities_in no_entities (codes "entities") d place)
 entities_ok d place =
     optional_ok Entered entities_in no_entities no_entities_entered (list_ok Entered entity_in entity_ok no_entities no_entities_entered) (codes "entities") d place
 
@@ -303,17 +303,19 @@ times_ok d place =
     all_then (λ _. ⊤) IsEarly (optional truth_in true (codes "safe") d place) _ (any_ok _) (λ safe _.
     all_then (λ _. ⊤) IsEarly (optional truth_in false (codes "presence") d place) _ (any_ok _) (λ presence _. early)))))
 
-abbrev HasSetup : Scene → Type 0
-HasSetup scene = IsSetup scene.setup
+-- what a machine starts from but for its entities
+pub record StartFits (start : Start) : Type 0 where
+  pub owner : IsAuthValue start.authorities.owner
+  pub endorsement : IsAuthValue start.authorities.endorsement
+  pub lockout : IsAuthValue start.authorities.lockout
+  pub whole : length start.pcrs ≡ 24
+  pub early : start.times.time ≤ 2 ^ 62
 
--- the setup of a scene meets what the machine asks
-pub scene_ok : (d : Data) (place : Place) → AllFound HasSetup (scene_in d place)
-unfolding scene_in
-scene_ok d place =
-    all_then (λ _. ⊤) HasSetup (object_in d place) _ (any_ok _) (λ is_object _.
-    all_then AuthoritiesFit HasSetup (authorities_in d place) _ (authorities_ok d place) (λ authorities fit.
-    all_then IsWhole HasSetup (optional pcrs_in zero_bank (codes "pcrs") d place) _ (pcrs_ok d place) (λ bank whole.
-    all_then (λ _. ⊤) HasSetup (optional u32_in 0 (codes "pcrCounter") d place) _ (any_ok _) (λ pcr_counter _.
-    all_then IsEarly HasSetup (times_in d place) _ (times_ok d place) (λ times early.
-    all_then Entered HasSetup (optional entities_in no_entities (codes "entities") d place) _ (entities_ok d place) (λ entities entered.
-    record { owner = fit.owner; endorsement = fit.endorsement; lockout = fit.lockout; pcrs = whole; time = early; entities = entered }))))))
+pub start_ok : (d : Data) (place : Place) → AllFound StartFits (start_in d place)
+unfolding start_in
+start_ok d place =
+    all_then AuthoritiesFit StartFits (authorities_in d place) _ (authorities_ok d place) (λ authorities fit.
+    all_then IsWhole StartFits (optional pcrs_in zero_bank (codes "pcrs") d place) _ (pcrs_ok d place) (λ bank whole.
+    all_then (λ _. ⊤) StartFits (optional u32_in 0 (codes "pcrCounter") d place) _ (any_ok _) (λ pcr_counter _.
+    all_then IsEarly StartFits (times_in d place) _ (times_ok d place) (λ times early.
+    record { owner = fit.owner; endorsement = fit.endorsement; lockout = fit.lockout; whole = whole; early = early }))))

@@ -25,6 +25,10 @@ pub any_ok : {K A : Type 0} (r : ReadAs K A) → AllFound (λ _. ⊤) r
 any_ok (Ok x) = tt
 any_ok (Err fault) = tt
 
+pub both_ok : {K A : Type 0} (P Q : A → Type 0) (r : ReadAs K A) → AllFound P r → AllFound Q r → AllFound (λ x. P x × Q x) r
+both_ok P Q (Ok x) one other = (one, other)
+both_ok P Q (Err fault) one other = tt
+
 -- a value that passed a test, and one that failed it
 pub tested : {K A : Type 0} (P : A → Type 0) (t : Bool) (x : A) (kind : K) (place : Place) → (t ≡ true → P x) → AllFound P (cond t (Ok x) (bad kind place))
 tested P t x kind place h = all_if P t (Ok x) (bad kind place) h tt

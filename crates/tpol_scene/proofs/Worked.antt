@@ -1,15 +1,23 @@
 -- What the definitions say of some values.
-use Rattle.std.specs.Prelude.{◌≡◌, [], ◌∷◌, codes, true, false, Some, Ok, refl}
-use Rattle.serde_json.specs.Data.{null, number, array, object, unsigned, no_items, item, no_members, member}
-use Rattle.tpol_json.specs.Places.{root, at_member, at_item}
+use Rattle.std.specs.Prelude.{◌≡◌, ℕ, List, [], ◌∷◌, codes, true, false, Some, Ok, refl}
+use Rattle.serde_json.specs.Data.{Data, Members, null, number, string, array, object, unsigned, no_items, item, no_members, member}
+use Rattle.tpol_base.specs.Handle.{rh_owner}
 use Rattle.tpol_base.specs.PolicyName.{without_folder}
+use Rattle.tpol_json.specs.Members.{items_from}
+use Rattle.tpol_json.specs.Places.{root, at_member, at_item}
+use Rattle.tpol_json.specs.Words.{find_word}
+use Rattle.tpol_scene.specs.Clients.{client_in}
 use Rattle.tpol_scene.specs.Entities.{no_entities, has_path, bytes_or_name, heading_in, index_attributes_in, entity_in}
 use Rattle.tpol_scene.specs.Faults.{bad}
-use Rattle.tpol_json.specs.Members.{items_from}
-use Rattle.tpol_scene.specs.Lists.{item_faults}
+use Rattle.tpol_scene.specs.Goals.{goal_command_in}
+use Rattle.tpol_scene.specs.Lists.{item_faults, items_kept}
 use Rattle.tpol_scene.specs.Scenes.{authorities_in, times_in, scene_faults}
+use Rattle.tpol_scene.specs.Scripts.{begin_in, event_by, event_in, event_kind_in, turn_in}
+use Rattle.tpol_scene.specs.Targets.{handle_at, target_in}
 use Rattle.tpol_scene.specs.Values.{without_zeros}
-use Rattle.tpol_scene.specs.declared.fault.SceneKind.TheVariants.{Missing, WrongKind, BadNumber, Twice, BadState}
+use Rattle.tpol_scene.specs.declared.fault.SceneKind.TheVariants.{Missing, WrongKind, BadNumber, Twice, BadState, NoSuchClient, NoSuchPath, NoSuchRun, UnknownKind}
+use Rattle.tpol_scene.specs.declared.goals.GoalCommand.TheVariants.{NvRead}
+use Rattle.tpol_scene.specs.declared.targets.Target.TheVariants.{Entity, Object}
 
 -- zero bytes at the end are taken away, those before are not
 pub zeros : without_zeros (1 ∷ 0 ∷ 2 ∷ 0 ∷ 0 ∷ []) ≡ 1 ∷ 0 ∷ 2 ∷ []
@@ -64,3 +72,52 @@ pub two_entities : scene_faults (object (member (codes "entities") (array (item 
     ≡ (WrongKind, at_item (at_member root (codes "entities")) 0) ∷ (Missing, at_member (at_item (at_member root (codes "entities")) 1) (codes "kind")) ∷ []
 unfolding scene_faults authorities_in times_in item_faults items_from entity_in heading_in
 two_entities = refl
+
+-- a hierarchy may have a value, but no key
+pub value_of_owner : target_in no_entities Entity (string (codes "/P_RSA2048/HS")) root ≡ Ok rh_owner
+unfolding handle_at
+value_of_owner = refl
+
+pub no_key_of_owner : target_in no_entities Object (string (codes "HS")) root ≡ bad NoSuchPath root
+unfolding handle_at
+no_key_of_owner = refl
+
+-- the commands of goals are free in case and prefix, and the kinds of events are exact
+pub goal_word : goal_command_in (string (codes "tpm2_cc_NV_READ")) root ≡ Ok NvRead
+unfolding find_word
+goal_word = refl
+
+pub other_command : goal_command_in (string (codes "Sign")) root ≡ bad UnknownKind root
+unfolding find_word
+other_command = refl
+
+pub other_event : event_kind_in (string (codes "Reset")) root ≡ bad UnknownKind root
+other_event = refl
+
+-- an object with one list
+abbrev list_of : List ℕ → Data → Data → Members → Data
+list_of name first second behind = object (member name (array (item first (item second no_items))) behind)
+
+-- `{"script":[{"event":"turn","run":1},{"event":"time"}]}`
+pub two_events :
+    scene_faults (list_of (codes "script")
+    (object (member (codes "event") (string (codes "turn")) (member (codes "run") (number (unsigned 1)) no_members)))
+    (object (member (codes "event") (string (codes "time")) no_members)) no_members)
+    ≡ (NoSuchRun, at_member (at_item (at_member root (codes "script")) 0) (codes "run"))
+    ∷ (Missing, at_member (at_item (at_member root (codes "script")) 1) (codes "ms")) ∷ []
+unfolding scene_faults authorities_in times_in item_faults items_kept items_from event_in event_by turn_in
+two_events = refl
+
+-- `{"clients":[{"client":1,"keys":0},{"client":1}],"script":[{"event":"begin","run":1,"client":2},{"event":"reset"}]}`:
+-- a client at fault is none of the listed ones
+pub two_clients :
+    scene_faults (list_of (codes "clients")
+    (object (member (codes "client") (number (unsigned 1)) (member (codes "keys") (number (unsigned 0)) no_members)))
+    (object (member (codes "client") (number (unsigned 1)) no_members))
+    (member (codes "script") (array (item
+    (object (member (codes "client") (number (unsigned 2)) (member (codes "event") (string (codes "begin")) (member (codes "run") (number (unsigned 1)) no_members))))
+    (item (object (member (codes "event") (string (codes "reset")) no_members)) no_items))) no_members))
+    ≡ (WrongKind, at_member (at_item (at_member root (codes "clients")) 0) (codes "keys"))
+    ∷ (NoSuchClient, at_member (at_item (at_member root (codes "script")) 0) (codes "client")) ∷ []
+unfolding scene_faults authorities_in times_in item_faults items_kept items_from client_in event_in event_by begin_in
+two_clients = refl

@@ -59,10 +59,11 @@ new_handle_in entities kind d place = do
   if has_handle entities kind handle then bad Twice place else Ok handle
 
 -- a policy by its name, and where it stands
+abbrev pub policy_name_in : Data → Place → Found NamedPolicy
+policy_name_in d place = text_in d place >>= λ text. Ok (record { name = without_folder text; place = place })
+
 abbrev pub named_policy_in : Data → Place → Found PolicySource
-named_policy_in d place = do
-  text ← text_in d place
-  Ok (record { auth_policy = []; named = Some (record { name = without_folder text; place = place }) })
+named_policy_in d place = policy_name_in d place >>= λ named. Ok (record { auth_policy = []; named = Some named })
 
 abbrev pub bytes_or_name : Option (List ℕ) → Option Data → Place → Found PolicySource
 bytes_or_name None None place = Ok (record { auth_policy = []; named = None })

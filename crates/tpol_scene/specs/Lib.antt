@@ -5,4 +5,9 @@ pub mod Lists
 pub mod Pcrs
 pub mod Kinds
 pub mod Entities
+pub mod Targets
+pub mod Clients
+pub mod Goals
+pub mod Scripts
 pub mod Scenes
+pub mod Conditions

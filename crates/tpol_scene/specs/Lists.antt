@@ -43,6 +43,33 @@ item_faults read before index (item d ds) place =
 abbrev pub list_faults : {A : Type 0} → ItemReading A → A → Data → Place → List Fault
 list_faults read start d place = faults_within (items_in d place) (λ ds. item_faults read start 0 ds place)
 
+-- what a reading gives, or what there was before
+abbrev pub found_or : {A : Type 0} → A → Found A → A
+found_or before (Ok after) = after
+found_or before (Err fault) = before
+
+-- what the items without a fault give
+unfoldable pub items_kept : {A : Type 0} → ItemReading A → A → ℕ → Items → Place → A
+items_kept read before index no_items place = before
+items_kept read before index (item d ds) place =
+    items_kept read (found_or before (read before index d (at_item place index))) (suc index) ds place
+
+abbrev pub kept_within : {A : Type 0} → Found Items → A → (Items → A) → A
+kept_within (Ok ds) start within = within ds
+kept_within (Err fault) start within = start
+
+-- the same of a list
+abbrev pub list_kept : {A : Type 0} → ItemReading A → A → Data → Place → A
+list_kept read start d place = kept_within (items_in d place) start (λ ds. items_kept read start 0 ds place)
+
+abbrev pub kept_if_there : {A : Type 0} → ItemReading A → A → Option Data → Place → A
+kept_if_there read start None place = start
+kept_if_there read start (Some d) place = list_kept read start d place
+
+-- the same of a list that may be left out
+abbrev pub optional_kept : {A : Type 0} → ItemReading A → A → List ℕ → Data → Place → A
+optional_kept read start name d place = kept_if_there read start (get name d) (at_member place name)
+
 abbrev pub faults_if_there : (Data → Place → List Fault) → Option Data → Place → List Fault
 faults_if_there faults None place = []
 faults_if_there faults (Some d) place = faults d place

@@ -1,26 +1,30 @@
 -- Scenes.
-use Rattle.std.specs.Prelude.{◌≡◌, ◌⊎◌, ℕ, ◌+◌, ◌^◌, ◌≤◌, List, [], ◌++◌, length, map, slice_get, All, codes, true, false, Some, None, Ok, ⊤}
+use Rattle.std.specs.Prelude.{◌≡◌, ℕ, ◌^◌, List, [], ◌++◌, codes, true, false, Some, None, Ok, ⊤}
 use Rattle.serde_json.specs.Data.{Data}
-use Rattle.tpol_base.specs.declared.digest.Digest32.{Digest32}
+use Rattle.tpol_base.specs.Answers.{◌>>=◌}
+use Rattle.tpol_base.specs.Digest.{zero_digest}
 use Rattle.tpol_json.specs.Document.{document_of}
 use Rattle.tpol_json.specs.Places.{root}
 use Rattle.tpol_json.specs.declared.place.Place.{Place}
 use Rattle.tpol_name.specs.declared.entries.IndexEntry.{IndexEntry}
 use Rattle.tpol_name.specs.declared.entries.ObjectEntry.{ObjectEntry}
+use Rattle.tpol_name.specs.declared.setup.Setup.{Setup}
+use Rattle.tpol_scene.specs.declared.cast.Cast.{Cast}
 use Rattle.tpol_scene.specs.declared.entities.Entities.{Entities}
-use Rattle.tpol_scene.specs.declared.entities.EntityPolicy.{EntityPolicy}
 use Rattle.tpol_scene.specs.declared.fault.SceneFault.{SceneFault}
 use Rattle.tpol_scene.specs.declared.fault.SceneFault.TheVariants.{NotJson, Bad, NoMemory}
-use Rattle.tpol_scene.specs.declared.scene.Authorities.{Authorities}
-use Rattle.tpol_scene.specs.declared.scene.Times.{Times}
+use Rattle.tpol_scene.specs.declared.start.Authorities.{Authorities}
+use Rattle.tpol_scene.specs.declared.start.Start.{Start}
+use Rattle.tpol_scene.specs.declared.start.Times.{Times}
 use Rattle.tpol_scene.specs.declared.scene.Scene.{Scene}
+use Rattle.tpol_scene.specs.declared.script.ScriptEvent.{ScriptEvent}
+use Rattle.tpol_scene.specs.Clients.{ClientList, client_in, clients_in}
 use Rattle.tpol_scene.specs.Entities.{entity_in, entities_in, no_entities}
-use Rattle.tpol_base.specs.Answers.{◌>>=◌}
 use Rattle.tpol_scene.specs.Faults.{Fault, Found, first_of}
-use Rattle.tpol_scene.specs.Lists.{faults_of, list_faults, optional_faults}
+use Rattle.tpol_scene.specs.Lists.{faults_of, list_faults, optional_faults, optional_kept}
 use Rattle.tpol_scene.specs.Members.{optional}
 use Rattle.tpol_scene.specs.Pcrs.{pcr_item, pcrs_in, zero_bank}
-use Rattle.tpol_base.specs.Digest.{zero_digest}
+use Rattle.tpol_scene.specs.Scripts.{event_in, no_events, script_in}
 use Rattle.tpol_scene.specs.Values.{object_in, unsigned_in, u32_in, truth_in, digest_in, auth_in}
 
 -- the seed of the nonces and the authorization values of the hierarchies
@@ -46,37 +50,60 @@ times_in d place = do
   presence ← optional truth_in false (codes "presence") d place
   Ok (record { time = time; reset_count = reset_count; restart_count = restart_count; safe = safe; presence = presence })
 
--- the scene of these parts
-abbrev pub scene_with : Authorities → List Digest32 → ℕ → Times → Entities → Scene
-scene_with authorities pcrs pcr_counter times entities = record {
-  setup = record {
-    seed = authorities.seed;
-    owner = authorities.owner;
-    endorsement = authorities.endorsement;
-    lockout = authorities.lockout;
-    pcrs = pcrs;
-    pcr_counter = pcr_counter;
-    objects = entities.objects;
-    indices = entities.indices;
-    time = times.time;
-    reset_count = times.reset_count;
-    restart_count = times.restart_count;
-    safe = times.safe;
-    presence = times.presence;
-  };
-  policies = entities.policies;
-}
-
--- the scene that a value stands for, or its first fault; what the policies of entities are called does not matter here
-unfoldable pub scene_in : Data → Place → Found Scene
-scene_in d place = do
-  is_object ← object_in d place
+-- what a machine starts from but for its entities
+unfoldable pub start_in : Data → Place → Found Start
+start_in d place = do
   authorities ← authorities_in d place
   bank ← optional pcrs_in zero_bank (codes "pcrs") d place
   pcr_counter ← optional u32_in 0 (codes "pcrCounter") d place
   times ← times_in d place
+  Ok (record { authorities = authorities; pcrs = bank.values; pcr_counter = pcr_counter; times = times })
+
+-- the entities and the clients
+unfoldable pub cast_in : Data → Place → Found Cast
+cast_in d place = do
   entities ← optional entities_in no_entities (codes "entities") d place
-  Ok (scene_with authorities bank.values pcr_counter times entities)
+  clients ← optional (clients_in entities) [] (codes "clients") d place
+  Ok (record { entities = entities; clients = clients })
+
+-- what a machine starts from
+abbrev pub setup_with : Start → List ObjectEntry → List IndexEntry → Setup
+setup_with start objects indices = record {
+  seed = start.authorities.seed;
+  owner = start.authorities.owner;
+  endorsement = start.authorities.endorsement;
+  lockout = start.authorities.lockout;
+  pcrs = start.pcrs;
+  pcr_counter = start.pcr_counter;
+  objects = objects;
+  indices = indices;
+  time = start.times.time;
+  reset_count = start.times.reset_count;
+  restart_count = start.times.restart_count;
+  safe = start.times.safe;
+  presence = start.times.presence;
+}
+
+-- the scene of these parts
+abbrev pub scene_with : Start → Cast → List ScriptEvent → Scene
+scene_with start cast script = record {
+  setup = setup_with start cast.entities.objects cast.entities.indices;
+  policies = cast.entities.policies;
+  clients = cast.clients;
+  script = script;
+}
+
+-- the scene that a value stands for, or its first fault; what the policies of entities and runs are called
+-- does not matter here
+unfoldable pub scene_in : Data → Place → Found Scene
+scene_in d place = do
+  is_object ← object_in d place
+  start ← start_in d place
+  cast ← cast_in d place
+  front ← optional (script_in cast) no_events (codes "script") d place
+  Ok (scene_with start cast front.events)
+
+-- ---- all faults
 
 -- the faults of the members, in reading order
 abbrev pub authorities_faults : Data → Place → List Fault
@@ -94,15 +121,35 @@ times_faults d place =
     ++ (faults_of (optional truth_in true (codes "safe") d place)
     ++ faults_of (optional truth_in false (codes "presence") d place))))
 
+abbrev pub start_faults : Data → Place → List Fault
+start_faults d place =
+    authorities_faults d place
+    ++ (optional_faults (list_faults pcr_item zero_bank) (codes "pcrs") d place
+    ++ (faults_of (optional u32_in 0 (codes "pcrCounter") d place)
+    ++ times_faults d place))
+
+-- the entities, the clients and the events that have no fault; clients and events are read beside those before
+abbrev pub entities_kept : Data → Place → Entities
+entities_kept d place = optional_kept entity_in no_entities (codes "entities") d place
+
+abbrev pub clients_kept : Data → Place → ClientList
+clients_kept d place = optional_kept (client_in (entities_kept d place)) [] (codes "clients") d place
+
+abbrev pub cast_kept : Data → Place → Cast
+cast_kept d place = record { entities = entities_kept d place; clients = clients_kept d place }
+
+abbrev pub cast_faults : Data → Place → List Fault
+cast_faults d place =
+    optional_faults (list_faults entity_in no_entities) (codes "entities") d place
+    ++ optional_faults (list_faults (client_in (entities_kept d place)) []) (codes "clients") d place
+
+abbrev pub script_faults : Data → Place → List Fault
+script_faults d place = optional_faults (list_faults (event_in (cast_kept d place)) no_events) (codes "script") d place
+
 -- all faults of a scene, in reading order
 unfoldable pub scene_faults : Data → List Fault
 scene_faults d =
-    faults_of (object_in d root)
-    ++ (authorities_faults d root
-    ++ (optional_faults (list_faults pcr_item zero_bank) (codes "pcrs") d root
-    ++ (faults_of (optional u32_in 0 (codes "pcrCounter") d root)
-    ++ (times_faults d root
-    ++ optional_faults (list_faults entity_in no_entities) (codes "entities") d root))))
+    faults_of (object_in d root) ++ (start_faults d root ++ (cast_faults d root ++ script_faults d root))
 
 -- the value has no fault and is read as this scene
 pub record StandsForScene (d : Data) (scene : Scene) : Type 0 where
@@ -118,21 +165,3 @@ abbrev pub IsFaultOf : List ℕ → SceneFault → Type 0
 IsFaultOf bytes NotJson = document_of bytes ≡ None
 IsFaultOf bytes (Bad kind place) = (d : Data) × (document_of bytes ≡ Some d) × (first_of (scene_faults d) ≡ Some (kind, place))
 IsFaultOf bytes NoMemory = ⊤
-
--- ---- where the entities stand whose policy is named
-
--- an entity stands behind so many objects and so many indices: it is the next object or the next index
-pub record StandsBehind (objects : List ObjectEntry) (indices : List IndexEntry) (policy : EntityPolicy) : Type 0 where
-  pub objects_before : policy.objects_before ≤ length objects
-  pub indices_before : policy.indices_before ≤ length indices
-  pub is_next : (slice_get (map (λ o. o.handle) objects) policy.objects_before ≡ Some policy.handle)
-      ⊎ (slice_get (map (λ i. i.public.index) indices) policy.indices_before ≡ Some policy.handle)
-
-abbrev pub HasPlaces : Scene → Type 0
-HasPlaces scene = All (StandsBehind scene.setup.objects scene.setup.indices) scene.policies
-
--- ---- limits
-
--- at most 256 entities
-abbrev pub HasFewEntities : Scene → Type 0
-HasFewEntities scene = length scene.setup.objects + length scene.setup.indices ≤ 256

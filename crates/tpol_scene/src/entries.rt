@@ -2,9 +2,6 @@
 
 ghost use Rattle.std.specs.Prelude.{◌≡◌, [], codes, IfErr, IfOk, None};
 ghost use Rattle.serde_json.specs.View.{view};
-ghost use Rattle.tpol_json.specs.Bytes.{bytes_in};
-ghost use Rattle.tpol_json.specs.Faults as members;
-ghost use Rattle.tpol_json.specs.Reading as json;
 ghost use Rattle.tpol_scene.specs.declared.fault.PartFault.TheVariants.{NoMemory as no_memory};
 ghost use Rattle.tpol_scene.specs.Entities.{attributes_with, content_in, content_or_zeros, index_and_policy_in, index_attributes_in, index_size_in, object_and_policy_in};
 ghost use Rattle.tpol_scene.specs.Faults.{Gives};
@@ -14,17 +11,14 @@ ghost use Rattle.tpol_scene.specs.Values.{bytes_up_to, empty_or_32};
 use crate::SceneKind;
 use crate::fault::{PartFault, refuse};
 use crate::heading::{Heading, NamedPolicy, PolicySource};
-use crate::members::optional_u32;
+use crate::members::{any_bytes, optional_u32};
 use serde_json::Value;
 use std::alloc::Global;
 use tpol_base::Blob;
 use tpol_base::attributes::{
     NV_WRITTEN, has_attribute, index_type, is_index_type, is_size_of_type,
 };
-use tpol_json::{
-    MemberFault, PlaceRef, bytes_at, bytes_up_to, empty_or_32, member, needed, unsigned,
-    unsigned_32,
-};
+use tpol_json::{PlaceRef, bytes_up_to, empty_or_32, member, needed, unsigned, unsigned_32};
 use tpol_name::{IndexEntry, NvPublic, ObjectEntry, ObjectPublic, Scheme};
 
 /// The most bytes of an object's secret.
@@ -197,19 +191,12 @@ fn content_of(
 ) -> Result<Option<Blob>, PartFault>
     ensures { Gives result (content_in size (view value.now) place.now) }
 {
-    let content = bytes(alloc, value, place)?;
+    let content = any_bytes(alloc, value, place)?;
     if content.len() == size as usize {
         Ok(Some(content))
     } else {
         refuse(alloc, SceneKind::BadState, place)
     }
-}
-
-// Bytes of any number.
-fn bytes(alloc: Global, value: &Value, place: &PlaceRef<'_>) -> Result<Blob, MemberFault>
-    ensures { members.Gives result (json.read_as members.kind_of (bytes_in (view value.now) place.now)) }
-{
-    Ok(bytes_at(alloc, value, place)?)
 }
 
 // With a content WRITTEN is set.

@@ -18,16 +18,22 @@ pub enum SceneKind {
     BadHex,
     /// A number outside its limits, or another text in its place.
     BadNumber,
-    /// A kind that no entity has.
+    /// A kind that no entity has, an event that no script has, or a command that no goal has.
     UnknownKind,
-    /// A path, a handle or a PCR a second time, or `authPolicy` with `policy`.
+    /// A path, a handle, a PCR, a client, a grant or a run a second time, or `authPolicy` with `policy`.
     Twice,
-    /// An entity past the 256th.
+    /// An entity past the 256th, a client past the 64th, an event past the 4,096th, or a run past the 256th.
     TooMany,
     /// Attributes, a size or a content that no index has.
     BadState,
-    /// An entity names a policy that is not there. No reading gives this kind: it is for the layer that looks
-    /// up the policies that entities name, behind all faults of the reading.
+    /// A path that no entity has that may stand there.
+    NoSuchPath,
+    /// A client that is not listed.
+    NoSuchClient,
+    /// A run that was not begun before.
+    NoSuchRun,
+    /// An entity or a run names a policy that is not there. No reading gives this kind: it is for the layer
+    /// that looks up the policies that are named, behind all faults of the reading.
     NoSuchPolicy,
 }
 

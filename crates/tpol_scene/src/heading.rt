@@ -4,7 +4,7 @@ ghost use Rattle.std.specs.Prelude.{◌≡◌, ◌==◌, codes, None};
 ghost use Rattle.std.specs.List.{list_any};
 ghost use Rattle.serde_json.specs.Find.{get};
 ghost use Rattle.serde_json.specs.View.{view};
-ghost use Rattle.tpol_scene.specs.Entities.{bytes_or_name, has_handle, has_path, heading_in, named_policy_in, new_handle_in, new_path_in, policy_source_in, some_policy_in};
+ghost use Rattle.tpol_scene.specs.Entities.{bytes_or_name, has_handle, has_path, heading_in, named_policy_in, new_handle_in, new_path_in, policy_name_in, policy_source_in, some_policy_in};
 ghost use Rattle.tpol_scene.specs.Faults.{Gives};
 ghost use Rattle.tpol_scene.specs.Kinds.{kind_in};
 ghost use Rattle.tpol_scene.specs.Members.{needed, optional};
@@ -224,13 +224,24 @@ fn named_policy(
 ) -> Result<PolicySource, PartFault>
     ensures { Gives result (named_policy_in (view value.now) place.now) }
 {
-    let text = text(alloc, value, place)?;
-    let named = NamedPolicy {
-        name: Text::from_str(alloc, without_folder(text.as_str()))?,
-        place: place.to_place(alloc)?,
-    };
+    let named = policy_name(alloc, value, place)?;
     Ok(PolicySource {
         auth_policy: Blob::new(alloc),
         named: Some(named),
+    })
+}
+
+/// A policy by its name, without `/policy/` in front, and where it stands.
+pub fn policy_name(
+    alloc: Global,
+    value: &Value,
+    place: &PlaceRef<'_>,
+) -> Result<NamedPolicy, PartFault>
+    ensures { Gives result (policy_name_in (view value.now) place.now) }
+{
+    let text = text(alloc, value, place)?;
+    Ok(NamedPolicy {
+        name: Text::from_str(alloc, without_folder(text.as_str()))?,
+        place: place.to_place(alloc)?,
     })
 }

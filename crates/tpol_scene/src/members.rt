@@ -3,15 +3,18 @@
 ghost use Rattle.std.specs.Prelude.{◌≡◌, []};
 ghost use Rattle.serde_json.specs.View.{view};
 ghost use Rattle.tpol_base.specs.Digest.{zero_digest};
+ghost use Rattle.tpol_json.specs.Bytes.{bytes_in};
+ghost use Rattle.tpol_json.specs.Faults as members;
+ghost use Rattle.tpol_json.specs.Reading as json;
 ghost use Rattle.tpol_scene.specs.Faults.{Gives};
-ghost use Rattle.tpol_scene.specs.Members.{optional};
+ghost use Rattle.tpol_scene.specs.Members.{needed, optional};
 ghost use Rattle.tpol_scene.specs.Values.{auth_in, truth_in, u32_in, without_zeros};
 
 use crate::fault::PartFault;
 use serde_json::Value;
 use std::alloc::Global;
 use tpol_base::{Blob, Digest32};
-use tpol_json::{PlaceRef, bytes_up_to, member, truth, unsigned_32};
+use tpol_json::{MemberFault, PlaceRef, bytes_at, bytes_up_to, member, needed, truth, unsigned_32};
 
 /// The most bytes of an authorization value.
 const MAX_AUTH: usize = 32;
@@ -29,6 +32,26 @@ pub fn optional_auth(
         Some(auth) => auth_of(alloc, auth, &place.member(name)),
         None => Ok(Blob::new(alloc)),
     }
+}
+
+/// A number of 32 bits.
+pub fn needed_u32(
+    alloc: Global,
+    value: &Value,
+    name: &str,
+    place: &PlaceRef<'_>,
+) -> Result<u32, PartFault>
+    ensures { Gives result (needed u32_in name.now (view value.now) place.now) }
+{
+    let (number, place) = needed(alloc, value, name, place)?;
+    Ok(unsigned_32(alloc, number, &place)?)
+}
+
+/// Bytes of any number.
+pub fn any_bytes(alloc: Global, value: &Value, place: &PlaceRef<'_>) -> Result<Blob, MemberFault>
+    ensures { members.Gives result (json.read_as members.kind_of (bytes_in (view value.now) place.now)) }
+{
+    Ok(bytes_at(alloc, value, place)?)
 }
 
 /// A number of 32 bits, or its default.

@@ -3,7 +3,7 @@ use Rattle.std.proofs.Common.{◌≡◌, ◌<◌, Bool, true, false, List, lengt
 use Rattle.std.proofs.lemmas.Bool.Decides.{Decides-ltb}
 use Rattle.std.proofs.lemmas.List.Folds.{Any-from_list_any, list_any-from_Any}
 use Rattle.std.specs.List.{list_any}
-use Rattle.tpol_top.specs.Paths.{is_too_long}
+use Rattle.tpol_top.specs.Limits.{is_too_long}
 use Rattle.tpol_tree.specs.declared.path.Path.{Path}
 
 -- some path is too long

@@ -2,13 +2,6 @@
 use Rattle.std.proofs.Common.{◌≡◌, ℕ, ◌<◌, ◌≤◌, List, [], ◌∷◌, length, None, refl, arith}
 use Rattle.tpol_top.specs.Words.{request_of}
 
--- two words
-pub no_command-two : (words : List (List ℕ)) → 2 ≤ length words → length words < 3 → request_of words ≡ None
-no_command-two [] least below = absurd (omega arith)
-no_command-two (a ∷ []) least below = absurd (omega arith)
-no_command-two (a ∷ b ∷ []) least below = refl
-no_command-two (a ∷ b ∷ c ∷ rest) least below = absurd (omega arith)
-
 -- more than three words
 pub no_command-four : (words : List (List ℕ)) → 4 ≤ length words → request_of words ≡ None
 no_command-four [] least = absurd (omega arith)

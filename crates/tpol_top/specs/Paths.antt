@@ -1,33 +1,26 @@
--- What `paths` prints.
-use Rattle.std.specs.Prelude.{ℕ, ◌+◌, List, [], ◌∷◌, ◌++◌, codes, length, nat_lt, Bool, Ok, Err, if◌then◌else◌}
-use Rattle.std.specs.List.{list_any}
+-- The command `paths`.
+use Rattle.std.specs.Prelude.{ℕ, List, [], ◌∷◌, ◌++◌, Option, None, Ok}
+use Rattle.tpol_base.specs.declared.document.Document.{Document}
 use Rattle.tpol_digest.specs.Digest.{policy_digest}
 use Rattle.tpol_digest.specs.Paths.{paths_of}
 use Rattle.tpol_lines.specs.Lines.{line_of}
 use Rattle.tpol_lines.specs.PathLine.{path_lines}
+use Rattle.tpol_scene.specs.declared.scene.Scene.{Scene}
+use Rattle.tpol_store.specs.Approvals.{approved_documents}
+use Rattle.tpol_store.specs.Stores.{NamedPolicy}
 use Rattle.tpol_top.specs.declared.answer.Answer.{Answer}
-use Rattle.tpol_top.specs.declared.answer.Verdict.TheVariants.{Done, PathLimit}
+use Rattle.tpol_top.specs.declared.answer.Verdict.TheVariants.{Done}
+use Rattle.tpol_top.specs.Filled.{filled_step}
+use Rattle.tpol_top.specs.Limits.{limit_step}
 use Rattle.tpol_top.specs.Lines.{digest_line}
-use Rattle.tpol_top.specs.Answer.{one_line}
-use Rattle.tpol_top.specs.Steps.{Step}
+use Rattle.tpol_top.specs.Prepared.{named_scene_step, opening_step}
+use Rattle.tpol_top.specs.ReadStep.{read_step}
+use Rattle.tpol_top.specs.Steps.{Step, ◌>>=◌}
+use Rattle.tpol_top.specs.StoreStep.{store_step}
 use Rattle.tpol_tree.specs.declared.closed.Closed.{Closed}
+use Rattle.tpol_tree.specs.declared.path.ApprovedDoc.{ApprovedDoc}
 use Rattle.tpol_tree.specs.declared.path.Path.{Path}
-
-abbrev pub too_many_paths : Answer
-too_many_paths = one_line (codes "error PathLimit TooManyPaths") PathLimit
-
-abbrev pub too_long_path : Answer
-too_long_path = one_line (codes "error PathLimit TooLong") PathLimit
-
--- whether a path has more than 512 moves
-abbrev pub is_too_long : Path → Bool
-is_too_long path = nat_lt 512 (length path.moves)
-
--- the paths and the digest, unless there are too many paths, or one that is too long
-abbrev pub within_limits : List Path → Answer → Step Answer
-within_limits paths answer =
-    if nat_lt 65536 (length paths) then Err too_many_paths
-    else (if list_any is_too_long paths then Err too_long_path else Ok answer)
+use Rattle.tpol_tree.specs.declared.policy.Policy.{Policy}
 
 -- a line for each path, and the digest
 abbrev pub path_answer : Closed → List Path → Answer
@@ -36,6 +29,26 @@ path_answer closed paths = record {
   verdict = Done;
 }
 
--- the policy's paths, where no document of the shelf is approved
-unfoldable pub listed : Closed → Step Answer
-listed closed = within_limits (paths_of closed []) (path_answer closed (paths_of closed []))
+-- the policy's paths, where these documents are approved
+unfoldable pub listed : Closed → List ApprovedDoc → Step Answer
+listed closed approvals =
+    limit_step None closed approvals >>= λ within. Ok (path_answer closed (paths_of closed approvals))
+
+-- the same of a document that is filled with what the machine of a scene shows, and whose approvals are those of
+-- the store
+unfoldable pub listed_in : List NamedPolicy → Option Scene → Policy → Step Answer
+listed_in store scene policy = do
+  sight ← opening_step store scene
+  closed ← filled_step None policy sight
+  listed closed (approved_documents store sight)
+
+-- the same with the scene of the shelf, if one is named, and the documents of the shelf
+unfoldable pub listed_with : Option (List ℕ) → Policy → List Document → Step Answer
+listed_with name policy all = do
+  scene ← named_scene_step name all
+  store ← store_step all
+  listed_in store scene policy
+
+-- the same of the document in the source
+unfoldable pub paths_step : Option (List ℕ) → List ℕ → List Document → Step Answer
+paths_step name input all = read_step input >>= λ read. listed_with name read.0 all

@@ -1,5 +1,5 @@
 -- The lines of refusals.
-use Rattle.std.specs.Prelude.{ℕ, List, ◌++◌, codes}
+use Rattle.std.specs.Prelude.{ℕ, List, [], ◌++◌, codes, Option, Some, None}
 use Rattle.tpol_fill.specs.declared.fault.FillKind.{FillKind}
 use Rattle.tpol_fill.specs.declared.fault.FillKind.TheVariants.{NoSuchPath, NoSuchPcr, NotKeyedHash, VoidPrefix}
 use Rattle.tpol_json.specs.declared.place.Place.{Place}
@@ -9,15 +9,31 @@ use Rattle.tpol_elements.specs.declared.fault.PolicyKind.TheVariants as policy
 use Rattle.tpol_scene.specs.declared.fault.SceneKind.{SceneKind}
 use Rattle.tpol_scene.specs.declared.fault.SceneKind.TheVariants as scene
 use Rattle.tpol_top.specs.declared.answer.Answer.{Answer}
-use Rattle.tpol_top.specs.declared.answer.Verdict.TheVariants.{BadPolicy, BadScene}
+use Rattle.tpol_top.specs.declared.answer.Verdict.TheVariants.{BadPolicy, BadScene, PathLimit, TooLarge}
 use Rattle.tpol_top.specs.Answer.{one_line}
 
 -- what is wrong, and where
 abbrev pub at_place : List ℕ → List ℕ → Place → List ℕ
 at_place what kind place = codes "error " ++ what ++ codes " " ++ kind ++ codes " at " ++ text_of_place place
 
-abbrev pub bad_policy : List ℕ → Place → Answer
-bad_policy kind place = one_line (at_place (codes "BadPolicy") kind place) BadPolicy
+-- of which document of the shelf, where it is not the source's own
+abbrev pub in_document : Option (List ℕ) → List ℕ
+in_document None = []
+in_document (Some name) = codes " in " ++ name
+
+abbrev pub bad_policy : List ℕ → Option (List ℕ) → Place → Answer
+bad_policy kind document place = one_line (at_place (codes "BadPolicy") (kind ++ in_document document) place) BadPolicy
+
+-- bytes that are no JSON text
+abbrev pub policy_not_json : Option (List ℕ) → Answer
+policy_not_json document = one_line (codes "error BadPolicy NotJson" ++ in_document document) BadPolicy
+
+abbrev pub path_limit : List ℕ → Option (List ℕ) → Answer
+path_limit kind document = one_line (codes "error PathLimit " ++ (kind ++ in_document document)) PathLimit
+
+-- a document of the shelf
+abbrev pub too_large_in : List ℕ → Answer
+too_large_in name = one_line (codes "error TooLarge in " ++ name) TooLarge
 
 abbrev pub bad_scene : List ℕ → Place → Answer
 bad_scene kind place = one_line (at_place (codes "BadScene") kind place) BadScene
@@ -53,4 +69,7 @@ scene_kind_name scene.UnknownKind = codes "UnknownKind"
 scene_kind_name scene.Twice = codes "Twice"
 scene_kind_name scene.TooMany = codes "TooMany"
 scene_kind_name scene.BadState = codes "BadState"
+scene_kind_name scene.NoSuchPath = codes "NoSuchPath"
+scene_kind_name scene.NoSuchClient = codes "NoSuchClient"
+scene_kind_name scene.NoSuchRun = codes "NoSuchRun"
 scene_kind_name scene.NoSuchPolicy = codes "NoSuchPolicy"

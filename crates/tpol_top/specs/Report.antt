@@ -1,13 +1,13 @@
 -- What a run of the program prints and answers, and what it leaves on the shelf.
-use Rattle.std.specs.Prelude.{◌≡◌, ◌≤◌, ℕ, List, take, drop, length, codes, nat_le, Option, None, Some, IfSome, if◌then◌else◌}
+use Rattle.std.specs.Prelude.{◌≡◌, ◌≤◌, ℕ, List, [], take, drop, length, codes, nat_le, Option, None, Some, IfSome, if◌then◌else◌}
 use Rattle.tpol_base.specs.declared.document.Document.{Document}
 use Rattle.tpol_top.specs.declared.answer.Answer.{Answer}
 use Rattle.tpol_top.specs.declared.answer.Verdict.TheVariants.{Usage, TooLarge}
 use Rattle.tpol_top.specs.declared.request.Request.{Request}
-use Rattle.tpol_top.specs.Commands.{request_step}
+use Rattle.tpol_top.specs.Commands.{documents_after, request_step}
 use Rattle.tpol_top.specs.Answer.{one_line}
 use Rattle.tpol_top.specs.Steps.{answer_of}
-use Rattle.tpol_top.specs.Words.{request_of}
+use Rattle.tpol_top.specs.Words.{reads_source_for, request_of}
 
 -- the lines, how the run ends, and the shelf's documents afterwards
 pub record Report : Type 0 where
@@ -24,7 +24,10 @@ most_read = 16777217
 
 -- the report of a command on a source that is not too large
 abbrev pub report_of_request : Request → List ℕ → List Document → Report
-report_of_request command input all = leaves (answer_of (request_step command input all)) all
+report_of_request command input all = record {
+  answer = answer_of (request_step command input all);
+  documents = documents_after command input all;
+}
 
 -- the report of a command on what was read of the source
 abbrev pub report_of_input : Request → List ℕ → List Document → Report
@@ -32,10 +35,14 @@ report_of_input command input all =
     if nat_le most_read (length input) then leaves (one_line (codes "error TooLarge") TooLarge) all
     else report_of_request command input all
 
+-- what a command sees of the source: nothing where it does not read it
+abbrev pub seen_by : Request → List ℕ → List ℕ
+seen_by command input = if reads_source_for command then input else []
+
 -- the report of what the words are
 abbrev pub report_of_choice : Option Request → List ℕ → List Document → Report
 report_of_choice None input all = leaves (one_line (codes "error Usage") Usage) all
-report_of_choice (Some command) input all = report_of_input command input all
+report_of_choice (Some command) input all = report_of_input command (seen_by command input) all
 
 -- The report of a run: of its words, of the source's bytes up to byte 16,777,217, and of the shelf's
 -- documents.

@@ -1,7 +1,8 @@
 -- The numbers of statuses, and which of them say that the whole report was written.
 use Rattle.std.specs.Prelude.{ℕ, ⊤, Result, Ok, Err}
-use Rattle.tpol_top.specs.declared.run.Stop.{Stop}
-use Rattle.tpol_top.specs.declared.run.Stop.TheVariants as S
+use Rattle.tpol_top.specs.declared.halt.Halt.{Halt}
+use Rattle.tpol_top.specs.declared.halt.Halt.TheVariants.{Refused, ReadFailed, ShelfFailed}
+use Rattle.tpol_top.specs.declared.halt.Halt.TheVariants as halts
 use Rattle.tpol_top.specs.declared.status.Status.{Status}
 use Rattle.tpol_top.specs.declared.status.Status.TheVariants.{Done, Usage, ReadFault, WriteFault, ShelfFault, TooLarge, BadPolicy, BadScene, NoMemory, PathLimit}
 
@@ -37,13 +38,10 @@ IsPastReading ReadFault = ⊥
 IsPastReading NoMemory = ⊥
 IsPastReading _ = ⊤
 
--- the status of a run that stopped before it had an answer
-abbrev pub status_of_stop : Stop → Status
-status_of_stop S.ReadFault = ReadFault
-status_of_stop S.ShelfFault = ShelfFault
-status_of_stop S.NoMemory = NoMemory
-
 -- the same of a run's answer, or of why it has none
-abbrev pub IsPastReadingResult : {T : Type 0} → Result T Stop → Type 0
+abbrev pub IsPastReadingResult : {T : Type 0} → Result T Halt → Type 0
 IsPastReadingResult (Ok answer) = ⊤
-IsPastReadingResult (Err stop) = IsPastReading (status_of_stop stop)
+IsPastReadingResult (Err (Refused answer)) = ⊤
+IsPastReadingResult (Err ReadFailed) = ⊥
+IsPastReadingResult (Err ShelfFailed) = ⊤
+IsPastReadingResult (Err halts.NoMemory) = ⊥

@@ -1,21 +1,33 @@
 -- The words of the program.
-use Rattle.std.specs.Prelude.{ℕ, Bool, false, List, [], ◌∷◌, Option, None, Some, codes, if◌then◌else◌}
+use Rattle.std.specs.Prelude.{ℕ, ◌&&◌, nat_le, Bool, true, false, List, [], ◌∷◌, Option, None, Some, codes, if◌then◌else◌}
 use Rattle.std.specs.Option.{is_some, option_map_or}
 use Rattle.std.specs.Str.{bytes_eq}
 use Rattle.tpol_base.specs.PolicyName.{is_policy_name, without_folder}
+use Rattle.tpol_top.specs.Numbers.{number_of_word}
 use Rattle.tpol_top.specs.declared.request.Request.{Request}
-use Rattle.tpol_top.specs.declared.request.Request.TheVariants.{Compile, Paths, Canon}
+use Rattle.tpol_top.specs.declared.request.Request.TheVariants.{Compile, Paths, Canon, Import, Run, Explain, Generate}
 
 -- the command of one word
 abbrev pub one_word_request : List ℕ → Option Request
 one_word_request word =
     if bytes_eq word (codes "compile") then Some (Compile None)
     else (if bytes_eq word (codes "paths") then Some (Paths None)
-    else (if bytes_eq word (codes "canon") then Some Canon else None))
+    else (if bytes_eq word (codes "canon") then Some Canon
+    else (if bytes_eq word (codes "run") then Some Run
+    else (if bytes_eq word (codes "explain") then Some Explain else None))))
 
 -- the name of a policy or of a scene, where it is one
 abbrev pub policy_stem : List ℕ → Option (List ℕ)
 policy_stem name = if is_policy_name (without_folder name) then Some (without_folder name) else None
+
+-- the command of a word with this policy
+abbrev pub request_with_name : List ℕ → Option (List ℕ) → Option Request
+request_with_name word None = None
+request_with_name word (Some name) = if bytes_eq word (codes "import") then Some (Import name) else None
+
+-- the command of two words: a word and a name
+abbrev pub name_request : List ℕ → List ℕ → Option Request
+name_request word name = request_with_name word (policy_stem name)
 
 -- the command of a word with this scene
 abbrev pub request_with_scene : List ℕ → Option (List ℕ) → Option Request
@@ -29,23 +41,44 @@ abbrev pub scene_request : List ℕ → List ℕ → List ℕ → Option Request
 scene_request word option name =
     if bytes_eq option (codes "--scene") then request_with_scene word (policy_stem name) else None
 
+-- the command `gen`: of 1 to 12 ORs, in an order that a number below 2^32 gives
+abbrev pub generation : Option ℕ → Option ℕ → Option Request
+generation None order = None
+generation (Some ors) None = None
+generation (Some ors) (Some order) = if nat_le 1 ors && nat_le ors 12 then Some (Generate ors order) else None
+
+-- the command of three words
+abbrev pub three_word_request : List ℕ → List ℕ → List ℕ → Option Request
+three_word_request word second third =
+    if bytes_eq word (codes "gen") then generation (number_of_word second) (number_of_word third)
+    else scene_request word second third
+
 -- the command that the words are
 abbrev pub request_of : List (List ℕ) → Option Request
 request_of [] = None
 request_of (word ∷ []) = one_word_request word
-request_of (word ∷ option ∷ []) = None
-request_of (word ∷ option ∷ name ∷ []) = scene_request word option name
-request_of (word ∷ option ∷ name ∷ other ∷ rest) = None
+request_of (word ∷ name ∷ []) = name_request word name
+request_of (word ∷ second ∷ third ∷ []) = three_word_request word second third
+request_of (word ∷ second ∷ third ∷ other ∷ rest) = None
+
+-- whether a command reads the source
+abbrev pub reads_source_for : Request → Bool
+reads_source_for (Generate ors order) = false
+reads_source_for request = true
 
 -- whether the words are a command that reads the source
 abbrev pub reads_source : List (List ℕ) → Bool
-reads_source words = is_some (request_of words)
+reads_source words = option_map_or reads_source_for (request_of words) false
 
--- whether a command uses the shelf: where it names a scene
+-- whether a command uses the shelf
 abbrev pub uses_shelf_for : Request → Bool
 uses_shelf_for (Compile scene) = is_some scene
-uses_shelf_for (Paths scene) = is_some scene
+uses_shelf_for (Paths scene) = true
 uses_shelf_for Canon = false
+uses_shelf_for (Import name) = true
+uses_shelf_for Run = true
+uses_shelf_for Explain = true
+uses_shelf_for (Generate ors order) = false
 
 -- whether the words are a command that uses the shelf
 abbrev pub uses_shelf : List (List ℕ) → Bool

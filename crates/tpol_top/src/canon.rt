@@ -1,7 +1,9 @@
-ghost use Rattle.std.specs.Prelude.{◌≡◌, IfOk, IsErrOf};
+// The command `canon`.
+
+ghost use Rattle.std.specs.Prelude.{◌≡◌, IfOk};
 ghost use Rattle.tpol_top.specs.Canon.{canon_step};
 ghost use Rattle.tpol_top.specs.Answer.{one_line};
-ghost use Rattle.tpol_top.specs.Steps.{Answers};
+ghost use Rattle.tpol_top.specs.Steps.{Answers, IsInside};
 ghost use Rattle.tpol_tree.specs.Erased.{erased_policy};
 ghost use Rattle.tpol_write.specs.Canonical.{canonical_text};
 
@@ -14,16 +16,14 @@ use tpol_lines::{Lines, push_bytes};
 use tpol_tree::Policy;
 use tpol_write::write_policy;
 
-/// The command `canon`: the canonical text of the document.
+/// The command `canon`: the canonical text of the document in the source.
 #[tactic(auto, unfolding(crate::specs::Canon::canon_step))]
 pub fn canon(alloc: Global, input: &[u8]) -> Result<Answer, Halt>
     ensures answer { Answers (λ answer. answer) (canon_step input.now) result }
-    ensures shelf { IsErrOf result Halt.ShelfFailed → ⊥ }
+    ensures inside { IsInside result }
 {
-    match read_document(alloc, input) {
-        Ok((policy, _notes)) => Ok(canonical(alloc, &policy)?),
-        Err(halt) => Err(halt),
-    }
+    let (policy, _notes) = read_document(alloc, input)?;
+    Ok(canonical(alloc, &policy)?)
 }
 
 #[tactic(auto, using(tpol_write::proofs::CanonErased::canonical_text_erased))]

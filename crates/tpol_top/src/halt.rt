@@ -1,11 +1,13 @@
 use crate::answer::Answer;
 use tpol_base::{Lapse, NoMemory};
 
-/// Why a step of a command gives no value.
+/// Why a run ends before the last step of its command.
 #[derive(Drop)]
 pub enum Halt {
     /// The run ends with this answer.
     Refused(Answer),
+    /// The source failed.
+    ReadFailed,
     /// The shelf failed.
     ShelfFailed,
     /// Memory ran out.
@@ -20,5 +22,20 @@ impl From<NoMemory> for Halt {
 
     fn from(_: NoMemory) -> Self {
         Halt::NoMemory
+    }
+}
+
+/// Of a call of the shelf.
+impl From<Lapse> for Halt {
+    ghost use Rattle.std.specs.Prelude.{◌≡◌};
+    ghost use Rattle.tpol_top.specs.Halts.{halt_of_lapse};
+
+    ghost from_gives = { λ lapse halt. halt ≡ halt_of_lapse lapse };
+
+    fn from(lapse: Lapse) -> Self {
+        match lapse {
+            Lapse::Failed => Halt::ShelfFailed,
+            Lapse::NoMemory => Halt::NoMemory,
+        }
     }
 }

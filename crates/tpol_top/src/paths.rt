@@ -1,45 +1,106 @@
-// What the command `paths` prints.
+// The command `paths`.
 
-ghost use Rattle.std.specs.Prelude.{◌≡◌, [], IfOk, IsErrOf};
-ghost use Rattle.tpol_digest.specs.Limits.{AreWithinLimits};
+ghost use Rattle.std.specs.Prelude.{◌≡◌, true, All, IfSome, IfOk, IsOk, map, ⊤};
 ghost use Rattle.tpol_digest.specs.Paths.{paths_of};
-ghost use Rattle.tpol_top.specs.Paths.{listed, path_answer};
-ghost use Rattle.tpol_top.specs.Steps.{Answers};
-ghost use Rattle.tpol_tree.specs.Closed.{HasBranchCounts};
-ghost use Rattle.tpol_tree.specs.ClosedErased.{erased};
+ghost use Rattle.tpol_digest.specs.WellFormed.{HaveBranchCounts};
+ghost use Rattle.tpol_store.specs.Stores.{IsReadable, policies_of, stored};
+ghost use Rattle.tpol_top.specs.Paths.{listed, listed_in, listed_with, path_answer, paths_step};
+ghost use Rattle.tpol_top.specs.ReadStep.{read_step};
+ghost use Rattle.tpol_top.specs.Steps.{Answers, AsksShelf, IsInside};
+ghost use Rattle.tpol_tree.specs.ClosedErased.{erased, erased_document};
+ghost use Rattle.tpol_tree.specs.Elements as written;
+ghost use Rattle.tpol_tree.specs.Erased.{erased_policy};
 
 use crate::answer::{Answer, Verdict};
+use crate::filled::fill_document;
 use crate::halt::Halt;
+use crate::limits::check_limits;
 use crate::lines::digest_line;
+use crate::prepared::{named_scene, opening_of};
+use crate::read_step::read_document;
+use crate::store_step::load_store;
 use std::alloc::Global;
-use tpol_base::{NoMemory, Sequence};
-use tpol_digest::{PathLimit, check_paths, digest_of};
+use tpol_base::{NoMemory, Shelf, Text};
+use tpol_digest::digest_of;
 use tpol_lines::{push_line, write_paths};
-use tpol_tree::{Approvals, Closed};
+use tpol_scene::Scene;
+use tpol_store::Store;
+use tpol_tree::{Approvals, Closed, Policy};
 
-/// What `paths` prints: a line for each path, and the digest, or why the paths are not listed.
-pub fn listed(alloc: Global, closed: &Closed) -> Result<Answer, Halt>
-    requires { HasBranchCounts closed.now.elements }
-    ensures answer { Answers (λ answer. answer) (listed (erased closed.now)) result }
-    ensures shelf { IsErrOf result Halt.ShelfFailed → ⊥ }
+/// The command `paths`: a line for each path of the document in the source, and its digest. It is filled with
+/// the scene of this name, if one is given, and documents of the shelf are approved.
+#[tactic(auto, unfolding(crate::specs::Paths::paths_step))]
+pub fn list_paths<H: Shelf>(
+    alloc: Global,
+    scene: &Option<Text>,
+    input: &[u8],
+    shelf: &mut H,
+) -> Result<Answer, Halt>
+    ensures answer { IfSome (H.documents shelf.old) (λ all.
+        Answers (λ answer. answer) (paths_step scene.now input.now all) result) }
+    ensures keeps { H.documents shelf.new ≡ H.documents shelf.old }
+    ensures asks { AsksShelf true (IsOk (read_step input.now)) shelf.old shelf.new (H.faults shelf.old) (H.faults shelf.new) result }
 {
-    let none = Sequence::new(alloc);
-    match check_paths(closed, &none) {
-        Ok(_) => Ok(path_answer(alloc, closed, &none)?),
-        Err(PathLimit::TooManyPaths) => {
-            let line = "error PathLimit TooManyPaths";
-            Err(Halt::Refused(Answer::of_line(alloc, line, Verdict::PathLimit)?))
-        }
-        Err(PathLimit::TooLong) => {
-            let line = "error PathLimit TooLong";
-            Err(Halt::Refused(Answer::of_line(alloc, line, Verdict::PathLimit)?))
-        }
-    }
+    let (policy, _notes) = read_document(alloc, input)?;
+    list_read(alloc, scene, &policy, shelf)
+}
+
+// The same of what was read.
+#[tactic(auto, unfolding(crate::specs::Paths::listed_with))]
+fn list_read<H: Shelf>(
+    alloc: Global,
+    scene: &Option<Text>,
+    policy: &Policy,
+    shelf: &mut H,
+) -> Result<Answer, Halt>
+    requires { written.HasBranchCounts policy.now.elements }
+    ensures answer { IfSome (H.documents shelf.old) (λ all.
+        Answers (λ answer. answer) (listed_with scene.now (erased_policy policy.now) all) result) }
+    ensures keeps { H.documents shelf.new ≡ H.documents shelf.old }
+    ensures asks { AsksShelf true ⊤ shelf.old shelf.new (H.faults shelf.old) (H.faults shelf.new) result }
+{
+    let scene = named_scene(alloc, scene, shelf)?;
+    let store = load_store(alloc, shelf)?;
+    list_policy(alloc, &store, &scene, policy)
+}
+
+// What is printed of the document, over a store and a scene.
+#[tactic(auto, unfolding(crate::specs::Paths::listed_in))]
+fn list_policy(
+    alloc: Global,
+    store: &Store,
+    scene: &Option<Scene>,
+    policy: &Policy,
+) -> Result<Answer, Halt>
+    requires readable { All IsReadable (stored store.now) }
+    requires branches { written.HasBranchCounts policy.now.elements }
+    ensures answer { Answers (λ answer. answer)
+        (listed_in (policies_of store.now) scene.now (erased_policy policy.now)) result }
+    ensures inside { IsInside result }
+{
+    let sight = opening_of(alloc, store, scene)?;
+    let closed = fill_document(alloc, None, policy, sight.as_ref())?;
+    let approvals = store.approvals(alloc, sight.as_ref())?;
+    list(alloc, &closed, &approvals)
+}
+
+// A line for each path, and the digest, or why the paths are not listed.
+#[tactic(auto, unfolding(crate::specs::Paths::listed))]
+fn list(alloc: Global, closed: &Closed, approvals: &Approvals) -> Result<Answer, Halt>
+    requires { HaveBranchCounts closed.now approvals.now }
+    ensures answer { Answers (λ answer. answer)
+        (listed (erased closed.now) (map erased_document approvals.now)) result }
+    ensures inside { IsInside result }
+{
+    check_limits(alloc, None, closed, approvals)?;
+    Ok(path_answer(alloc, closed, approvals)?)
 }
 
 // A line for each path, and the digest.
+#[tactic(auto, using(crate::proofs::PathSteps::path_answer_erased))]
 fn path_answer(alloc: Global, closed: &Closed, approvals: &Approvals) -> Result<Answer, NoMemory>
-    ensures { IfOk result (λ answer. answer ≡ path_answer closed.now (paths_of closed.now approvals.now)) }
+    ensures { IfOk result (λ answer. answer
+        ≡ path_answer (erased closed.now) (paths_of (erased closed.now) (map erased_document approvals.now))) }
 {
     let mut lines = write_paths(alloc, closed, approvals)?;
     let digest = digest_line(alloc, &digest_of(closed))?;

@@ -1,11 +1,30 @@
-ghost use Rattle.std.specs.Prelude.{◌≡◌, MatchResult, OnOk};
-ghost use Rattle.tpol_base.specs.Causes.{HasCause, Grows, GrowsInPart};
-ghost use Rattle.tpol_top.specs.Answer.{text_of};
+ghost use Rattle.std.specs.Prelude.{◌≡◌, ◌≤◌, ◌⊎◌, MatchResult, OnOk};
+ghost use Rattle.tpol_base.specs.Causes.{HasCause, Grows, GrowsInPart, Rose};
+ghost use Rattle.tpol_top.specs.Answer.{status_of, text_of};
 
+use crate::Status;
+use crate::answer::Answer;
 use tpol_base::{Blob, Failed, Sink};
 
-/// Writes lines, each in one write.
-pub fn print_lines<K: Sink>(out: &mut K, lines: &[Blob]) -> Result<(), Failed>
+/// Prints an answer: the status that it ends with, or that the sink failed.
+pub fn print_answer<K: Sink>(out: &mut K, answer: &Answer) -> Status
+    ensures ends { (result ≡ Status.WriteFault) ⊎ (result ≡ status_of answer.now.verdict) }
+    ensures whole { result ≡ status_of answer.now.verdict
+        → Grows (K.contents out.old) (K.contents out.new) (text_of answer.now.lines) }
+    ensures prefix { result ≡ Status.WriteFault
+        → GrowsInPart (K.contents out.old) (K.contents out.new) (text_of answer.now.lines) }
+    ensures write_fault { result ≡ Status.WriteFault → Rose (K.faults out.old) (K.faults out.new) }
+    ensures write_told { (result ≡ Status.WriteFault) ⊎ (K.faults out.new ≡ K.faults out.old) }
+    ensures sink_count { K.faults out.old ≤ K.faults out.new }
+{
+    match print_lines(out, answer.lines.as_slice()) {
+        Ok(()) => answer.verdict.status(),
+        Err(Failed) => Status::WriteFault,
+    }
+}
+
+// Writes lines, each in one write.
+fn print_lines<K: Sink>(out: &mut K, lines: &[Blob]) -> Result<(), Failed>
     ensures written { MatchResult result
         (λ _. Grows (K.contents out.old) (K.contents out.new) (text_of lines.now))
         (λ _. GrowsInPart (K.contents out.old) (K.contents out.new) (text_of lines.now)) }

@@ -1,5 +1,6 @@
-ghost use Rattle.std.specs.Prelude.{◌≡◌, IfOk};
-ghost use Rattle.tpol_top.specs.Refusals.{at_place, bad_policy, bad_scene, fill_kind_name, policy_kind_name, scene_kind_name};
+ghost use Rattle.std.specs.Prelude.{◌≡◌, ◌++◌, codes, IfOk, OnOk};
+ghost use Rattle.std.specs.Option.{option_copied};
+ghost use Rattle.tpol_top.specs.Refusals.{at_place, bad_policy, bad_scene, fill_kind_name, in_document, path_limit, policy_kind_name, policy_not_json, scene_kind_name, too_large_in};
 
 use crate::answer::{Answer, Verdict};
 use std::alloc::Global;
@@ -9,12 +10,61 @@ use tpol_json::{Place, place_text};
 use tpol_read::PolicyKind;
 use tpol_scene::SceneKind;
 
-/// The answer of a policy document that is refused.
-pub fn bad_policy(alloc: Global, kind: &str, place: &Place) -> Result<Answer, NoMemory>
-    ensures { IfOk result (λ answer. answer ≡ bad_policy kind.now place.now) }
+/// The answer of a policy document that is refused: of the shelf where one is named, else the source's.
+pub fn bad_policy(
+    alloc: Global,
+    kind: &str,
+    document: Option<&Text>,
+    place: &Place,
+) -> Result<Answer, NoMemory>
+    ensures { IfOk result (λ answer. answer ≡ bad_policy kind.now (option_copied document.entry) place.now) }
 {
-    let line = at_place(alloc, "BadPolicy", kind, place)?;
+    let mut kind = Text::from_str(alloc, kind)?;
+    push_document(&mut kind, document)?;
+    let line = at_place(alloc, "BadPolicy", kind.as_str(), place)?;
     Answer::of_line(alloc, line.as_str(), Verdict::BadPolicy)
+}
+
+/// The answer of a policy document that is no JSON text.
+pub fn policy_not_json(alloc: Global, document: Option<&Text>) -> Result<Answer, NoMemory>
+    ensures { IfOk result (λ answer. answer ≡ policy_not_json (option_copied document.entry)) }
+{
+    let mut line = Text::from_str(alloc, "error BadPolicy NotJson")?;
+    push_document(&mut line, document)?;
+    Answer::of_line(alloc, line.as_str(), Verdict::BadPolicy)
+}
+
+/// The answer of a policy whose paths are not walked.
+pub fn path_limit(alloc: Global, kind: &str, document: Option<&Text>) -> Result<Answer, NoMemory>
+    ensures { IfOk result (λ answer. answer ≡ path_limit kind.now (option_copied document.entry)) }
+{
+    let mut kind = Text::from_str(alloc, kind)?;
+    push_document(&mut kind, document)?;
+    let mut line = Text::from_str(alloc, "error PathLimit ")?;
+    line.push_str(kind.as_str())?;
+    Answer::of_line(alloc, line.as_str(), Verdict::PathLimit)
+}
+
+/// The answer of a document of the shelf that is too large.
+pub fn too_large_in(alloc: Global, name: &Text) -> Result<Answer, NoMemory>
+    ensures { IfOk result (λ answer. answer ≡ too_large_in name.now) }
+{
+    let mut line = Text::from_str(alloc, "error TooLarge in ")?;
+    line.push_str(name.as_str())?;
+    Answer::of_line(alloc, line.as_str(), Verdict::TooLarge)
+}
+
+// Says of which document of the shelf, where one is named.
+fn push_document(text: &mut Text, document: Option<&Text>) -> Result<(), NoMemory>
+    ensures { OnOk result (text.new ≡ text.old ++ in_document (option_copied document.entry)) }
+{
+    match document {
+        None => Ok(()),
+        Some(name) => {
+            text.push_str(" in ")?;
+            text.push_str(name.as_str())
+        }
+    }
 }
 
 /// The answer of a scene that is refused.
@@ -85,6 +135,9 @@ pub fn scene_kind_name(kind: SceneKind) -> &'static str
         SceneKind::Twice => "Twice",
         SceneKind::TooMany => "TooMany",
         SceneKind::BadState => "BadState",
+        SceneKind::NoSuchPath => "NoSuchPath",
+        SceneKind::NoSuchClient => "NoSuchClient",
+        SceneKind::NoSuchRun => "NoSuchRun",
         SceneKind::NoSuchPolicy => "NoSuchPolicy",
     }
 }

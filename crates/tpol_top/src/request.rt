@@ -1,8 +1,9 @@
 ghost use Rattle.std.specs.Prelude.{◌≡◌, map, IfOk};
 ghost use Rattle.std.specs.Option.{option_map};
 ghost use Rattle.std.specs.String.{string_bytes};
-ghost use Rattle.tpol_top.specs.Words.{request_of, one_word_request, policy_stem, scene_request};
+ghost use Rattle.tpol_top.specs.Words.{generation, request_of, name_request, one_word_request, policy_stem, reads_source_for, scene_request, three_word_request};
 
+use crate::numbers::number_of_word;
 use std::alloc::Global;
 use tpol_base::{NoMemory, Text, is_policy_name, without_folder};
 
@@ -16,6 +17,14 @@ pub enum Request {
     Paths { scene: Option<Text> },
     /// `canon`: its canonical text.
     Canon,
+    /// `import NAME`: puts its canonical text on the shelf, as the document of this name.
+    Import { name: Text },
+    /// `run`: carries out the scene in the source.
+    Run,
+    /// `explain`: the same, and tells by which path of its policy an entity was opened.
+    Explain,
+    /// `gen N M`: a run of a policy of N ORs (1 to 12), whose branches stand in an order by the bits of M.
+    Generate { ors: u8, order: u32 },
 }
 
 impl Request {
@@ -25,13 +34,20 @@ impl Request {
     {
         match words.as_slice() {
             [word] => Ok(one_word_request(word.as_str())),
-            [word, option, name] => {
-                scene_request(alloc, word.as_str(), option.as_str(), name.as_str())
+            [word, second, third] => {
+                three_word_request(alloc, word.as_str(), second.as_str(), third.as_str())
             }
+            [word, name] => name_request(alloc, word.as_str(), name.as_str()),
             [] => Ok(None),
-            [_, _] => Ok(None),
             [_, _, _, _, ..] => Ok(None),
         }
+    }
+
+    /// Whether the command reads the source.
+    pub fn reads_source(&self) -> bool
+        ensures { result ≡ reads_source_for self.now }
+    {
+        !matches!(self, Request::Generate { .. })
     }
 }
 
@@ -47,7 +63,54 @@ fn one_word_request(word: &str) -> Option<Request>
     if word == "canon" {
         return Some(Request::Canon);
     }
+    if word == "run" {
+        return Some(Request::Run);
+    }
+    if word == "explain" {
+        return Some(Request::Explain);
+    }
     None
+}
+
+fn name_request(alloc: Global, word: &str, name: &str) -> Result<Option<Request>, NoMemory>
+    ensures { IfOk result (λ request. request ≡ name_request word.now name.now) }
+{
+    let Some(name) = policy_stem(alloc, name)? else {
+        return Ok(None);
+    };
+    if word == "import" {
+        return Ok(Some(Request::Import { name }));
+    }
+    Ok(None)
+}
+
+fn three_word_request(
+    alloc: Global,
+    word: &str,
+    second: &str,
+    third: &str,
+) -> Result<Option<Request>, NoMemory>
+    ensures { IfOk result (λ request. request ≡ three_word_request word.now second.now third.now) }
+{
+    if word == "gen" {
+        return Ok(generation(number_of_word(second), number_of_word(third)));
+    }
+    scene_request(alloc, word, second, third)
+}
+
+fn generation(ors: Option<u32>, order: Option<u32>) -> Option<Request>
+    ensures { result ≡ generation ors order }
+{
+    let ors = ors?;
+    let order = order?;
+    if 1 <= ors && ors <= 12 {
+        Some(Request::Generate {
+            ors: ors as u8,
+            order,
+        })
+    } else {
+        None
+    }
 }
 
 fn scene_request(

@@ -1,56 +1,32 @@
-ghost use Rattle.std.specs.Prelude.{◌≡◌, ◌≤◌, ◌⊎◌, ◌++◌, false, is_some, IfSome, IfOk, IsSome, IsErrOf, codes};
-ghost use Rattle.tpol_base.specs.Causes.{Rose};
+ghost use Rattle.std.specs.Prelude.{◌≡◌, ◌++◌, true, IfSome, IfOk, ⊤, codes};
 ghost use Rattle.tpol_base.specs.Documents.{most_handed_out};
-ghost use Rattle.tpol_top.specs.SceneStep.{opening_of, scene_file, scene_of_bytes, sight_of_found, sight_step, too_large_in};
-ghost use Rattle.tpol_top.specs.Steps.{Answers};
+ghost use Rattle.tpol_name.specs.Setups.{IsSetup};
+ghost use Rattle.tpol_scene.specs.Conditions.{HasClients, HasLimits, HasPlaces, HasScript};
+ghost use Rattle.tpol_top.specs.SceneStep.{scene_file, scene_of_bytes, scene_of_found, scene_step};
+ghost use Rattle.tpol_top.specs.Steps.{Answers, AsksShelf, IsInside};
 
 use crate::answer::{Answer, Verdict};
 use crate::halt::Halt;
-use crate::refusals::{bad_scene, scene_kind_name};
+use crate::refusals::{bad_scene, scene_kind_name, too_large_in};
 use std::alloc::Global;
-use tpol_base::{Blob, Lapse, NoMemory, Shelf, Text, most_handed_out};
-use tpol_name::{Sight, opening_sight};
+use tpol_base::{Blob, NoMemory, Shelf, Text, most_handed_out};
 use tpol_scene::{Scene, SceneFault, read_scene};
 
-/// What the machine of a scene shows when it starts: of the scene of this name on the shelf, or none where
-/// none is named.
-#[tactic(auto, unfolding(crate::specs::SceneStep::sight_step))]
-pub fn sight_of_scene<H: Shelf>(
-    alloc: Global,
-    scene: &Option<Text>,
-    shelf: &mut H,
-) -> Result<Option<Sight>, Halt>
-    ensures answer { IfSome (H.documents shelf.old) (λ all. Answers (λ sight. sight) (sight_step scene.now all) result) }
+/// Reads the scene of this name on the shelf, or ends the run at its first fault.
+#[tactic(auto, unfolding(crate::specs::SceneStep::scene_step))]
+pub fn scene_of_shelf<H: Shelf>(alloc: Global, name: &Text, shelf: &mut H) -> Result<Scene, Halt>
+    ensures answer { IfSome (H.documents shelf.old) (λ all. Answers (λ scene. scene) (scene_step name.now all) result) }
     ensures keeps { H.documents shelf.new ≡ H.documents shelf.old }
-    ensures untouched { is_some scene.now ≡ false → shelf.new ≡ shelf.old }
-    ensures later { H.faults shelf.old ≤ H.faults shelf.new }
-    ensures failed { IsErrOf result Halt.ShelfFailed → Rose (H.faults shelf.old) (H.faults shelf.new) }
-    ensures stays { IsErrOf result Halt.ShelfFailed ⊎ (H.faults shelf.new ≡ H.faults shelf.old) }
-    ensures named { IsErrOf result Halt.ShelfFailed → IsSome scene.now }
-{
-    match scene {
-        None => Ok(None),
-        Some(name) => sight_of_name(alloc, name, shelf),
-    }
-}
-
-#[tactic(auto, unfolding(crate::specs::SceneStep::sight_step))]
-fn sight_of_name<H: Shelf>(alloc: Global, name: &Text, shelf: &mut H) -> Result<Option<Sight>, Halt>
-    ensures answer { IfSome (H.documents shelf.old) (λ all. Answers (λ sight. sight) (sight_step (Some name.now) all) result) }
-    ensures keeps { H.documents shelf.new ≡ H.documents shelf.old }
-    ensures later { H.faults shelf.old ≤ H.faults shelf.new }
-    ensures failed { IsErrOf result Halt.ShelfFailed → Rose (H.faults shelf.old) (H.faults shelf.new) }
-    ensures stays { IsErrOf result Halt.ShelfFailed ⊎ (H.faults shelf.new ≡ H.faults shelf.old) }
+    ensures asks { AsksShelf true ⊤ shelf.old shelf.new (H.faults shelf.old) (H.faults shelf.new) result }
+    ensures setup { IfOk result (λ scene. IsSetup scene.setup) }
+    ensures places { IfOk result HasPlaces }
+    ensures limits { IfOk result HasLimits }
+    ensures clients { IfOk result HasClients }
+    ensures script { IfOk result HasScript }
 {
     let file = scene_file(alloc, name)?;
-    match shelf.fetch(file.as_str()) {
-        Ok(found) => match sight_of_found(alloc, name, found) {
-            Ok(sight) => Ok(Some(sight)),
-            Err(halt) => Err(halt),
-        },
-        Err(Lapse::Failed) => Err(Halt::ShelfFailed),
-        Err(Lapse::NoMemory) => Err(Halt::NoMemory),
-    }
+    let found = shelf.fetch(file.as_str())?;
+    scene_of_found(alloc, name, found)
 }
 
 // The document of a scene.
@@ -62,9 +38,14 @@ fn scene_file(alloc: Global, name: &Text) -> Result<Text, NoMemory>
     Ok(file)
 }
 
-fn sight_of_found(alloc: Global, name: &Text, found: Option<Blob>) -> Result<Sight, Halt>
-    ensures answer { Answers (λ sight. sight) (sight_of_found name.now found) result }
-    ensures shelf { IsErrOf result Halt.ShelfFailed → ⊥ }
+fn scene_of_found(alloc: Global, name: &Text, found: Option<Blob>) -> Result<Scene, Halt>
+    ensures answer { Answers (λ scene. scene) (scene_of_found name.now found) result }
+    ensures inside { IsInside result }
+    ensures setup { IfOk result (λ scene. IsSetup scene.setup) }
+    ensures places { IfOk result HasPlaces }
+    ensures limits { IfOk result HasLimits }
+    ensures clients { IfOk result HasClients }
+    ensures script { IfOk result HasScript }
 {
     let Some(bytes) = found else {
         let line = "error BadScene NoSuchScene";
@@ -73,22 +54,19 @@ fn sight_of_found(alloc: Global, name: &Text, found: Option<Blob>) -> Result<Sig
     if bytes.len() >= most_handed_out() {
         return Err(Halt::Refused(too_large_in(alloc, name)?));
     }
-    let scene = scene_of_bytes(alloc, bytes.as_slice())?;
-    opening_of(alloc, &scene)
+    scene_of_bytes(alloc, bytes.as_slice())
 }
 
-fn too_large_in(alloc: Global, name: &Text) -> Result<Answer, NoMemory>
-    ensures { IfOk result (λ answer. answer ≡ too_large_in name.now) }
-{
-    let mut line = Text::from_str(alloc, "error TooLarge in ")?;
-    line.push_str(name.as_str())?;
-    Answer::of_line(alloc, line.as_str(), Verdict::TooLarge)
-}
-
+/// Reads a scene, or ends the run at its first fault.
 #[tactic(auto, unfolding(crate::specs::SceneStep::scene_of_bytes))]
-fn scene_of_bytes(alloc: Global, bytes: &[u8]) -> Result<Scene, Halt>
+pub fn scene_of_bytes(alloc: Global, bytes: &[u8]) -> Result<Scene, Halt>
     ensures answer { Answers (λ scene. scene) (scene_of_bytes bytes.now) result }
-    ensures shelf { IsErrOf result Halt.ShelfFailed → ⊥ }
+    ensures inside { IsInside result }
+    ensures setup { IfOk result (λ scene. IsSetup scene.setup) }
+    ensures places { IfOk result HasPlaces }
+    ensures limits { IfOk result HasLimits }
+    ensures clients { IfOk result HasClients }
+    ensures script { IfOk result HasScript }
 {
     match read_scene(alloc, bytes) {
         Ok(scene) => Ok(scene),
@@ -100,15 +78,5 @@ fn scene_of_bytes(alloc: Global, bytes: &[u8]) -> Result<Scene, Halt>
             Err(Halt::Refused(bad_scene(alloc, scene_kind_name(kind), &place)?))
         }
         Err(SceneFault::NoMemory) => Err(Halt::NoMemory),
-    }
-}
-
-fn opening_of(alloc: Global, scene: &Scene) -> Result<Sight, Halt>
-    ensures answer { Answers (λ sight. sight) (opening_of scene.now) result }
-    ensures shelf { IsErrOf result Halt.ShelfFailed → ⊥ }
-{
-    match scene.policies.as_slice() {
-        [] => Ok(opening_sight(alloc, &scene.setup)?),
-        [policy, ..] => Err(Halt::Refused(bad_scene(alloc, "NoSuchPolicy", &policy.place)?)),
     }
 }

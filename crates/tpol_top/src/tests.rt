@@ -37,11 +37,7 @@ const CURRENT_PCR: &str = r#"{"policy":[{"type":"POLICYPCR","currentPCRs":[23]}]
 const OR: &str =
     r#"{"type":"OR","branches":[{"policy":[{"type":"AUTHVALUE"}]},{"policy":[{"type":"PASSWORD"}]}]}"#;
 
-// Two entities that name policies, of which the second name is none.
-const NAMED_POLICIES: &str =
-    r#"{"entities":[{"kind":"key","path":"a","handle":"0x80000000","policy":"disk","secret":""},{"kind":"key","path":"b","handle":"0x80000001","policy":"a b","secret":""}]}"#;
-
-fn words_of(alloc: Global, words: &[&str]) -> Result<Vec<String>, AllocError> {
+pub fn words_of(alloc: Global, words: &[&str]) -> Result<Vec<String>, AllocError> {
     let mut list = Vec::new(alloc);
     for word in words {
         list.push(String::from_str(alloc, word)?)?;
@@ -81,11 +77,12 @@ fn ors(alloc: Global, count: usize) -> Result<String, AllocError> {
 fn words_outside_the_grammar_are_usage(rt: HostRuntime) -> Result<(), Fail> {
     let alloc = rt.alloc();
     let mut shelf = MemoryShelf::new(alloc);
-    let table: [&[&str]; 6] = [
+    let table: [&[&str]; 7] = [
         &[],
         &["compile", "x"],
         &["gen", "0", "0"],
         &["canon", "--scene", "m"],
+        &["import"],
         &["compile", "--scene", ".m"],
         &["compile", "--scene", "m", "x"],
     ];
@@ -245,13 +242,6 @@ fn scenes_give_current_values(rt: HostRuntime) -> Result<(), Fail> {
     assert_eq!(rt; text.as_str(), "error BadScene NoSuchScene\n");
     let (_, text) = run(alloc, &["paths", "--scene", "bad"], CURRENT_PCR, &mut shelf)?;
     assert_eq!(rt; text.as_str(), "error BadScene NotJson\n");
-    shelf.put("named.scene", NAMED_POLICIES.as_bytes())?;
-    let words = ["compile", "--scene", "named"];
-    let (_, text) = run(alloc, &words, CURRENT_PCR, &mut shelf)?;
-    assert_eq!(rt;
-        text.as_str(),
-        "error BadScene NoSuchPolicy at entities[0].policy\n"
-    );
     Ok(())
 }
 
@@ -283,7 +273,8 @@ fn faults_of_the_outside_are_told(rt: HostRuntime) -> Result<(), Fail> {
     Ok(())
 }
 
-// The source is called until it answers that it is at its end, and the shelf for the scene alone.
+// The source is called until it answers that it is at its end, and the shelf for the scene and for the names of
+// its documents alone.
 #[test]
 fn nothing_is_called_again(rt: HostRuntime) -> Result<(), Fail> {
     let alloc = rt.alloc();
@@ -293,7 +284,7 @@ fn nothing_is_called_again(rt: HostRuntime) -> Result<(), Fail> {
     let mut sink = MemorySink::new(alloc);
     let mut scenes = MemoryShelf::new(alloc);
     scenes.put("m.scene", b"{}")?;
-    let mut shelf = Failing::new(scenes, vec![in alloc; 2]?);
+    let mut shelf = Failing::new(scenes, vec![in alloc; 3]?);
     let status = policy_main(alloc, &words, &mut source, &mut sink, &mut shelf);
     assert_eq!(rt; status, Status::Done);
     assert_eq!(rt; sink.written().ok_or("lost")?, PCR_23_DIGEST.as_bytes());

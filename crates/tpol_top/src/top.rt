@@ -2,16 +2,17 @@ ghost use Rattle.std.specs.Prelude.{◌≡◌, ◌≤◌, ◌⊎◌, Some, false
 ghost use Rattle.std.specs.String.{string_bytes};
 ghost use Rattle.tpol_base.specs.Causes.{Rose, Grows, GrowsInPart};
 ghost use Rattle.tpol_top.specs.Answer.{status_of, text_of};
-ghost use Rattle.tpol_top.specs.Reached.{IsPolicyDocument};
+ghost use Rattle.tpol_top.specs.Reached.{IsReadableOf};
 ghost use Rattle.tpol_top.specs.Report.{LosesAtMost, OfReport, most_read};
 ghost use Rattle.tpol_top.specs.Status.{IsWhole, IsSilent, IsPastReading};
 ghost use Rattle.tpol_top.specs.Words.{reads_source, uses_shelf};
 
 use crate::Status;
-use crate::print::print_lines;
+use crate::halt::Halt;
+use crate::print::print_answer;
 use crate::run::answer_of_words;
 use std::alloc::Global;
-use tpol_base::{Failed, Shelf, Sink, Source};
+use tpol_base::{Shelf, Sink, Source};
 
 /// Does all that the program does: takes the words behind the program's name, reads the document from
 /// `source` where the command wants one, prints the report to `out`, one write a line, and answers the
@@ -55,12 +56,13 @@ pub fn policy_main<S: Source, K: Sink, H: Shelf>(
         → IfSome (S.left source.old) (λ held. S.left source.new ≡ Some (drop most_read held)) }
     ensures read_at_most { LosesAtMost most_read (S.left source.old) (S.left source.new) }
 
-    // Words that are no command leave the source alone, and a command that names no scene the shelf. The
-    // shelf is asked only once what was read is the document of a policy.
+    // Words that are no command leave the source alone, and so does a command that reads nothing; a command that
+    // uses no document of the shelf leaves the shelf alone. The shelf is asked only once what was read is the
+    // document that the command wants.
     ensures unread { reads_source (map string_bytes words.now.items) ≡ false → source.new ≡ source.old }
     ensures untouched { uses_shelf (map string_bytes words.now.items) ≡ false → shelf.new ≡ shelf.old }
     ensures asked { IfSome (S.left source.old) (λ held.
-        (shelf.new ≡ shelf.old) ⊎ IsPolicyDocument (take most_read held)) }
+        (shelf.new ≡ shelf.old) ⊎ IsReadableOf (map string_bytes words.now.items) (take most_read held)) }
 
     // Each fault comes only where its object failed in this call, and only of commands that use the object.
     ensures read_fault { result ≡ Status.ReadFault → Rose (S.faults source.old) (S.faults source.new) }
@@ -80,10 +82,10 @@ pub fn policy_main<S: Source, K: Sink, H: Shelf>(
     ensures shelf_count { H.faults shelf.old ≤ H.faults shelf.new }
 {
     match answer_of_words(alloc, words, source, shelf) {
-        Ok(answer) => match print_lines(out, answer.lines.as_slice()) {
-            Ok(()) => answer.verdict.status(),
-            Err(Failed) => Status::WriteFault,
-        },
-        Err(stop) => stop.status(),
+        Ok(answer) => print_answer(out, &answer),
+        Err(Halt::Refused(answer)) => print_answer(out, &answer),
+        Err(Halt::ReadFailed) => Status::ReadFault,
+        Err(Halt::ShelfFailed) => Status::ShelfFault,
+        Err(Halt::NoMemory) => Status::NoMemory,
     }
 }

@@ -1,5 +1,5 @@
 use Rattle.serde_json.specs.View.{view}
-use Rattle.tpol_scene.proofs.ReadLemmas.{has_few_entities, has_places, has_setup, is_fault, stands}
+use Rattle.tpol_scene.proofs.ReadLemmas.{fits, is_fault, stands}
 use Rattle.tpol_scene.proofs.scene.read_scene.Goals as goal
 
 pub returns-in-Ok-scene_of-clause-scene : goal.returns-in-Ok-scene_of-clause-scene
@@ -8,15 +8,23 @@ returns-in-Ok-scene_of-clause-scene c =
 
 pub returns-in-Ok-scene_of-clause-setup : goal.returns-in-Ok-scene_of-clause-setup
 returns-in-Ok-scene_of-clause-setup c =
-    has_setup (view c.in-Ok.value) _ (rw (c.at.ensures, c.root-root.ensures) at c.in-Ok-scene_of.ensures)
+    (fits (view c.in-Ok.value) _ (rw (c.at.ensures, c.root-root.ensures) at c.in-Ok-scene_of.ensures)).setup
 
 pub returns-in-Ok-scene_of-clause-places : goal.returns-in-Ok-scene_of-clause-places
 returns-in-Ok-scene_of-clause-places c =
-    has_places (view c.in-Ok.value) _ (rw (c.at.ensures, c.root-root.ensures) at c.in-Ok-scene_of.ensures)
+    (fits (view c.in-Ok.value) _ (rw (c.at.ensures, c.root-root.ensures) at c.in-Ok-scene_of.ensures)).places
 
 pub returns-in-Ok-scene_of-clause-limits : goal.returns-in-Ok-scene_of-clause-limits
 returns-in-Ok-scene_of-clause-limits c =
-    has_few_entities (view c.in-Ok.value) _ (rw (c.at.ensures, c.root-root.ensures) at c.in-Ok-scene_of.ensures)
+    (fits (view c.in-Ok.value) _ (rw (c.at.ensures, c.root-root.ensures) at c.in-Ok-scene_of.ensures)).limits
+
+pub returns-in-Ok-scene_of-clause-clients : goal.returns-in-Ok-scene_of-clause-clients
+returns-in-Ok-scene_of-clause-clients c =
+    (fits (view c.in-Ok.value) _ (rw (c.at.ensures, c.root-root.ensures) at c.in-Ok-scene_of.ensures)).clients
+
+pub returns-in-Ok-scene_of-clause-script : goal.returns-in-Ok-scene_of-clause-script
+returns-in-Ok-scene_of-clause-script c =
+    (fits (view c.in-Ok.value) _ (rw (c.at.ensures, c.root-root.ensures) at c.in-Ok-scene_of.ensures)).script
 
 pub returns-in-Err-Bad-clause-refused : goal.returns-in-Err-Bad-clause-refused
 returns-in-Err-Bad-clause-refused c =

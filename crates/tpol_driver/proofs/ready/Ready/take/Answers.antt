@@ -11,6 +11,6 @@ returns-in-Ok c = record {
       let Q : Standing → Type 0 = λ standing. IsNext c.self.inside.plan standing c.after.result in
       let heard = ap (after_goal c.self.inside.session.handle) c.in-Ok.ensures in
       let goal_heard = hears_of_goal c.self.inside.plan c.self.inside.session c.self.inside.sent c.args.reply.now in
-      subst P c.self.view_is (subst Q (heard ∙ sym goal_heard) (c.after.ensures c.self.inside.plan));
+      subst P c.self.view_is (subst Q (heard ∙ sym goal_heard) c.after.ensures);
   back = tt;
 }

@@ -1,0 +1,262 @@
+-- A policy command's fact, and what becomes of the tables by it.
+use Rattle.std.proofs.Common.{◌≡◌, ℕ, ◌==◌, ◌<◌, Bool, true, false, List, Option, None, Some, IfSome, Result, Ok, Err, OnOk, OnErr, is_some, cond, length, nat_lt, refl, ap, sym, ◌∙◌, arith}
+use Rattle.std.specs.Prelude.{pos}
+use Rattle.std.specs.Option.{option_and_then, option_map, option_map_or}
+use Rattle.std.proofs.lemmas.Bool.{false≢true}
+use Rattle.std.proofs.lemmas.Bool.Decides.{nat_tests}
+use Rattle.std.proofs.lemmas.Option.{none-some, same_Some}
+use Rattle.tpol_base.specs.declared.digest.Digest32.{Digest32}
+use Rattle.tpol_base.specs.declared.name.Name.{Name}
+use Rattle.tpol_base.specs.declared.rc.Rc.{Rc}
+use Rattle.tpol_base.specs.Constants.{st_auth_secret}
+use Rattle.tpol_tree.specs.declared.closed.Assertion.TheVariants.{Secret, Signed}
+use Rattle.tpol_tree.specs.declared.facts.Fact.{Fact}
+use Rattle.tpol_tree.specs.declared.path.Move.{Move}
+use Rattle.tpol_tree.specs.declared.path.Move.TheVariants.{Assert}
+use Rattle.tpol_wire.specs.declared.command.Command.{Command}
+use Rattle.tpol_wire.specs.declared.command.Command.TheVariants as commands
+use Rattle.tpol_wire.specs.declared.ticket.Ticket.{Ticket}
+use Rattle.tpm_bindings.specs.Facts.{is_pcr}
+use Rattle.tpm_bindings.specs.State.{SessionState}
+use Rattle.tpm_context.specs.Saved.{AreApart}
+use Rattle.tpm_policy.specs.Asserted.{asserted, with_one_more}
+use Rattle.tpm_policy.specs.Judgments.{is_auth_ticket}
+use Rattle.tpm_rules.specs.PolicyTicket.{policy_ticket_rule}
+use Rattle.tpm_rules.specs.Rule.{Obeys}
+use Rattle.tpm_session.specs.Kept.{SessionView, counter_after, with_fact}
+use Rattle.tpm_session.specs.Slots.{is_live, session_at, state_at, with_state}
+use Rattle.tpm_session.proofs.Slots.{found-state, put-back}
+use Rattle.tpm_world.specs.Handles.{is_policy_command, policy_session_of}
+use Rattle.tpm_world.specs.Hashes.{proof_of}
+use Rattle.tpm_world.specs.World.{WorldState}
+use Rattle.tpm_engine.specs.Deeds.{Shows, after_deed, command_deed, plain_deed, with_shown}
+use Rattle.tpm_engine.specs.Facts.{Moment, Shown, moment, shown_by}
+use Rattle.tpm_engine.specs.PolicyCommands.{ticket_rule}
+use Rattle.tpm_engine.specs.Responses.{kept_counter}
+use Rattle.tpm_engine.specs.Stops.{has_room}
+use Rattle.tpm_engine.specs.Tables.{TableState}
+use Rattle.tpm_engine.proofs.Slotted.{changed-live, content-same, tables_of}
+use Rattle.tpm_engine.proofs.Stopping.{unless-none}
+
+-- ---- the session of a policy command
+
+abbrev pub first : {A B : Type 0} → Option (A × B) → Option A
+first o = option_map (λ pair. pair.0) o
+
+pub same-session : (command : Command) → first (shown_by command) ≡ first (policy_session_of command)
+same-session (commands.StartAuthSession tpm_key bind nonce) = refl
+same-session (commands.FlushContext session) = refl
+same-session (commands.ContextSave session) = refl
+same-session (commands.ContextLoad sequence session digest) = refl
+same-session (commands.PolicyRestart session) = refl
+same-session (commands.PolicyGetDigest session) = refl
+same-session (commands.PcrExtend pcr auth digest) = refl
+same-session (commands.PcrRead mask) = refl
+same-session (commands.VerifySignature key digest signature) = refl
+same-session (commands.Unseal object auth) = refl
+same-session (commands.Hmac key auth buffer hash) = refl
+same-session (commands.NvRead authority index auth size offset) = refl
+same-session (commands.NvWrite authority index auth bytes offset) = refl
+same-session (commands.NvIncrement authority index auth) = refl
+same-session (commands.Duplicate object parent auth) = refl
+same-session (commands.PolicyNv authority index session auth operand offset operation) = refl
+same-session (commands.PolicyCpHash session digest) = refl
+same-session (commands.PolicyNameHash session digest) = refl
+same-session (commands.PolicyAuthValue session) = refl
+same-session (commands.PolicyPassword session) = refl
+same-session (commands.PolicyPhysicalPresence session) = refl
+same-session (commands.PolicyCommandCode session code) = refl
+same-session (commands.PolicyCounterTimer session operand offset operation) = refl
+same-session (commands.PolicyLocality session locality) = refl
+same-session (commands.PolicyPcr session given mask) = refl
+same-session (commands.PolicyDuplicationSelect session object parent include) = refl
+same-session (commands.PolicyNvWritten session written) = refl
+same-session (commands.PolicySigned key session nonce cp_hash policy_ref expiration signature) = refl
+same-session (commands.PolicySecret entity session auth nonce cp_hash policy_ref expiration) = refl
+same-session (commands.PolicyTicket session timeout cp_hash policy_ref key ticket) = refl
+same-session (commands.PolicyAuthorize session approved policy_ref key ticket) = refl
+same-session (commands.PolicyOr session digests) = refl
+same-session (commands.PolicyAuthorizeNv authority index session auth) = refl
+
+-- ---- the counter that is kept with a fact
+
+other-counter : (counter : Option ℕ) (act : Move) (a b : ℕ) → is_pcr act ≡ false → counter_after counter act a ≡ counter_after counter act b
+other-counter (Some first) act a b h = refl
+other-counter None act a b h = rw h refl
+
+ticket-counter : (secret : Bool) (key : Name) (policy_ref : List ℕ) (cp_hash : Option Digest32)
+    → is_pcr (Assert (cond secret (Secret key policy_ref cp_hash (pos 0)) (Signed key policy_ref cp_hash (pos 0)))) ≡ false
+ticket-counter true key policy_ref cp_hash = refl
+ticket-counter false key policy_ref cp_hash = refl
+
+abbrev pub SameCounter : WorldState → ℕ → Option ℕ → Move → Type 0
+SameCounter world kept counter act = counter_after counter act kept ≡ counter_after counter act world.pcrs.counter
+
+pub same-counter : (world : WorldState) (command : Command) (counter : Option ℕ) (now : Moment)
+    → IfSome (shown_by command) (λ shown. SameCounter world (kept_counter world command) counter (shown.1 now).act)
+same-counter world (commands.StartAuthSession tpm_key bind nonce) counter now = tt
+same-counter world (commands.FlushContext session) counter now = tt
+same-counter world (commands.ContextSave session) counter now = tt
+same-counter world (commands.ContextLoad sequence session digest) counter now = tt
+same-counter world (commands.PolicyRestart session) counter now = tt
+same-counter world (commands.PolicyGetDigest session) counter now = tt
+same-counter world (commands.PcrExtend pcr auth digest) counter now = tt
+same-counter world (commands.PcrRead mask) counter now = tt
+same-counter world (commands.VerifySignature key digest signature) counter now = tt
+same-counter world (commands.Unseal object auth) counter now = tt
+same-counter world (commands.Hmac key auth buffer hash) counter now = tt
+same-counter world (commands.NvRead authority index auth size offset) counter now = tt
+same-counter world (commands.NvWrite authority index auth bytes offset) counter now = tt
+same-counter world (commands.NvIncrement authority index auth) counter now = tt
+same-counter world (commands.Duplicate object parent auth) counter now = tt
+same-counter world (commands.PolicyNv authority index session auth operand offset operation) counter now = other-counter counter _ 0 world.pcrs.counter refl
+same-counter world (commands.PolicyCpHash session digest) counter now = other-counter counter _ 0 world.pcrs.counter refl
+same-counter world (commands.PolicyNameHash session digest) counter now = other-counter counter _ 0 world.pcrs.counter refl
+same-counter world (commands.PolicyAuthValue session) counter now = other-counter counter _ 0 world.pcrs.counter refl
+same-counter world (commands.PolicyPassword session) counter now = other-counter counter _ 0 world.pcrs.counter refl
+same-counter world (commands.PolicyPhysicalPresence session) counter now = other-counter counter _ 0 world.pcrs.counter refl
+same-counter world (commands.PolicyCommandCode session code) counter now = other-counter counter _ 0 world.pcrs.counter refl
+same-counter world (commands.PolicyCounterTimer session operand offset operation) counter now = other-counter counter _ 0 world.pcrs.counter refl
+same-counter world (commands.PolicyLocality session locality) counter now = other-counter counter _ 0 world.pcrs.counter refl
+same-counter world (commands.PolicyPcr session given mask) counter now = refl
+same-counter world (commands.PolicyDuplicationSelect session object parent include) counter now = other-counter counter _ 0 world.pcrs.counter refl
+same-counter world (commands.PolicyNvWritten session written) counter now = other-counter counter _ 0 world.pcrs.counter refl
+same-counter world (commands.PolicySigned key session nonce cp_hash policy_ref expiration signature) counter now = other-counter counter _ 0 world.pcrs.counter refl
+same-counter world (commands.PolicySecret entity session auth nonce cp_hash policy_ref expiration) counter now = other-counter counter _ 0 world.pcrs.counter refl
+same-counter world (commands.PolicyTicket session timeout cp_hash policy_ref key ticket) counter now =
+    other-counter counter _ 0 world.pcrs.counter (ticket-counter (ticket.tag == st_auth_secret) key policy_ref cp_hash)
+same-counter world (commands.PolicyAuthorize session approved policy_ref key ticket) counter now = other-counter counter _ 0 world.pcrs.counter refl
+same-counter world (commands.PolicyOr session digests) counter now = other-counter counter _ 0 world.pcrs.counter refl
+same-counter world (commands.PolicyAuthorizeNv authority index session auth) counter now = other-counter counter _ 0 world.pcrs.counter refl
+
+-- ---- room
+
+pub room-left : (slots : List (Option SessionState)) (handle : ℕ) (session : SessionView)
+    → option_and_then has_room (state_at slots handle) ≡ None → Some session ≡ session_at slots handle → length session.state.facts < 512
+room-left slots handle session room found =
+    let there = (found-state slots handle session found).1 in
+    let test : nat_lt (length session.state.facts) 512 ≡ true = unless-none _ _ (sym (ap (option_and_then has_room) there) ∙ room) in
+    grind (arith, nat_tests, test)
+
+-- ---- the tables
+
+state-of-counter : (state : SessionState) (fact : Fact) (a b : ℕ) → counter_after state.counter fact.act a ≡ counter_after state.counter fact.act b
+    → with_fact state fact a ≡ with_fact state fact b
+state-of-counter state fact a b same = ap (λ (counter : Option ℕ). keep counter) same
+  where
+    keep : Option ℕ → SessionState
+    keep counter = record (with_fact state fact a) { counter = counter }
+
+-- a session that is taken out and put back as it is
+pub put-same : (slots : List (Option SessionState)) (handle : ℕ) (session : SessionView) → Some session ≡ session_at slots handle
+    → with_state (with_state slots handle None) session.handle (Some session.state) ≡ slots
+put-same slots handle session found =
+    let is = found-state slots handle session found in
+    ap (λ h. with_state (with_state slots handle None) h (Some session.state)) is.0
+    ∙ (put-back slots handle session (λ state. state) found
+    ∙ (ap (λ content. with_state slots handle (option_map (λ state. state) content)) is.1
+    ∙ (ap (with_state slots handle) (sym is.1) ∙ content-same slots handle)))
+
+pub live-found : (slots : List (Option SessionState)) (handle : ℕ) (session : SessionView) → Some session ≡ session_at slots handle → is_live slots handle ≡ true
+live-found slots handle session found = ap is_some (found-state slots handle session found).1
+
+pub shown-tables : (tables : TableState) (number : ℕ) (command : Command) (reply : List ℕ) (own : ℕ × ℕ) (session after : SessionView) (rule : Option ℕ)
+    → AreApart tables.sessions tables.saved → policy_session_of command ≡ Some own → Some session ≡ session_at tables.sessions own.0 → rule ≡ None
+    → IfSome (shown_by command) (λ shown. after ≡ asserted rule session (shown.1 (moment tables.world number session.state.start session.state.facts)) (kept_counter tables.world command))
+    → tables_of tables.world (with_state (with_state tables.sessions own.0 None) after.handle (Some after.state)) tables.saved
+    ≡ after_deed number (command_deed command reply) tables
+shown-tables tables number command reply own session after rule apart policy found none does =
+    at (shown_by command) refl (same-counter tables.world command session.state.counter now) does
+  where
+    now : Moment
+    now = moment tables.world number session.state.start session.state.facts
+
+    one : (shown : Shown) → shown_by command ≡ Some shown → counter_after session.state.counter (shown.1 now).act (kept_counter tables.world command) ≡ counter_after session.state.counter (shown.1 now).act tables.world.pcrs.counter
+        → after ≡ asserted rule session (shown.1 now) (kept_counter tables.world command)
+        → tables_of tables.world (with_state (with_state tables.sessions own.0 None) after.handle (Some after.state)) tables.saved
+        ≡ after_deed number (option_map_or (λ s. Shows s.0 s.1) (shown_by command) (plain_deed command reply)) tables
+    one shown is same after-is =
+        let here : shown.0 ≡ own.0 = same_Some _ _ (sym (ap first is) ∙ (same-session command ∙ ap first policy)) in
+        let after-none : after ≡ with_one_more session (shown.1 now) (kept_counter tables.world command) =
+        after-is ∙ ap (λ (r : Option ℕ). asserted r session (shown.1 now) (kept_counter tables.world command)) none in
+        let handle : after.handle ≡ own.0 = ap (λ (s : SessionView). s.handle) after-none ∙ (found-state tables.sessions own.0 session found).0 in
+        let state : after.state ≡ with_shown tables.world number shown.1 session.state =
+        ap (λ (s : SessionView). s.state) after-none ∙ state-of-counter session.state (shown.1 now) (kept_counter tables.world command) tables.world.pcrs.counter same in
+        ap (λ h. tables_of tables.world (with_state (with_state tables.sessions own.0 None) h (Some after.state)) tables.saved) handle
+        ∙ (ap (λ s. tables_of tables.world (with_state (with_state tables.sessions own.0 None) own.0 (Some s)) tables.saved) state
+        ∙ (ap (λ s. tables_of tables.world s tables.saved) (put-back tables.sessions own.0 session (with_shown tables.world number shown.1) found)
+        ∙ (changed-live tables own.0 (with_shown tables.world number shown.1) apart (live-found tables.sessions own.0 session found)
+        ∙ (ap (λ h. after_deed number (Shows h shown.1) tables) (sym here)
+        ∙ sym (ap (λ o. after_deed number (option_map_or (λ s. Shows s.0 s.1) o (plain_deed command reply)) tables) is)))))
+
+    at : (o : Option Shown) → shown_by command ≡ o → IfSome o (λ shown. SameCounter tables.world (kept_counter tables.world command) session.state.counter (shown.1 now).act)
+        → IfSome o (λ shown. after ≡ asserted rule session (shown.1 now) (kept_counter tables.world command))
+        → tables_of tables.world (with_state (with_state tables.sessions own.0 None) after.handle (Some after.state)) tables.saved
+        ≡ after_deed number (command_deed command reply) tables
+    at None e same after-is = absurd (none-some own.0 (sym (ap first e) ∙ (same-session command ∙ ap first policy)))
+    at (Some shown) e same after-is = one shown e same after-is
+
+-- ---- the session after a policy command
+
+pub asserted-handle : (rule : Option ℕ) (session : SessionView) (fact : Fact) (counter : ℕ) → (asserted rule session fact counter).handle ≡ session.handle
+asserted-handle None session fact counter = refl
+asserted-handle (Some code) session fact counter = refl
+
+-- a policy command shows something, and another shows nothing
+pub shown-there : (command : Command) → is_policy_command command ≡ true → is_some (shown_by command) ≡ true
+shown-there command policy = some-first (shown_by command) (ap is_some (same-session command) ∙ first-some (policy_session_of command) policy)
+  where
+    some-first : (o : Option Shown) → is_some (first o) ≡ true → is_some o ≡ true
+    some-first None h = h
+    some-first (Some shown) h = refl
+
+    first-some : (o : Option (ℕ × ℕ)) → is_some o ≡ true → is_some (first o) ≡ true
+    first-some None h = h
+    first-some (Some own) h = refl
+
+pub shown-none : (command : Command) → is_policy_command command ≡ false → shown_by command ≡ None
+shown-none command policy = none-first (shown_by command) (same-session command ∙ first-none (policy_session_of command) policy)
+  where
+    none-first : (o : Option Shown) → first o ≡ None → o ≡ None
+    none-first None h = refl
+    none-first (Some shown) h = absurd (none-some shown.0 (sym h))
+
+    first-none : (o : Option (ℕ × ℕ)) → is_some o ≡ false → first o ≡ None
+    first-none None h = refl
+    first-none (Some own) h = absurd (false≢true (sym h))
+
+pub handle-stays : (command : Command) (session after : SessionView) (rule : Option ℕ) (fact : Shown → Fact) (counter : ℕ) → is_policy_command command ≡ true
+    → IfSome (shown_by command) (λ shown. after ≡ asserted rule session (fact shown) counter) → after.handle ≡ session.handle
+handle-stays command session after rule fact counter policy does = at (shown_by command) (shown-there command policy) does
+  where
+    at : (o : Option Shown) → is_some o ≡ true → IfSome o (λ shown. after ≡ asserted rule session (fact shown) counter) → after.handle ≡ session.handle
+    at None there h = absurd (false≢true there)
+    at (Some shown) there h = ap (λ (s : SessionView). s.handle) h ∙ asserted-handle rule session (fact shown) counter
+
+pub session-stays : (command : Command) (session after : SessionView) (rule : Option ℕ) (code : ℕ) (fact : Shown → Fact) (counter : ℕ) → is_policy_command command ≡ true → rule ≡ Some code
+    → IfSome (shown_by command) (λ shown. after ≡ asserted rule session (fact shown) counter) → after ≡ session
+session-stays command session after rule code fact counter policy broken does = at (shown_by command) (shown-there command policy) does
+  where
+    at : (o : Option Shown) → is_some o ≡ true → IfSome o (λ shown. after ≡ asserted rule session (fact shown) counter) → after ≡ session
+    at None there h = absurd (false≢true there)
+    at (Some shown) there h = h ∙ ap (λ (r : Option ℕ). asserted r session (fact shown) counter) broken
+
+-- by a call that obeys a rule
+pub on-obeyed : {T : Type 0} (result : Result T Rc) (rule : Option ℕ) (P : Type 0) → Obeys result rule → (rule ≡ None → P) → OnOk result P
+on-obeyed (Ok x) rule P obeys f = f obeys
+on-obeyed (Err rc) rule P obeys f = tt
+
+pub on-refused : {T : Type 0} (result : Result T Rc) (rule : Option ℕ) (P : Type 0) → Obeys result rule → ((code : ℕ) → rule ≡ Some code → P) → OnErr result P
+on-refused (Ok x) rule P obeys f = tt
+on-refused (Err rc) rule P obeys f = f rc.code obeys
+
+-- the rule of PolicyTicket over what the world tells
+pub ticket-rule : (world : WorldState) (session : SessionState) (time count : ℕ) (proof : Digest32) (bytes : List ℕ) (timeout : ℕ) (cp_hash : Option Digest32) (policy_ref : List ℕ) (key : Name) (ticket : Ticket)
+    → time ≡ world.time → proof ≡ proof_of world.seed → count ≡ world.reset_count → bytes ≡ ticket.digest
+    → policy_ticket_rule session time timeout cp_hash (is_auth_ticket proof count timeout cp_hash policy_ref key ticket.tag ticket.hierarchy bytes)
+    ≡ ticket_rule world session timeout cp_hash policy_ref key ticket
+ticket-rule world session time count proof bytes timeout cp_hash policy_ref key ticket t p c b =
+    ap (λ (n : ℕ). policy_ticket_rule session n timeout cp_hash (is_auth_ticket proof count timeout cp_hash policy_ref key ticket.tag ticket.hierarchy bytes)) t
+    ∙ (ap (λ (d : Digest32). policy_ticket_rule session world.time timeout cp_hash (is_auth_ticket d count timeout cp_hash policy_ref key ticket.tag ticket.hierarchy bytes)) p
+    ∙ (ap (λ (n : ℕ). policy_ticket_rule session world.time timeout cp_hash (is_auth_ticket (proof_of world.seed) n timeout cp_hash policy_ref key ticket.tag ticket.hierarchy bytes)) c
+    ∙ ap (λ (l : List ℕ). policy_ticket_rule session world.time timeout cp_hash (is_auth_ticket (proof_of world.seed) world.reset_count timeout cp_hash policy_ref key ticket.tag ticket.hierarchy l)) b))

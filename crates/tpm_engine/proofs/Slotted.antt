@@ -1,0 +1,107 @@
+-- Slots: one write that changes nothing, and sessions that stay apart.
+use Rattle.std.proofs.Common.{◌≡◌, ℕ, zero, suc, ◌-◌, ⊎_elim, true, false, List, [], ◌∷◌, get_or, set, replicate, Option, None, Some, is_some, nat_le, if◌then◌else◌, refl, ap, sym, ◌∙◌}
+use Rattle.std.specs.Option.{option_map}
+use Rattle.std.proofs.lemmas.Bool.{cases_eq, false≢true}
+use Rattle.std.proofs.lemmas.Option.{none-some}
+use Rattle.tpm_bindings.specs.State.{SessionState}
+use Rattle.tpm_context.specs.Saved.{AreApart, SavedState, is_saved}
+use Rattle.tpm_session.specs.Slots.{changed_at, content_at, first_handle, in_slot, is_live, session_at, session_of, state_at, with_content, with_state}
+use Rattle.tpm_session.proofs.Slots.{content-emptied, content-other}
+use Rattle.tpm_world.specs.World.{WorldState}
+use Rattle.tpm_engine.specs.Tables.{TableState, saved_changed, with_changed, without}
+
+set-get : {A : Type 0} (slots : List (Option A)) (slot : ℕ) → set slots slot (get_or slots slot None) ≡ slots
+set-get [] slot = refl
+set-get (content ∷ rest) zero = refl
+set-get (content ∷ rest) (suc slot) = ap (λ slots. content ∷ slots) (set-get rest slot)
+
+-- what a slot has is written there again
+pub content-same : {A : Type 0} (slots : List (Option A)) (handle : ℕ) → with_content slots handle (content_at slots handle) ≡ slots
+content-same slots handle =
+    elim (nat_le first_handle handle) as (λ b. (if b then set slots (handle - first_handle) (if b then in_slot slots (handle - first_handle) else None) else slots) ≡ slots)
+    [ true ↦ set-get slots (handle - first_handle) | false ↦ refl ]
+
+pub emptied-same : {A : Type 0} (slots : List (Option A)) (handle : ℕ) → content_at slots handle ≡ None → with_content slots handle None ≡ slots
+emptied-same slots handle none = ap (with_content slots handle) (sym none) ∙ content-same slots handle
+
+pub none-of : {A : Type 0} (o : Option A) → is_some o ≡ false → o ≡ None
+none-of None h = refl
+none-of (Some x) h = absurd (false≢true (sym h))
+
+-- a live session is not saved, and a saved one is not live
+pub unsaved : (live : List (Option SessionState)) (saved : List (Option SavedState)) (handle : ℕ) → AreApart live saved → is_live live handle ≡ true → content_at saved handle ≡ None
+unsaved live saved handle apart there = none-of (content_at saved handle) (apart handle there)
+
+pub not-live : (live : List (Option SessionState)) (saved : List (Option SavedState)) (handle : ℕ) → AreApart live saved → is_saved saved handle ≡ true → state_at live handle ≡ None
+not-live live saved handle apart there = at (state_at live handle) refl
+  where
+    at : (o : Option SessionState) → state_at live handle ≡ o → o ≡ None
+    at None e = refl
+    at (Some state) e = absurd (false≢true (sym (apart handle (ap is_some e)) ∙ there))
+
+-- ---- what keeps live and saved sessions apart
+
+pub apart-emptied : (live : List (Option SessionState)) (saved : List (Option SavedState)) (handle : ℕ) → AreApart live saved → AreApart (with_state live handle None) saved
+apart-emptied live saved handle apart other there =
+    ⊎_elim
+    (λ same. absurd (false≢true (sym (ap is_some (content-emptied live handle)) ∙ (ap (is_live (with_state live handle None)) (sym same) ∙ there))))
+    (λ away. apart other (ap is_some (sym (content-other live handle other None away)) ∙ there))
+    (cases_eq other handle)
+
+pub apart-written : (live : List (Option SessionState)) (saved : List (Option SavedState)) (handle : ℕ) (state : Option SessionState)
+    → AreApart live saved → content_at saved handle ≡ None → AreApart (with_state live handle state) saved
+apart-written live saved handle state apart none other there =
+    ⊎_elim
+    (λ same. ap (is_saved saved) same ∙ ap is_some none)
+    (λ away. apart other (ap is_some (sym (content-other live handle other state away)) ∙ there))
+    (cases_eq other handle)
+
+pub apart-flushed : (live : List (Option SessionState)) (saved : List (Option SavedState)) (handle : ℕ) → AreApart live saved → AreApart live (with_content saved handle None)
+apart-flushed live saved handle apart other there =
+    ⊎_elim
+    (λ same. ap (is_saved (with_content saved handle None)) same ∙ ap is_some (content-emptied saved handle))
+    (λ away. ap is_some (content-other saved handle other None away) ∙ apart other there)
+    (cases_eq other handle)
+
+-- ---- the tables after a change of a live session
+
+abbrev pub tables_of : WorldState → List (Option SessionState) → List (Option SavedState) → TableState
+tables_of world sessions saved = record { world = world; sessions = sessions; saved = saved }
+
+pub changed-live : (tables : TableState) (handle : ℕ) (change : SessionState → SessionState) → AreApart tables.sessions tables.saved → is_live tables.sessions handle ≡ true
+    → tables_of tables.world (changed_at tables.sessions handle change) tables.saved ≡ with_changed tables handle change
+changed-live tables handle change apart live =
+    let none = unsaved tables.sessions tables.saved handle apart live in
+    ap (tables_of tables.world (changed_at tables.sessions handle change))
+    (sym (ap (λ content. with_content tables.saved handle (option_map (saved_changed change) content)) none ∙ emptied-same tables.saved handle none))
+
+pub without-live : (tables : TableState) (handle : ℕ) → AreApart tables.sessions tables.saved → is_live tables.sessions handle ≡ true
+    → tables_of tables.world (with_state tables.sessions handle None) tables.saved ≡ without tables handle
+without-live tables handle apart live =
+    ap (tables_of tables.world (with_state tables.sessions handle None))
+    (sym (emptied-same tables.saved handle (unsaved tables.sessions tables.saved handle apart live)))
+
+-- an emptied session that is not live changes nothing
+pub unchanged-dead : (live : List (Option SessionState)) (handle : ℕ) (change : SessionState → SessionState) → is_live live handle ≡ false → changed_at live handle change ≡ live
+unchanged-dead live handle change dead =
+    let none = none-of (state_at live handle) dead in
+    ap (λ state. with_state live handle (option_map change state)) none ∙ emptied-same live handle none
+
+-- slots that were all emptied have nothing
+get-empty : {A : Type 0} (count slot : ℕ) → ◌≡◌ {A = Option A} (get_or (replicate count None) slot None) None
+get-empty zero slot = refl
+get-empty (suc count) zero = refl
+get-empty (suc count) (suc slot) = get-empty count slot
+
+pub content-empty : {A : Type 0} (count handle : ℕ) → ◌≡◌ {A = Option A} (content_at (replicate count None) handle) None
+content-empty {A} count handle =
+    elim (nat_le first_handle handle) as (λ b. ◌≡◌ {A = Option A} (if b then in_slot (replicate count None) (handle - first_handle) else None) None)
+    [ true ↦ get-empty count (handle - first_handle) | false ↦ refl ]
+
+-- where no session is found there is none
+pub not-found : (slots : List (Option SessionState)) (handle : ℕ) → None ≡ session_at slots handle → state_at slots handle ≡ None
+not-found slots handle h = at (state_at slots handle) h
+  where
+    at : (o : Option SessionState) → None ≡ option_map (session_of handle) o → o ≡ None
+    at None h = refl
+    at (Some state) h = absurd (none-some (session_of handle state) h)

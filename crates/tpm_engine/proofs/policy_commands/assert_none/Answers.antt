@@ -1,0 +1,6 @@
+use Rattle.tpm_engine.proofs.Showing.{shown-none}
+use Rattle.tpm_engine.proofs.policy_commands.assert_none.Goals as goal
+
+-- src/policy_commands.rt
+pub returns-clause-none : goal.returns-clause-none
+returns-clause-none c = shown-none c.args._command c.requires.other

@@ -1,0 +1,76 @@
+//! The own rules of commands, their replies, and how they are carried out.
+
+ghost use Rattle.std.specs.Prelude.{◌≡◌, None, [], IfOk, OnErr, OnOk};
+ghost use Rattle.tpol_wire.specs.Commands.{FitsCommand};
+ghost use Rattle.tpm_rules.specs.Rule.{Obeys};
+ghost use Rattle.tpm_engine.specs.Answers.{own_rule, reply_to, succeeding};
+ghost use Rattle.tpm_engine.specs.Deeds.{after_deed, command_deed};
+ghost use Rattle.tpm_engine.specs.Responses.{checked_rule};
+ghost use Rattle.tpm_engine.specs.Stops.{room_stop};
+
+use crate::Tables;
+use crate::session_commands::is_session_command;
+use std::alloc::Global;
+use tpm_world::policy_session_of;
+use tpol_base::{NoMemory, Rc};
+use tpol_tree::Facts;
+use tpol_wire::{Command, Reply};
+
+impl Tables {
+    // The own rules of a command that acts on entities and PCRs only; the code is that of the first that is
+    // broken. Those of other commands are asked as they are carried out.
+    pub(crate) fn checked_rule(&self, command: &Command) -> Result<(), Rc>
+        ensures rule { Obeys result (checked_rule self.now command.now) }
+    {
+        if policy_session_of(command).is_some() || is_session_command(command) {
+            return Ok(());
+        }
+        self.world.plain_rule(command)
+    }
+
+    // The fields of the reply to a command that succeeds.
+    pub(crate) fn reply_to(
+        &self,
+        alloc: Global,
+        number: u32,
+        command: &Command,
+    ) -> Result<Reply, NoMemory>
+        requires checked { checked_rule self.now command.now ≡ None }
+        ensures reply { IfOk result (λ reply. reply ≡ reply_to self.now number command.now) }
+    {
+        if policy_session_of(command).is_some() {
+            return self.policy_reply(alloc, command);
+        }
+        if is_session_command(command) {
+            return Ok(self.session_reply(number, command));
+        }
+        self.world.plain_reply(alloc, command)
+    }
+
+    // Carries out a command, or answers the code of the first of its own rules that is broken, and then changes
+    // nothing. It takes no memory; `facts` are empty, and are those of a session that starts.
+    pub(crate) fn carry_out(
+        &mut self,
+        alloc: Global,
+        number: u32,
+        command: Command,
+        facts: Facts,
+    ) -> Result<(), Rc>
+        requires fits { FitsCommand command }
+        requires checked { checked_rule self.old command ≡ None }
+        requires room { room_stop self.old command ≡ None }
+        requires empty { facts ≡ [] }
+        ensures rule { Obeys result (own_rule self.old command) }
+        ensures tables { OnOk result (self.new ≡ after_deed number (command_deed command (succeeding self.old number command).reply) self.old) }
+        ensures err { OnErr result (self.new ≡ self.old) }
+    {
+        if policy_session_of(&command).is_some() {
+            return self.show(alloc, number, command);
+        }
+        if is_session_command(&command) {
+            return self.carry_out_session(number, &command, facts);
+        }
+        self.world.carry_out(&command);
+        Ok(())
+    }
+}

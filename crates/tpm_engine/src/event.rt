@@ -1,0 +1,24 @@
+//! What happens to a machine.
+
+use tpm_rules::Outcome;
+use tpol_base::Blob;
+
+/// What happens to a machine, one step each.
+#[derive(Drop)]
+pub enum Event {
+    /// A client, at a locality from 0 to 4, sent the bytes of a command; the reply, and what became of the
+    /// command.
+    Command {
+        client: u32,
+        locality: u8,
+        buffer: Blob,
+        reply: Blob,
+        outcome: Outcome,
+    },
+    /// So many milliseconds passed.
+    Time(u32),
+    /// Physical presence was set or withdrawn.
+    Presence(bool),
+    /// A TPM Reset: sessions end, PCRs and time begin anew, and the reset count rises.
+    Reset,
+}

@@ -1,0 +1,5 @@
+mod Worked
+pub mod NameLemmas
+pub mod ObjectLemmas
+pub mod ReadLemmas
+pub mod WorldLemmas

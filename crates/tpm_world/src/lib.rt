@@ -1,0 +1,20 @@
+//! What a TPM has beside its policy sessions, and all that a command asks of that alone: the entities that
+//! handles stand for and their Names, the hashes of commands and replies, and the commands on entities and
+//! PCRs, a file a command under its standard name.
+//!
+//! The machine keeps a `World` beside its sessions. It changes by `carry_out` and with its surroundings, by
+//! `advance`, `set_presence` and `reset`, and no change takes memory.
+#![tactic(auto)]
+
+mod commands;
+mod entities;
+mod handles;
+mod hashes;
+mod objects;
+mod plain;
+mod rule;
+mod world;
+
+pub use handles::{Handles, area_of, handles_of, policy_session_of};
+pub use hashes::{context_mac, rp_hash};
+pub use world::World;

@@ -1,0 +1,259 @@
+//! The world of a machine.
+
+ghost use Rattle.std.specs.Prelude.{◌≡◌, ◌+◌, ◌≤◌, ◌<◌, ◌^◌, ◌-◌, ◌↔◌, Some, None, length, option_map, IsErr, IsSome, IfOk, IfErr, IfSome, OnOk, OnErr};
+ghost use Rattle.std.specs.Option.{option_copied};
+ghost use Rattle.tpol_name.specs.Setups.{IsSetup, IsSight};
+ghost use Rattle.tpm_nv.specs.Indices.{counter_rule, index_of, rule_of};
+ghost use Rattle.tpm_nv.specs.Rules.{write_rule};
+ghost use Rattle.tpm_rules.specs.EntityView.{entity_of};
+ghost use Rattle.tpm_world.specs.Entities.{hierarchy_at};
+ghost use Rattle.tpm_world.specs.Hashes as hashes;
+ghost use Rattle.tpm_world.specs.NvIncrement as nv_increment;
+ghost use Rattle.tpm_world.specs.NvWrite as nv_write;
+ghost use Rattle.tpm_world.specs.Objects.{object_of};
+ghost use Rattle.tpm_world.specs.PcrExtend as pcr_extend;
+ghost use Rattle.tpm_world.specs.Surroundings as surroundings;
+ghost use Rattle.tpm_world.specs.World.{clock_of, sight_of, world_of};
+
+use crate::hashes::{nonce_of_event, proof_of};
+use crate::objects::ObjectTable;
+use std::alloc::Global;
+use std::marker::Model;
+use tpm_nv::NvTable;
+use tpm_pcr::{Clock, PcrFull, Pcrs};
+use tpm_rules::Entity;
+use tpol_base::handle::{TPM_RH_ENDORSEMENT, TPM_RH_LOCKOUT, TPM_RH_OWNER};
+use tpol_base::{Blob, Digest32, Digests, NoMemory, Rc};
+use tpol_name::{IndexEntry, ObjectEntry, Setup, Sight};
+
+/// What a machine has beside its policy sessions: the seed, the hierarchies, objects, NV indices and PCRs, and
+/// the surroundings; contracts see the values as they are now.
+#[derive(Drop)]
+pub struct World {
+    seed: Digest32,
+    owner: Blob,
+    endorsement: Blob,
+    lockout: Blob,
+    objects: ObjectTable,
+    indices: NvTable,
+    pcrs: Pcrs,
+    time: u64,
+    reset_count: u32,
+    restart_count: u32,
+    safe: bool,
+    presence: bool,
+}
+
+impl Model for World {
+    ghost use Rattle.tpm_world.specs.World.{WorldState};
+
+    ghost Value = { WorldState };
+
+    ghost use Rattle.tpm_world.specs.WorldView.{IsSound, state_of};
+
+    ghost view = { state_of };
+
+    ghost invariant = { IsSound };
+}
+
+impl World {
+    /// The world of a machine that starts from this setup.
+    pub fn new(alloc: Global, setup: &Setup) -> Result<World, NoMemory>
+        requires setup { IsSetup setup.now }
+        ensures world { IfOk result (λ world. world ≡ world_of setup.now) }
+    {
+        let objects = ObjectTable::new(alloc, setup.objects.clone()?)?;
+        let indices = NvTable::new(alloc, setup.indices.clone()?)?;
+        Ok(World {
+            seed: setup.seed,
+            owner: setup.owner.clone()?,
+            endorsement: setup.endorsement.clone()?,
+            lockout: setup.lockout.clone()?,
+            objects,
+            indices,
+            pcrs: Pcrs::new(setup.pcrs.clone()?, setup.pcr_counter),
+            time: setup.time,
+            reset_count: setup.reset_count,
+            restart_count: setup.restart_count,
+            safe: setup.safe,
+            presence: setup.presence,
+        })
+    }
+
+    /// What the machine shows at this moment, where it can still start so many sessions.
+    pub fn sight(&self, alloc: Global, free_sessions: u32) -> Result<Sight, NoMemory>
+        ensures sight { IfOk result (λ sight. sight ≡ sight_of self.now free_sessions) }
+        ensures condition { IfOk result IsSight }
+    {
+        Ok(Sight {
+            objects: self.objects.to_objects(alloc)?,
+            indices: self.indices.to_indices(alloc)?,
+            owner: self.owner.clone()?,
+            endorsement: self.endorsement.clone()?,
+            lockout: self.lockout.clone()?,
+            pcrs: Digests::from_slice(alloc, self.pcrs.values())?,
+            pcr_counter: self.pcrs.counter(),
+            time: self.time,
+            reset_count: self.reset_count,
+            restart_count: self.restart_count,
+            safe: self.safe,
+            presence: self.presence,
+            free_sessions,
+        })
+    }
+
+    // ---- what it has
+
+    /// The proof, which is the key of all tickets.
+    pub fn proof(&self) -> Digest32
+        ensures proof { result ≡ hashes.proof_of self.now.seed }
+    {
+        proof_of(&self.seed)
+    }
+
+    /// The nonce that a session gets that is started or used at this event.
+    pub fn nonce(&self, event: u32) -> Digest32
+        ensures nonce { result ≡ hashes.nonce_of_event self.now.seed event }
+    {
+        nonce_of_event(&self.seed, event)
+    }
+
+    /// The time in milliseconds.
+    pub fn time(&self) -> u64
+        ensures time { result ≡ self.now.time }
+        ensures early { result ≤ 2 ^ 63 }
+    {
+        self.time
+    }
+
+    /// The clock as PolicyCounterTimer compares it.
+    pub fn clock(&self) -> Clock
+        ensures clock { result ≡ clock_of self.now }
+    {
+        Clock {
+            time: self.time,
+            reset_count: self.reset_count,
+            restart_count: self.restart_count,
+            safe: self.safe,
+        }
+    }
+
+    /// How often the machine was reset.
+    pub fn reset_count(&self) -> u32
+        ensures count { result ≡ self.now.reset_count }
+    {
+        self.reset_count
+    }
+
+    /// Whether physical presence is on.
+    pub fn presence(&self) -> bool
+        ensures presence { result ≡ self.now.presence }
+    {
+        self.presence
+    }
+
+    /// The PCRs.
+    pub fn pcrs(&self) -> &Pcrs
+        ensures pcrs { result.now ≡ self.now.pcrs }
+    {
+        &self.pcrs
+    }
+
+    /// The NV indices.
+    pub fn nv(&self) -> &NvTable
+        ensures indices { result.now ≡ self.now.indices }
+    {
+        &self.indices
+    }
+
+    /// The object with this handle; `None` exactly where there is none.
+    pub fn object(&self, handle: u32) -> Option<&ObjectEntry>
+        ensures found { option_copied result ≡ object_of handle self.now.objects }
+    {
+        self.objects.find(handle)
+    }
+
+    /// The index with this handle; `None` exactly where there is none. Its content has as many bytes as its
+    /// public area says.
+    pub fn index(&self, handle: u32) -> Option<&IndexEntry>
+        ensures found { option_copied result ≡ index_of handle self.now.indices }
+        ensures content { IfSome result (λ entry. length entry.now.content ≡ entry.now.public.size) }
+    {
+        self.indices.find(handle)
+    }
+
+    /// The hierarchy with this handle: the owner, the endorsement hierarchy or the lockout; `None` exactly for
+    /// every other handle.
+    pub fn hierarchy(&self, handle: u32) -> Option<Entity<'_>>
+        ensures hierarchy { option_map entity_of result ≡ hierarchy_at self.now handle }
+    {
+        let auth = match handle {
+            TPM_RH_OWNER => self.owner.as_slice(),
+            TPM_RH_ENDORSEMENT => self.endorsement.as_slice(),
+            TPM_RH_LOCKOUT => self.lockout.as_slice(),
+            _ => return None,
+        };
+        Some(Entity::Hierarchy { handle, auth })
+    }
+
+    // ---- changes of the surroundings
+
+    /// Lets so many milliseconds pass.
+    pub fn advance(&mut self, ms: u32)
+        requires early { self.old.time + ms ≤ 2 ^ 63 }
+        ensures world { self.new ≡ surroundings.passed ms self.old }
+    {
+        self.time += ms as u64;
+    }
+
+    /// Turns physical presence on or off.
+    pub fn set_presence(&mut self, on: bool)
+        ensures world { self.new ≡ surroundings.with_presence on self.old }
+    {
+        self.presence = on;
+    }
+
+    /// Resets the machine (TPM 2.0 Part 1, "TPM Reset"): time begins at 0, the PCRs are zero and so is their
+    /// counter, the count of resets rises by one unless it stands at its last value, and that of restarts is 0.
+    pub fn reset(&mut self)
+        ensures world { self.new ≡ surroundings.reset self.old }
+    {
+        self.pcrs.clear();
+        self.time = 0;
+        self.reset_count = self.reset_count.saturating_add(1);
+        self.restart_count = 0;
+    }
+
+    // ---- changes by commands
+
+    // Extends a PCR; answers `PcrFull`, and changes nothing, exactly where the counter stands at its last
+    // value.
+    pub(crate) fn extend(&mut self, pcr: u8, digest: &Digest32) -> Result<(), PcrFull>
+        requires below { pcr < 24 }
+        ensures full { IsErr result ↔ (self.old.pcrs.counter ≡ 2 ^ 32 - 1) }
+        ensures ok { OnOk result (self.new ≡ pcr_extend.after pcr digest.now self.old) }
+        ensures err { OnErr result (self.new ≡ self.old) }
+    {
+        self.pcrs.extend(pcr, digest)
+    }
+
+    // Writes bytes into an index; refuses, and then changes nothing, by the rules of writing.
+    pub(crate) fn write(&mut self, index: u32, offset: u16, bytes: &[u8]) -> Result<(), Rc>
+        requires there { IsSome (index_of index self.old.indices) }
+        ensures ok { OnOk result (self.new ≡ nv_write.after index offset bytes.now self.old) }
+        ensures refused { IfErr result (λ rc. rule_of (λ entry. write_rule entry offset (length bytes.now)) index self.old.indices ≡ Some rc.code) }
+        ensures err { OnErr result (self.new ≡ self.old) }
+    {
+        self.indices.write(index, offset, bytes)
+    }
+
+    // Raises a counter by one; refuses, and then changes nothing, by the rules of counting.
+    pub(crate) fn increment(&mut self, index: u32) -> Result<(), Rc>
+        requires there { IsSome (index_of index self.old.indices) }
+        ensures ok { OnOk result (self.new ≡ nv_increment.after index self.old) }
+        ensures refused { IfErr result (λ rc. rule_of (counter_rule self.old.indices) index self.old.indices ≡ Some rc.code) }
+        ensures err { OnErr result (self.new ≡ self.old) }
+    {
+        self.indices.increment(index)
+    }
+}

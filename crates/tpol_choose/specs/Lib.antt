@@ -1,0 +1,14 @@
+pub mod Acts
+pub mod Binding
+pub mod Blocks
+pub mod Clients
+pub mod Counts
+pub mod Entities
+pub mod Facts
+pub mod Goals
+pub mod Judges
+pub mod Keys
+pub mod Lent
+pub mod Moves
+pub mod Outside
+pub mod Tracks

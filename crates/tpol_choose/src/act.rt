@@ -1,0 +1,50 @@
+// Moves that are lent, so that a policy's moves are judged without a copy.
+
+ghost use Rattle.std.specs.Prelude.{◌≡◌};
+ghost use Rattle.tpol_choose.specs.Acts.{move_of};
+
+use tpol_base::{Blob, Digest32, Name};
+use tpol_tree::{Assertion, Move};
+
+// One policy command on a way through a policy, as `Move`.
+#[derive(Clone, Copy)]
+pub enum Act<'a> {
+    Assert(&'a Assertion),
+    Or(&'a [Digest32]),
+    Approve {
+        key: &'a Name,
+        policy_ref: &'a Blob,
+        approved: Digest32,
+        signature: Digest32,
+    },
+    ApproveNv {
+        index: &'a Name,
+        approved: Digest32,
+    },
+}
+
+impl<'a> Act<'a> {
+    pub fn of(act: &'a Move) -> Act<'a>
+        ensures { move_of result ≡ act.now }
+    {
+        match act {
+            Move::Assert(assertion) => Act::Assert(assertion),
+            Move::Or(digests) => Act::Or(digests.as_slice()),
+            Move::Approve {
+                key,
+                policy_ref,
+                approved,
+                signature,
+            } => Act::Approve {
+                key,
+                policy_ref,
+                approved: *approved,
+                signature: *signature,
+            },
+            Move::ApproveNv { index, approved } => Act::ApproveNv {
+                index,
+                approved: *approved,
+            },
+        }
+    }
+}

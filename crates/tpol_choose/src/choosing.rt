@@ -1,0 +1,55 @@
+// The first path that can be gone.
+
+ghost use Rattle.std.specs.Prelude.{◌≡◌};
+ghost use Rattle.tpol_choose.specs.Blocks.{chosen_path};
+ghost use Rattle.tpol_digest.specs.Limits.{AreWithinLimits};
+ghost use Rattle.tpol_digest.specs.Paths.{paths_of};
+ghost use Rattle.tpol_digest.specs.WellFormed.{HaveBranchCounts};
+ghost use Rattle.tpol_name.specs.Setups.{IsSight};
+
+use crate::at_position::block_at_index;
+use crate::client::Client;
+use crate::counting::count_elements;
+use crate::walk::Walk;
+use std::alloc::Global;
+use tpol_digest::MAX_LEVELS;
+use tpol_goal::{Goal, Grants};
+use tpol_name::Sight;
+use tpol_tree::{Approvals, Closed};
+
+/// The position, from 1, of the first path of a policy that the client can go (see `can` and
+/// `tpol_digest::path_at`); `None` exactly where it can go none. No list of the paths is made, and no memory
+/// is taken; `alloc` makes an empty list.
+pub fn choose(
+    alloc: Global,
+    policy: &Closed,
+    approvals: &Approvals,
+    sight: &Sight,
+    grants: &Grants,
+    goal: &Goal,
+    locality: u8,
+) -> Option<u32>
+    requires branches { HaveBranchCounts policy.now approvals.now }
+    requires within { AreWithinLimits (paths_of policy.now approvals.now) }
+    requires sight { IsSight sight.now }
+    ensures chosen { result ≡ chosen_path (paths_of policy.now approvals.now) sight.now grants.now goal.now locality }
+{
+    let walk = Walk {
+        alloc,
+        client: Client {
+            sight,
+            grants,
+            goal,
+            locality,
+        },
+        approvals: approvals.as_slice(),
+        levels: MAX_LEVELS,
+    };
+    let count = count_elements(walk.approvals, walk.levels, &policy.elements);
+    for index in 0..count {
+        if block_at_index(&walk, policy, index).is_ok() {
+            return Some(index as u32 + 1);
+        }
+    }
+    None
+}

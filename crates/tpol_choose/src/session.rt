@@ -1,0 +1,195 @@
+// The session that a path would make, as rules read it.
+
+ghost use Rattle.std.specs.Prelude.{◌≡◌, ◌≤◌, ◌^◌, ◌++◌};
+ghost use Rattle.std.specs.Int.{to_be_bytes, w32};
+ghost use Rattle.tpm_bindings.specs.Facts as pcr;
+ghost use Rattle.tpm_bindings.specs.Merged.{merged};
+ghost use Rattle.tpm_bindings.specs.State.{SessionState};
+ghost use Rattle.tpm_rules.specs.Standing.{standing_of};
+ghost use Rattle.tpol_choose.specs.Acts.{move_of};
+ghost use Rattle.tpol_choose.specs.Facts as spec;
+ghost use Rattle.tpol_digest.specs.Digest.{after_update, digest_after, or_digest, zero_digest};
+ghost use Rattle.tpol_digest.specs.Update.{two_hashes};
+ghost use Rattle.tpol_name.specs.declared.sight.Sight.{Sight as OneSight};
+ghost use Rattle.tpol_base.specs.CommandCode.{number_of_code};
+ghost use Rattle.tpol_base.specs.Name.{name_bytes};
+ghost use Rattle.tpol_hash.specs.Messages.{Holds};
+
+use crate::act::Act;
+use crate::entity_at::entity_of_name;
+use tpm_bindings::Bindings;
+use tpm_rules::{Standing, deadline_of};
+use tpol_base::{CommandCode, Digest32, Name};
+use tpol_digest::{approve_digest, approve_nv_digest, extend};
+use tpol_hash::Hasher;
+use tpol_name::Sight;
+use tpol_tree::{Assertion, Move};
+
+// The session that a path would begin with.
+pub fn fresh_session(sight: &Sight) -> Standing
+    ensures { result ≡ standing_of (spec.fresh_session sight.now) }
+{
+    Standing {
+        start: sight.time,
+        nonce: zero(),
+        digest: zero(),
+        bindings: Bindings::new(),
+        counter: None,
+    }
+}
+
+// 32 zero bytes.
+pub fn zero() -> Digest32
+    ensures { result ≡ zero_digest }
+{
+    Digest32::ZERO
+}
+
+// The session with the fact of one more move, where what its facts then bind is known.
+pub fn session_after(
+    sight: &Sight,
+    session: &Standing,
+    act: &Act<'_>,
+    bindings: Bindings,
+) -> Standing
+    ensures start { result.start ≡ session.now.start }
+    ensures after { (state : SessionState) → session.now ≡ standing_of state
+        → bindings ≡ merged (spec.session_after sight.now state (move_of act.now)).facts
+        → result ≡ standing_of (spec.session_after sight.now state (move_of act.now)) }
+{
+    Standing {
+        start: session.start,
+        nonce: session.nonce,
+        digest: digest_after(sight, session.digest, act),
+        bindings,
+        counter: counter_after(sight.pcr_counter, session.counter, act),
+    }
+}
+
+// The digest with the fact of one more move.
+fn digest_after(sight: &Sight, before: Digest32, act: &Act<'_>) -> Digest32
+    ensures { (state : SessionState) → result ≡ digest_after (spec.fact_of_move sight.now state (move_of act.now)).act before }
+{
+    match *act {
+        Act::Assert(assertion) => digest_after_assertion(sight, before, assertion),
+        Act::Or(digests) => or_digest(digests),
+        Act::Approve {
+            key,
+            policy_ref,
+            ..
+        } => approve_digest(key, policy_ref),
+        Act::ApproveNv { index, .. } => approve_nv_digest(index),
+    }
+}
+
+// The same of an assertion. That of PolicySecret has the Name that the entity has as it is.
+fn digest_after_assertion(sight: &Sight, before: Digest32, assertion: &Assertion) -> Digest32
+    ensures { (state : SessionState) → result ≡ digest_after (spec.fact_of_assertion sight.now state assertion.now).act before }
+{
+    match assertion {
+        Assertion::Secret {
+            entity,
+            policy_ref,
+            ..
+        } => secret_digest(before, &name_in_fact(sight, entity), policy_ref.as_slice()),
+        _ => extend(before, assertion),
+    }
+}
+
+// The Name that a machine keeps of PolicySecret.
+fn name_in_fact(sight: &Sight, name: &Name) -> Name
+    ensures { result ≡ spec.name_in_fact sight.now name.now }
+{
+    match entity_of_name(sight, name) {
+        Some(found) => found.name(),
+        None => *name,
+    }
+}
+
+// A hasher that holds the digest before and a command's code.
+fn start(before: &Digest32, code: CommandCode) -> Hasher
+    ensures { Holds result (before.now.bytes ++ to_be_bytes w32 (number_of_code code)) }
+{
+    let mut hasher = Hasher::new();
+    hasher.put(&before.bytes);
+    hasher.put(&code.number().to_be_bytes());
+    hasher
+}
+
+// The digest after PolicySecret of this Name with this policyRef.
+fn secret_digest(before: Digest32, name: &Name, policy_ref: &[u8]) -> Digest32
+    ensures { result ≡ after_update (two_hashes 0x151 (name_bytes name.now) policy_ref.now) before }
+{
+    let mut first = start(&before, CommandCode::PolicySecret);
+    first.put_name(name);
+    let mut second = Hasher::new();
+    second.put(&first.done().bytes);
+    second.put(policy_ref);
+    second.done()
+}
+
+// The digest after PolicyOR with these digests.
+fn or_digest(digests: &[Digest32]) -> Digest32
+    ensures { result ≡ or_digest digests.now }
+{
+    let mut hasher = start(&zero(), CommandCode::PolicyOr);
+    for digest in digests {
+        hasher.put(&digest.bytes);
+    }
+    hasher.done()
+}
+
+fn counter_after(now: u32, first: Option<u32>, act: &Act<'_>) -> Option<u32>
+    ensures { result ≡ spec.counter_after now first (move_of act.now) }
+{
+    match first {
+        Some(first) => Some(first),
+        None if is_pcr(act) => Some(now),
+        None => None,
+    }
+}
+
+fn is_pcr(act: &Act<'_>) -> bool
+    ensures { result ≡ pcr.is_pcr (move_of act.now) }
+{
+    match *act {
+        Act::Assert(Assertion::Pcr { .. }) => true,
+        _ => false,
+    }
+}
+
+// The cpHashA of a move's fact.
+pub fn cp_hash_of(act: &Act<'_>) -> Option<Digest32>
+    ensures { result ≡ spec.cp_hash_of (move_of act.now) }
+{
+    match *act {
+        Act::Assert(Assertion::Secret { cp_hash, .. } | Assertion::Signed { cp_hash, .. }) => {
+            *cp_hash
+        }
+        _ => None,
+    }
+}
+
+// The deadline of a move's fact.
+pub fn deadline_after(session: &Standing, act: &Act<'_>) -> Option<u64>
+    requires start { session.now.start ≤ 2 ^ 63 }
+    ensures { result ≡ spec.deadline_of_move session.now.start session.now.nonce (move_of act.now) }
+{
+    match *act {
+        Act::Assert(Assertion::Secret { expiration, .. } | Assertion::Signed { expiration, .. }) =>
+            deadline_of(session.start, &session.nonce.bytes, *expiration),
+        _ => None,
+    }
+}
+
+// What the facts bind together with that of one more move of a path.
+pub fn bindings_after_move(session: &Standing, act: &Move) -> Bindings
+    requires start { session.now.start ≤ 2 ^ 63 }
+    ensures { (state : SessionState) (sight : OneSight) → session.now ≡ standing_of state
+        → result ≡ merged (spec.session_after sight state act.now).facts }
+{
+    let lent = Act::of(act);
+    let mut bindings = session.bindings;
+    bindings.merge(act, cp_hash_of(&lent), deadline_after(session, &lent));
+    bindings
+}

@@ -1,0 +1,115 @@
+// The lines of the events of a machine.
+
+ghost use Rattle.std.specs.Prelude.{◌≡◌, IfOk};
+ghost use Rattle.std.specs.String.{string_bytes};
+ghost use Rattle.tpol_lines.specs.Events.{answer_text, check_word, class_text, command_line, denial_word, presence_line, reset_line, switch_word, time_line};
+
+use crate::hexadecimal::code_of_buffer;
+use std::alloc::Global;
+use tpm_rules::{Denial, Outcome};
+use tpol_base::{Check, NoMemory, Text};
+
+/// The line of a command: the number of its event, the client that sent it and from which locality, the
+/// codes of the command and of the reply, what became of it, and the reply.
+///
+/// A code has eight hexadecimal digits, those of bytes 7 to 10 of the command or of the reply, whatever they
+/// say; where there are fewer than 10 bytes, dashes stand in its place.
+pub fn command_line(
+    alloc: Global,
+    event: u32,
+    client: u32,
+    locality: u8,
+    buffer: &[u8],
+    reply: &[u8],
+    outcome: &Outcome,
+) -> Result<Text, NoMemory>
+    ensures { IfOk result (λ line. line ≡ command_line event client locality buffer.now reply.now outcome.now) }
+{
+    let code = code_of_buffer(alloc, buffer)?;
+    let answer = answer_text(alloc, reply, outcome)?;
+    Ok(Text::from_string(format!(in alloc;
+        "{event} client {client} locality {locality} code {code} {answer}"
+    )?))
+}
+
+// The reply to a command, and what became of it.
+fn answer_text(alloc: Global, reply: &[u8], outcome: &Outcome) -> Result<String, NoMemory>
+    ensures { IfOk result (λ text. string_bytes text ≡ answer_text reply.now outcome.now) }
+{
+    let rc = code_of_buffer(alloc, reply)?;
+    let class = class_text(alloc, outcome)?;
+    let reply = hex::encode(alloc, reply)?;
+    Ok(format!(in alloc; "rc {rc} {class} reply {reply}")?)
+}
+
+// What became of a command.
+fn class_text(alloc: Global, outcome: &Outcome) -> Result<String, NoMemory>
+    ensures { IfOk result (λ text. string_bytes text ≡ class_text outcome.now) }
+{
+    match outcome {
+        Outcome::Accepted => Ok(String::from_str(alloc, "accepted")?),
+        Outcome::Served => Ok(String::from_str(alloc, "served")?),
+        Outcome::Denied(denial) => {
+            let word = denial_word(denial);
+            Ok(format!(in alloc; "denied {word}")?)
+        }
+        Outcome::Refused(_) => Ok(String::from_str(alloc, "refused")?),
+    }
+}
+
+// The word for a failed authorization.
+fn denial_word(denial: &Denial) -> &'static str
+    ensures { result.now ≡ denial_word denial.now }
+{
+    match denial {
+        Denial::Unavailable => "Unavailable",
+        Denial::Password => "Password",
+        Denial::Deferred(check) => check_word(check),
+    }
+}
+
+// The word for a deferred check.
+pub(crate) fn check_word(check: &Check) -> &'static str
+    ensures { result.now ≡ check_word check.now }
+{
+    match check {
+        Check::PcrChanged => "PcrChanged",
+        Check::PolicyFail => "PolicyFail",
+        Check::Expired => "Expired",
+        Check::CommandCode => "CommandCode",
+        Check::RoleNeedsCode => "RoleNeedsCode",
+        Check::Locality => "Locality",
+        Check::Presence => "Presence",
+        Check::Hashes => "Hashes",
+        Check::NvWritten => "NvWritten",
+        Check::AuthValue => "AuthValue",
+    }
+}
+
+/// The line of time that passed, in milliseconds.
+pub fn time_line(alloc: Global, event: u32, milliseconds: u32) -> Result<Text, NoMemory>
+    ensures { IfOk result (λ line. line ≡ time_line event milliseconds) }
+{
+    Ok(Text::from_string(format!(in alloc; "{event} time {milliseconds}")?))
+}
+
+/// The line of physical presence that was asserted (`on`) or taken back.
+pub fn presence_line(alloc: Global, event: u32, on: bool) -> Result<Text, NoMemory>
+    ensures { IfOk result (λ line. line ≡ presence_line event on) }
+{
+    let word = switch_word(on);
+    Ok(Text::from_string(format!(in alloc; "{event} presence {word}")?))
+}
+
+fn switch_word(on: bool) -> &'static str
+    ensures { result.now ≡ switch_word on }
+{
+    if on { "on" } else { "off" }
+}
+
+/// The line of a TPM Reset.
+pub fn reset_line(alloc: Global, event: u32) -> Result<Text, NoMemory>
+    ensures { IfOk result (λ line. line ≡ reset_line event) }
+{
+    Ok(Text::from_string(format!(in alloc; "{event} reset")?))
+}

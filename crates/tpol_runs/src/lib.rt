@@ -1,0 +1,21 @@
+//! The runs of a script by their numbers: each run's next command, and what a reply makes of it.
+//!
+//! Contracts see a run as who sends its commands, from where, and where the driver stands, and all runs as
+//! their list. The layer above begins a run with its plan, executes the command that `next` gives, and hands
+//! the reply to `take`, which tells the end of a run once.
+#![tactic(auto)]
+
+mod after;
+mod laws;
+mod numbered;
+mod run;
+mod runs;
+mod sent;
+mod state;
+
+pub use after::After;
+pub use laws::{runs_are_driven, runs_end};
+pub use numbered::Numbered;
+pub use run::Run;
+pub use runs::Runs;
+pub use sent::Sent;

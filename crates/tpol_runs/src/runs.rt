@@ -1,0 +1,154 @@
+//! The runs of a script.
+
+ghost use Rattle.std.specs.Prelude.{◌≡◌, ◌≤◌, ◌∷◌, ◌++◌, [], None, Some, length, position, IfOk, IfSome, OnOk, OnErr};
+ghost use Rattle.std.specs.Option.{option_copied};
+ghost use Rattle.tpol_runs.specs.Courses.{begun, end_told, goes_on, heard_by, most_of, next_of, run_after};
+ghost use Rattle.tpol_runs.specs.Runs.{has_number, run_at, with_run};
+
+use crate::after::After;
+use crate::numbered::Numbered;
+use crate::run::Run;
+use crate::sent::Sent;
+use std::alloc::Global;
+use std::marker::Model;
+use std::mem::replace;
+use tpol_base::NoMemory;
+use tpol_driver::{End, Plan};
+
+/// The runs of a script by their numbers. Contracts see the list of the runs that were begun, in order; a run
+/// that is over has no state any more.
+#[derive(Drop)]
+pub struct Runs {
+    runs: Vec<Numbered>,
+}
+
+impl Model for Runs {
+    ghost use Rattle.std.specs.Prelude.{List};
+    ghost use Rattle.tpol_runs.specs.declared.numbered.Numbered.{Numbered};
+
+    ghost Value = { List Numbered };
+
+    ghost view = { λ r. r.runs.items };
+}
+
+impl Runs {
+    /// No run; it takes no memory.
+    pub fn new(alloc: Global) -> Runs
+        ensures { result ≡ [] }
+    {
+        Runs {
+            runs: Vec::new(alloc),
+        }
+    }
+
+    /// Begins a run of a plan, whose commands this client sends from this locality. After `NoMemory` the runs
+    /// are as before.
+    pub fn begin(
+        &mut self,
+        number: u16,
+        client: u32,
+        locality: u8,
+        plan: Plan,
+    ) -> Result<(), NoMemory>
+        requires moves { length plan.path.moves ≤ 512 }
+        requires locality { locality ≤ 4 }
+        ensures ok { OnOk result (self.new ≡ self.old ++ record { number = number; run = Some (begun client locality plan) } ∷ []) }
+        ensures err { OnErr result (self.new ≡ self.old) }
+    {
+        let run = Some(Run::new(client, locality, plan));
+        self.runs.push(Numbered { number, run })?;
+        Ok(())
+    }
+
+    /// Begins a run that has no path to go: it is over at once. After `NoMemory` the runs are as before.
+    pub fn begin_without_path(&mut self, number: u16) -> Result<(), NoMemory>
+        ensures ok { OnOk result (self.new ≡ self.old ++ record { number = number; run = None } ∷ []) }
+        ensures err { OnErr result (self.new ≡ self.old) }
+    {
+        self.runs.push(Numbered { number, run: None })?;
+        Ok(())
+    }
+
+    /// How many commands the run of this number has at most in all; 0 where it is over.
+    pub fn most_commands(&self, number: u16) -> u32
+        ensures { result ≡ most_of (run_at self.now number) }
+    {
+        match self.find(number) {
+            Some(run) => run.most_commands(),
+            None => 0,
+        }
+    }
+
+    /// The next command of the run of this number; `None` where it is over.
+    pub fn next(&self, alloc: Global, number: u16) -> Result<Option<Sent>, NoMemory>
+        ensures sent { IfOk result (λ sent. sent ≡ next_of (run_at self.now number)) }
+        ensures locality { IfOk result (λ sent. IfSome sent (λ command. command.locality ≤ 4)) }
+    {
+        match self.find(number) {
+            Some(run) => Ok(Some(run.next(alloc)?)),
+            None => Ok(None),
+        }
+    }
+
+    /// Hands the reply to the last command to the run of this number. Where the run is over with it, its end
+    /// is told, this once. A run that was over stays so, and tells nothing. After `NoMemory` the runs are as
+    /// before.
+    pub fn take(
+        &mut self,
+        alloc: Global,
+        number: u16,
+        reply: &[u8],
+    ) -> Result<Option<End>, NoMemory>
+        ensures told { IfOk result (λ told. told ≡ end_told (heard_by (run_at self.old number) reply.now)) }
+        ensures runs { OnOk result (self.new ≡ with_run self.old number (goes_on (heard_by (run_at self.old number) reply.now))) }
+        ensures err { OnErr result (self.new ≡ self.old) }
+    {
+        let Some(run) = self.exchange(number, None) else {
+            return Ok(None);
+        };
+        let (run, told) = hand(run, alloc, reply);
+        self.exchange(number, run);
+        told
+    }
+
+    // The run of this number, unless it is over.
+    fn find(&self, number: u16) -> Option<&Run>
+        ensures { option_copied result ≡ run_at self.now number }
+    {
+        let Some(place) = self.place_of(number) else {
+            return None;
+        };
+        self.runs[place].run.as_ref()
+    }
+
+    // Puts another state, or none, in place of that of the run of this number, and hands out what was there.
+    fn exchange(&mut self, number: u16, run: Option<Run>) -> Option<Run>
+        ensures before { result ≡ run_at self.old number }
+        ensures after { self.new ≡ with_run self.old number run }
+    {
+        let Some(place) = self.place_of(number) else {
+            return None;
+        };
+        replace(&mut self.runs[place].run, run)
+    }
+
+    // Where the run of this number stands in the list.
+    fn place_of(&self, number: u16) -> Option<usize>
+        ensures { result ≡ position (has_number number) self.now }
+    {
+        self.runs.iter().position(|entry| entry.number == number)
+    }
+}
+
+// Hands a reply to a run: the run, where it goes on, and its end, where it is over now.
+fn hand(run: Run, alloc: Global, reply: &[u8]) -> (Option<Run>, Result<Option<End>, NoMemory>)
+    ensures told { IfOk result.1 (λ told. told ≡ end_told (Some (run_after run reply.now))) }
+    ensures run { OnOk result.1 (result.0 ≡ goes_on (Some (run_after run reply.now))) }
+    ensures back { OnErr result.1 (result.0 ≡ Some run) }
+{
+    match run.take(alloc, reply) {
+        Ok(After::Goes(run)) => (Some(run), Ok(None)),
+        Ok(After::Ends(end)) => (None, Ok(Some(end))),
+        Err((run, no_memory)) => (Some(run), Err(no_memory)),
+    }
+}

@@ -1,0 +1,29 @@
+//! The entities of a scene and its clients.
+
+ghost use Rattle.serde_json.specs.View.{view};
+ghost use Rattle.tpol_scene.specs.Faults.{Gives};
+ghost use Rattle.tpol_scene.specs.Scenes.{cast_in};
+
+use crate::clients::{Clients, optional_clients};
+use crate::entities::{Entities, optional_entities};
+use crate::fault::PartFault;
+use serde_json::Value;
+use std::alloc::Global;
+use tpol_json::PlaceRef;
+
+/// The entities of a scene and its clients, which the events of its script name.
+#[derive(Drop)]
+pub struct Cast {
+    pub entities: Entities,
+    pub clients: Clients,
+}
+
+/// Reads the members `entities` and `clients`.
+#[tactic(auto, unfolding(crate::specs::Scenes::cast_in))]
+pub fn read_cast(alloc: Global, value: &Value, place: &PlaceRef<'_>) -> Result<Cast, PartFault>
+    ensures { Gives result (cast_in (view value.now) place.now) }
+{
+    let entities = optional_entities(alloc, value, place)?;
+    let clients = optional_clients(alloc, &entities, value, place)?;
+    Ok(Cast { entities, clients })
+}

@@ -1,0 +1,292 @@
+//! The goals of a scene.
+
+ghost use Rattle.std.specs.Prelude.{codes};
+ghost use Rattle.serde_json.specs.View.{view};
+ghost use Rattle.tpol_base.specs.Handle.{rh_null};
+ghost use Rattle.tpol_scene.specs.Faults.{Gives};
+ghost use Rattle.tpol_scene.specs.Goals.{duplicate_in, goal_by, goal_command_in, goal_in, goal_index_in, goal_object_in, hmac_in, nv_increment_in, nv_read_in, nv_write_in, offset_in, unseal_in};
+ghost use Rattle.tpol_scene.specs.declared.targets.Target.TheVariants as targets;
+ghost use Rattle.tpol_scene.specs.Members.{needed, optional};
+ghost use Rattle.tpol_scene.specs.Targets.{target_in};
+ghost use Rattle.tpol_scene.specs.Values.{bytes_up_to, unsigned_in};
+
+use crate::SceneKind;
+use crate::entities::Entities;
+use crate::fault::{PartFault, refuse};
+use crate::targets::{Target, needed_target, target_of};
+use serde_json::Value;
+use std::alloc::Global;
+use tpol_base::Blob;
+use tpol_base::handle::TPM_RH_NULL;
+use tpol_goal::Goal;
+use tpol_json::{PlaceRef, bytes_up_to, check_object, member, needed, unsigned, word};
+
+/// The most bytes of a goal's buffer, and of what is read from or written into an index at once.
+const MAX_BYTES: usize = 1024;
+
+/// The greatest offset in an index's content.
+const MAX_OFFSET: u64 = 65_535;
+
+/// The commands that a goal may name.
+#[derive(Clone, Copy, Debug, PartialEq, Eq)]
+pub enum GoalCommand {
+    Unseal,
+    Hmac,
+    NvRead,
+    NvWrite,
+    NvIncrement,
+    Duplicate,
+}
+
+/// The member `goal`: the command that a client wants, on one of these entities.
+pub fn needed_goal(
+    alloc: Global,
+    entities: &Entities,
+    item: &Value,
+    place: &PlaceRef<'_>,
+) -> Result<Goal, PartFault>
+    ensures { Gives result (needed (goal_in entities.now) (codes "goal") (view item.now) place.now) }
+{
+    let (goal, place) = needed(alloc, item, "goal", place)?;
+    goal_of(alloc, entities, goal, &place)
+}
+
+#[tactic(auto, unfolding(crate::specs::Goals::goal_in))]
+fn goal_of(
+    alloc: Global,
+    entities: &Entities,
+    value: &Value,
+    place: &PlaceRef<'_>,
+) -> Result<Goal, PartFault>
+    ensures { Gives result (goal_in entities.now (view value.now) place.now) }
+{
+    check_object(alloc, value, place)?;
+    let command = needed_command(alloc, value, place)?;
+    goal_by(alloc, command, entities, value, place)
+}
+
+fn needed_command(
+    alloc: Global,
+    value: &Value,
+    place: &PlaceRef<'_>,
+) -> Result<GoalCommand, PartFault>
+    ensures { Gives result (needed goal_command_in (codes "command") (view value.now) place.now) }
+{
+    let (command, place) = needed(alloc, value, "command", place)?;
+    goal_command(alloc, command, &place)
+}
+
+// One of the six commands, in any case, with or without `TPM2_CC_` in front.
+fn goal_command(
+    alloc: Global,
+    value: &Value,
+    place: &PlaceRef<'_>,
+) -> Result<GoalCommand, PartFault>
+    ensures { Gives result (goal_command_in (view value.now) place.now) }
+{
+    let commands = [
+        ("Unseal", GoalCommand::Unseal),
+        ("HMAC", GoalCommand::Hmac),
+        ("NV_Read", GoalCommand::NvRead),
+        ("NV_Write", GoalCommand::NvWrite),
+        ("NV_Increment", GoalCommand::NvIncrement),
+        ("Duplicate", GoalCommand::Duplicate),
+    ];
+    match word(alloc, value, "TPM2_CC_", &commands, place)? {
+        Some(command) => Ok(command),
+        None => refuse(alloc, SceneKind::UnknownKind, place),
+    }
+}
+
+// What stands in a goal behind its command.
+#[tactic(auto, unfolding(crate::specs::Goals::goal_by))]
+fn goal_by(
+    alloc: Global,
+    command: GoalCommand,
+    entities: &Entities,
+    value: &Value,
+    place: &PlaceRef<'_>,
+) -> Result<Goal, PartFault>
+    ensures { Gives result (goal_by command entities.now (view value.now) place.now) }
+{
+    match command {
+        GoalCommand::Unseal => unseal(alloc, entities, value, place),
+        GoalCommand::Hmac => hmac(alloc, entities, value, place),
+        GoalCommand::NvRead => nv_read(alloc, entities, value, place),
+        GoalCommand::NvWrite => nv_write(alloc, entities, value, place),
+        GoalCommand::NvIncrement => nv_increment(alloc, entities, value, place),
+        GoalCommand::Duplicate => duplicate(alloc, entities, value, place),
+    }
+}
+
+#[tactic(auto, unfolding(crate::specs::Goals::unseal_in))]
+fn unseal(
+    alloc: Global,
+    entities: &Entities,
+    value: &Value,
+    place: &PlaceRef<'_>,
+) -> Result<Goal, PartFault>
+    ensures { Gives result (unseal_in entities.now (view value.now) place.now) }
+{
+    let object = needed_object(alloc, entities, value, place)?;
+    Ok(Goal::Unseal { object })
+}
+
+#[tactic(auto, unfolding(crate::specs::Goals::hmac_in))]
+fn hmac(
+    alloc: Global,
+    entities: &Entities,
+    value: &Value,
+    place: &PlaceRef<'_>,
+) -> Result<Goal, PartFault>
+    ensures { Gives result (hmac_in entities.now (view value.now) place.now) }
+{
+    let key = needed_object(alloc, entities, value, place)?;
+    let buffer = needed_bytes(alloc, value, "buffer", place)?;
+    Ok(Goal::Hmac { key, buffer })
+}
+
+#[tactic(auto, unfolding(crate::specs::Goals::nv_read_in))]
+fn nv_read(
+    alloc: Global,
+    entities: &Entities,
+    value: &Value,
+    place: &PlaceRef<'_>,
+) -> Result<Goal, PartFault>
+    ensures { Gives result (nv_read_in entities.now (view value.now) place.now) }
+{
+    let index = needed_index(alloc, entities, value, place)?;
+    let size = needed_size(alloc, value, place)?;
+    let offset = optional_offset(alloc, value, place)?;
+    Ok(Goal::NvRead {
+        index,
+        size,
+        offset,
+    })
+}
+
+#[tactic(auto, unfolding(crate::specs::Goals::nv_write_in))]
+fn nv_write(
+    alloc: Global,
+    entities: &Entities,
+    value: &Value,
+    place: &PlaceRef<'_>,
+) -> Result<Goal, PartFault>
+    ensures { Gives result (nv_write_in entities.now (view value.now) place.now) }
+{
+    let index = needed_index(alloc, entities, value, place)?;
+    let bytes = needed_bytes(alloc, value, "bytes", place)?;
+    let offset = optional_offset(alloc, value, place)?;
+    Ok(Goal::NvWrite {
+        index,
+        offset,
+        bytes,
+    })
+}
+
+#[tactic(auto, unfolding(crate::specs::Goals::nv_increment_in))]
+fn nv_increment(
+    alloc: Global,
+    entities: &Entities,
+    value: &Value,
+    place: &PlaceRef<'_>,
+) -> Result<Goal, PartFault>
+    ensures { Gives result (nv_increment_in entities.now (view value.now) place.now) }
+{
+    let index = needed_index(alloc, entities, value, place)?;
+    Ok(Goal::NvIncrement { index })
+}
+
+#[tactic(auto, unfolding(crate::specs::Goals::duplicate_in))]
+fn duplicate(
+    alloc: Global,
+    entities: &Entities,
+    value: &Value,
+    place: &PlaceRef<'_>,
+) -> Result<Goal, PartFault>
+    ensures { Gives result (duplicate_in entities.now (view value.now) place.now) }
+{
+    let object = needed_object(alloc, entities, value, place)?;
+    let parent = optional_parent(alloc, entities, value, place)?;
+    Ok(Goal::Duplicate { object, parent })
+}
+
+// The object that `path` names.
+fn needed_object(
+    alloc: Global,
+    entities: &Entities,
+    value: &Value,
+    place: &PlaceRef<'_>,
+) -> Result<u32, PartFault>
+    ensures { Gives result (goal_object_in entities.now (view value.now) place.now) }
+{
+    needed_target(alloc, entities, Target::Object, value, "path", place)
+}
+
+// The index that `path` names.
+fn needed_index(
+    alloc: Global,
+    entities: &Entities,
+    value: &Value,
+    place: &PlaceRef<'_>,
+) -> Result<u32, PartFault>
+    ensures { Gives result (goal_index_in entities.now (view value.now) place.now) }
+{
+    needed_target(alloc, entities, Target::Index, value, "path", place)
+}
+
+// The object that `parent` names, without it the null hierarchy.
+fn optional_parent(
+    alloc: Global,
+    entities: &Entities,
+    value: &Value,
+    place: &PlaceRef<'_>,
+) -> Result<u32, PartFault>
+    ensures { Gives result (optional (target_in entities.now targets.Object) rh_null (codes "parent") (view value.now) place.now) }
+{
+    match member(value, "parent") {
+        Some(parent) => {
+            target_of(
+                alloc,
+                entities,
+                Target::Object,
+                parent,
+                &place.member("parent"),
+            )
+        }
+        None => Ok(TPM_RH_NULL),
+    }
+}
+
+// At most 1,024 bytes.
+fn needed_bytes(
+    alloc: Global,
+    value: &Value,
+    name: &str,
+    place: &PlaceRef<'_>,
+) -> Result<Blob, PartFault>
+    ensures { Gives result (needed (bytes_up_to 1024) name.now (view value.now) place.now) }
+{
+    let (bytes, place) = needed(alloc, value, name, place)?;
+    Ok(bytes_up_to(alloc, bytes, MAX_BYTES, &place)?)
+}
+
+// How many bytes are read: at most 1,024.
+fn needed_size(alloc: Global, value: &Value, place: &PlaceRef<'_>) -> Result<u16, PartFault>
+    ensures { Gives result (needed (unsigned_in 0 1024) (codes "size") (view value.now) place.now) }
+{
+    let (size, place) = needed(alloc, value, "size", place)?;
+    Ok(unsigned(alloc, size, 0, MAX_BYTES as u64, &place)? as u16)
+}
+
+// Where in the index's content, without it at its front.
+fn optional_offset(alloc: Global, value: &Value, place: &PlaceRef<'_>) -> Result<u16, PartFault>
+    ensures { Gives result (offset_in (view value.now) place.now) }
+{
+    match member(value, "offset") {
+        Some(offset) => {
+            Ok(unsigned(alloc, offset, 0, MAX_OFFSET, &place.member("offset"))? as u16)
+        }
+        None => Ok(0),
+    }
+}

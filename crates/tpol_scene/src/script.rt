@@ -1,0 +1,143 @@
+//! The script of a scene.
+
+ghost use Rattle.std.specs.Prelude.{◌≡◌, codes, OnOk};
+ghost use Rattle.serde_json.specs.View.{view, items_view};
+ghost use Rattle.tpol_json.specs.Members.{items_from};
+ghost use Rattle.tpol_scene.specs.Faults.{Gives, Leaves};
+ghost use Rattle.tpol_scene.specs.Members.{optional};
+ghost use Rattle.tpol_scene.specs.Scripts.{event_in, no_events, script_in, with_event};
+
+use crate::cast::Cast;
+use crate::events::{event_by, needed_event_kind};
+use crate::fault::PartFault;
+use serde_json::Value;
+use std::alloc::Global;
+use tpol_base::{Blob, NoMemory, Sequence, Text};
+use tpol_goal::Goal;
+use tpol_json::{Place, PlaceRef, check_limit, check_object, items, member};
+
+/// The most events of a scene.
+const EVENTS: usize = 4096;
+
+/// What happens to a machine.
+#[derive(Drop)]
+pub enum ScriptEvent {
+    /// A client, which need not be listed, sends these bytes as a command at this locality (0 to 4).
+    Command {
+        client: u32,
+        locality: u8,
+        buffer: Blob,
+    },
+    /// A client begins a run with this number (from 1) at this locality (0 to 4): for this goal, on the first
+    /// path that it can go of the policy of this name, without `/policy/` in front. `place` is where the
+    /// policy's name stands.
+    Begin {
+        run: u16,
+        client: u32,
+        locality: u8,
+        policy: Text,
+        place: Place,
+        goal: Goal,
+    },
+    /// A run that was begun goes on for so many commands (1 to 2,000), or to its end.
+    Turn {
+        run: u16,
+        times: Option<u16>,
+    },
+    /// So many milliseconds pass.
+    Time(u32),
+    /// Somebody comes to the machine (physical presence), or goes.
+    Presence(bool),
+    /// The machine is reset (TPM Reset).
+    Reset,
+}
+
+/// The events of a scene in order.
+pub type Script = Sequence<ScriptEvent>;
+
+/// The events that were read so far, and the runs that they begin.
+#[derive(Drop)]
+pub struct ScriptFront {
+    pub events: Script,
+    pub runs: Sequence<u16>,
+}
+
+/// The member `script`: a list of events, without it none. They name entities and clients of this cast.
+pub fn optional_script(
+    alloc: Global,
+    cast: &Cast,
+    value: &Value,
+    place: &PlaceRef<'_>,
+) -> Result<ScriptFront, PartFault>
+    ensures { Gives result (optional (script_in cast.now) no_events (codes "script") (view value.now) place.now) }
+{
+    match member(value, "script") {
+        Some(script) => script_of(alloc, cast, script, &place.member("script")),
+        None => Ok(no_events(alloc)),
+    }
+}
+
+fn no_events(alloc: Global) -> ScriptFront
+    ensures { result ≡ no_events }
+{
+    ScriptFront {
+        events: Sequence::new(alloc),
+        runs: Sequence::new(alloc),
+    }
+}
+
+fn script_of(
+    alloc: Global,
+    cast: &Cast,
+    value: &Value,
+    place: &PlaceRef<'_>,
+) -> Result<ScriptFront, PartFault>
+    ensures { Gives result (script_in cast.now (view value.now) place.now) }
+{
+    let items = items(alloc, value, place)?;
+    script_of_items(alloc, cast, items, place)
+}
+
+fn script_of_items(
+    alloc: Global,
+    cast: &Cast,
+    items: &[Value],
+    place: &PlaceRef<'_>,
+) -> Result<ScriptFront, PartFault>
+    ensures { Gives result (items_from (event_in cast.now) no_events 0 (items_view items.now) place.now) }
+{
+    let mut front = no_events(alloc);
+    for (index, item) in items.iter().enumerate() {
+        read_event(alloc, cast, &mut front, index, item, &(&*place).item(index))?;
+    }
+    Ok(front)
+}
+
+// Adds the event that stands at this position.
+#[tactic(auto, unfolding(crate::specs::Scripts::event_in))]
+fn read_event(
+    alloc: Global,
+    cast: &Cast,
+    front: &mut ScriptFront,
+    index: usize,
+    item: &Value,
+    place: &PlaceRef<'_>,
+) -> Result<(), PartFault>
+    ensures { Leaves result front.new (event_in cast.now front.old index (view item.now) place.now) }
+{
+    check_limit(alloc, index, EVENTS, place)?;
+    check_object(alloc, item, place)?;
+    let kind = needed_event_kind(alloc, item, place)?;
+    let event = event_by(alloc, kind, cast, front.runs.as_slice(), item, place)?;
+    add_event(front, event)?;
+    Ok(())
+}
+
+fn add_event(front: &mut ScriptFront, event: ScriptEvent) -> Result<(), NoMemory>
+    ensures { OnOk result (front.new ≡ with_event front.old event) }
+{
+    if let ScriptEvent::Begin { run, .. } = &event {
+        front.runs.push(*run)?;
+    }
+    front.events.push(event)
+}

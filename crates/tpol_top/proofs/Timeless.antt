@@ -1,0 +1,38 @@
+-- Commands take no time.
+use Rattle.std.proofs.Common.{◌≡◌, ℕ, Bool, true, false, List, ◌∷◌, if◌then◌else◌, Option, Some, None, Result, Ok, Err, ap, refl}
+use Rattle.std.specs.Option.{option_map_or}
+use Rattle.std.specs.Prelude.{option_and_then}
+use Rattle.tpm_engine.specs.Deeds.{Deed, Idle, Shows, Starts, command_deed, deed_in, deed_of, plain_deed, started_by, started_session}
+use Rattle.tpm_engine.specs.Events.{Answered, event_of, is_success}
+use Rattle.tpm_engine.specs.Facts.{shown_by, Shown}
+use Rattle.tpm_engine.specs.Views.{time_after, time_of}
+use Rattle.tpol_name.specs.declared.setup.Setup.{Setup}
+use Rattle.tpol_wire.specs.declared.command.Command.{Command}
+use Rattle.tpol_wire.specs.declared.command.Command.TheVariants as commands
+use Rattle.tpol_wire.specs.Reading.{reading}
+use Rattle.tpm_engine.specs.declared.event.Event.{Event}
+
+starts : (session : Option ℕ) (time : ℕ) → time_after (option_map_or Starts session Idle) time ≡ time
+starts None time = refl
+starts (Some session) time = refl
+
+plain : (command : Command) (reply : List ℕ) (time : ℕ) → time_after (plain_deed command reply) time ≡ time
+plain (commands.StartAuthSession tpm_key bind nonce) reply time = starts _ time
+plain command reply time = refl
+
+shown_or : (shown : Option Shown) (deed : Deed) (time : ℕ) → time_after deed time ≡ time → time_after (option_map_or (λ s. Shows s.0 s.1) shown deed) time ≡ time
+shown_or None deed time h = h
+shown_or (Some shown) deed time h = refl
+
+of_reading : (found : Result Command ℕ) (reply : List ℕ) (time : ℕ) → time_after (deed_in found reply) time ≡ time
+of_reading (Ok command) reply time = shown_or (shown_by command) (plain_deed command reply) time (plain command reply time)
+of_reading (Err code) reply time = refl
+
+of_success : (success : Bool) (found : Result Command ℕ) (reply : List ℕ) (time : ℕ) → time_after (if success then deed_in found reply else Idle) time ≡ time
+of_success true found reply time = of_reading found reply time
+of_success false found reply time = refl
+
+pub command_takes_no_time : (setup : Setup) (past : List Event) (client locality : ℕ) (buffer : List ℕ) (answered : Answered) → time_of setup (event_of client locality buffer answered ∷ past) ≡ time_of setup past
+unfolding time_of
+command_takes_no_time setup past client locality buffer answered =
+    of_success (is_success answered.outcome) (reading buffer) answered.reply (time_of setup past)

@@ -1,0 +1,118 @@
+// The command `gen`.
+
+ghost use Rattle.std.specs.Prelude.{◌≡◌, [], ◌∷◌, ◌++◌, ◌<◌, ◌≤◌, ◌^◌, length, take, IfOk, OnOk};
+ghost use Rattle.tpol_digest.specs.Limits.{AreWithinLimits};
+ghost use Rattle.tpol_digest.specs.Paths.{paths_of};
+ghost use Rattle.tpol_digest.specs.WellFormed.{IsWellFormedPolicy};
+ghost use Rattle.tpol_lines.specs.Generated.{command_count_line};
+ghost use Rattle.tpol_lines.specs.Lines.{line_of};
+ghost use Rattle.tpol_top.specs.Generate.{generate_step, generated_answer, generated_performance, generated_scenario, last_two};
+ghost use Rattle.tpol_top.specs.Steps.{Answers, IsInside};
+ghost use Rattle.tpol_tree.specs.ClosedErased.{erased};
+
+use crate::answer::{Answer, Verdict};
+use crate::documents::FilledDocument;
+use crate::filled::fill_document;
+use crate::generated::{generated_policy, generated_run, generated_setup};
+use crate::halt::Halt;
+use crate::limits::check_limits;
+use crate::lines::digest_line;
+use crate::performance::Performance;
+use crate::scenario::Scenario;
+use std::alloc::Global;
+use tpol_base::{NoMemory, Sequence, Text};
+use tpol_digest::{count_paths, digest_of};
+use tpol_lines::{Lines, command_count_line, generated_line, path_count_line, push_line};
+use tpol_name::{Setup, directory};
+use tpol_tree::{Approvals, Closed};
+
+/// The command `gen`: a policy of so many ORs, in an order by the bits of a number, its paths and its digest, and a
+/// run of it on a machine of its own.
+#[tactic(auto, unfolding(crate::specs::Generate::generate_step))]
+pub fn generate(alloc: Global, ors: u8, order: u32) -> Result<Answer, Halt>
+    ensures answer { Answers (λ answer. answer) (generate_step ors order) result }
+    ensures inside { IsInside result }
+{
+    let policy = generated_policy(alloc, ors, order)?;
+    let closed = fill_document(alloc, None, &policy, None)?;
+    check_limits(alloc, None, &closed, &Approvals::new(alloc))?;
+    Ok(generated_answer(alloc, ors, order, closed)?)
+}
+
+// What is printed of the policy and of its run.
+#[tactic(auto, unfolding(crate::specs::Generate::generated_answer))]
+fn generated_answer(alloc: Global, ors: u8, order: u32, closed: Closed) -> Result<Answer, NoMemory>
+    requires well_formed { IsWellFormedPolicy closed }
+    requires within { AreWithinLimits (paths_of closed []) }
+    ensures { IfOk result (λ answer. answer ≡ generated_answer ors order (erased closed)) }
+{
+    let count = count_paths(&closed, &Approvals::new(alloc)) as u32;
+    let mut lines = Lines::new(alloc);
+    push_line(
+        alloc,
+        &mut lines,
+        generated_line(alloc, u32::from(ors), order)?.as_str(),
+    )?;
+    push_line(alloc, &mut lines, path_count_line(alloc, count)?.as_str())?;
+    push_line(
+        alloc,
+        &mut lines,
+        digest_line(alloc, &digest_of(&closed))?.as_str(),
+    )?;
+    let performance = generated_performance(alloc, order, closed)?;
+    push_performance(alloc, &mut lines, &performance)?;
+    let verdict = Verdict::Done;
+    Ok(Answer { lines, verdict })
+}
+
+// The lines of the run: the first, how many commands were executed, and the last two.
+fn push_performance(
+    alloc: Global,
+    lines: &mut Lines,
+    performance: &Performance,
+) -> Result<(), NoMemory>
+    requires few { length performance.now.past < 2 ^ 32 }
+    ensures { OnOk result (lines.new ≡ lines.old ++ (take 1 performance.now.lines ++ line_of (command_count_line (length performance.now.past)) ∷ last_two performance.now.lines)) }
+{
+    let told = performance.lines.as_slice();
+    lines.extend_with_clones(&told[..told.len().min(1)])?;
+    let count = performance.machine.journal().len() as u32;
+    push_line(alloc, lines, command_count_line(alloc, count)?.as_str())?;
+    lines.extend_with_clones(&told[told.len() - told.len().min(2)..])
+}
+
+// The run begins, and goes to its end.
+#[tactic(auto, unfolding(crate::specs::Generate::generated_performance))]
+fn generated_performance(alloc: Global, order: u32, closed: Closed) -> Result<Performance, NoMemory>
+    requires well_formed { IsWellFormedPolicy closed }
+    requires within { AreWithinLimits (paths_of closed []) }
+    ensures told { IfOk result (λ performance. performance ≡ generated_performance order closed) }
+    ensures few { IfOk result (λ performance. length performance.past ≤ 2000) }
+{
+    let setup = generated_setup(alloc, order, &digest_of(&closed))?;
+    let scenario = generated_scenario(alloc, &setup, closed)?;
+    let mut performance = Performance::new(alloc, setup)?;
+    performance.begin(alloc, &scenario, "gen", generated_run(alloc)?)?;
+    performance.turn_to_end(alloc, &scenario, 1)?;
+    Ok(performance)
+}
+
+// What the events of the run go by.
+fn generated_scenario(alloc: Global, setup: &Setup, closed: Closed) -> Result<Scenario, NoMemory>
+    ensures { IfOk result (λ scenario. scenario ≡ generated_scenario setup.now closed) }
+{
+    let mut begun = Sequence::new(alloc);
+    begun.push(FilledDocument {
+        name: Text::from_str(alloc, "gen")?,
+        closed,
+    })?;
+    Ok(Scenario {
+        explains: false,
+        seed: setup.seed,
+        directory: directory(alloc, setup)?,
+        entities: Sequence::new(alloc),
+        begun,
+        approvals: Approvals::new(alloc),
+        clients: Sequence::new(alloc),
+    })
+}

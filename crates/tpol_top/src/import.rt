@@ -1,0 +1,42 @@
+// The command `import`.
+
+ghost use Rattle.std.specs.Prelude.{◌≡◌, true, Some, IfSome, IfOk, IsOk, OnErr};
+ghost use Rattle.tpol_top.specs.Import.{documents_after_import, import_step, imported};
+ghost use Rattle.tpol_top.specs.ReadStep.{read_step};
+ghost use Rattle.tpol_top.specs.Steps.{Answers, AsksShelf};
+
+use crate::answer::{Answer, Verdict};
+use crate::halt::Halt;
+use crate::read_step::read_document;
+use std::alloc::Global;
+use tpol_base::{NoMemory, Shelf, Text};
+use tpol_store::put_policy;
+
+/// The command `import`: puts the canonical text of the document in the source on the shelf, under this name.
+/// The line is made first, so that nothing wants memory once the document is there.
+#[tactic(auto, using(tpol_write::proofs::CanonErased::canonical_text_erased), unfolding(crate::specs::Import::import_step, crate::specs::Import::documents_after_import))]
+pub fn import<H: Shelf>(
+    alloc: Global,
+    name: &Text,
+    input: &[u8],
+    shelf: &mut H,
+) -> Result<Answer, Halt>
+    ensures answer { Answers (λ answer. answer) (import_step name.now input.now) result }
+    ensures puts { IfOk result (λ _. IfSome (H.documents shelf.old) (λ all.
+        H.documents shelf.new ≡ Some (documents_after_import name.now input.now all))) }
+    ensures keeps { OnErr result (H.documents shelf.new ≡ H.documents shelf.old) }
+    ensures asks { AsksShelf true (IsOk (read_step input.now)) shelf.old shelf.new (H.faults shelf.old) (H.faults shelf.new) result }
+{
+    let (policy, _notes) = read_document(alloc, input)?;
+    let answer = imported(alloc, name)?;
+    put_policy(alloc, shelf, name.as_str(), &policy)?;
+    Ok(answer)
+}
+
+fn imported(alloc: Global, name: &Text) -> Result<Answer, NoMemory>
+    ensures { IfOk result (λ answer. answer ≡ imported name.now) }
+{
+    let mut line = Text::from_str(alloc, "imported ")?;
+    line.push_str(name.as_str())?;
+    Answer::of_line(alloc, line.as_str(), Verdict::Done)
+}
