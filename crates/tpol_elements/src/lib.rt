@@ -5,6 +5,7 @@
 mod algorithms;
 mod fault;
 mod fields;
+mod laws;
 mod localities;
 mod members;
 mod operations;
@@ -18,6 +19,7 @@ mod words;
 
 pub use fault::{ElementFault, PolicyFault, PolicyKind, refuse};
 pub use fields::policy_ref;
+pub use laws::wrappers_are_looked_up;
 pub use members::note_unknown;
 pub use rows::{leaf_row, without_pem};
 pub use tpol_json::Notes;
