@@ -6,6 +6,7 @@ use Rattle.serde_json.specs.Data.{Data, depth, items_depth, members_depth, boole
 use Rattle.serde_json.specs.View.{items_of}
 use Rattle.tpol_base.specs.declared.compare.Compare.{Compare}
 use Rattle.tpol_base.specs.declared.digest.Digest32.{Digest32}
+use Rattle.tpol_base.specs.Pcr.{pcrs_of_mask}
 use Rattle.tpol_tree.specs.declared.wishes.KeyWish.{KeyWish}
 use Rattle.tpol_tree.specs.declared.wishes.KeyWish.TheVariants as key
 use Rattle.tpol_tree.specs.declared.wishes.IndexWish.{IndexWish}
@@ -32,7 +33,7 @@ use Rattle.tpol_write.specs.Canonical.{policy_value}
 use Rattle.tpol_write.specs.Elements.{element_value, elements_values, branches_values, branch_value, comparison_members, signing_members, typed}
 use Rattle.tpol_write.specs.Names.{code_text}
 use Rattle.tpol_write.specs.Objects.{Entry, with_members, object_of, hex_text, integer, list_of, natural}
-use Rattle.tpol_write.specs.Wishes.{name_value, key_member, index_member, entity_member, parent_member, names_member, pcr_value, pcrs_below, pcrs_member, cp_hash_members}
+use Rattle.tpol_write.specs.Wishes.{name_value, key_member, index_member, entity_member, parent_member, names_member, pcr_value, pcrs_member, cp_hash_members}
 use Rattle.tpol_write.specs.Levels.{levels_of_elements, levels_of_element, levels_of_branches}
 
 -- ---- objects and lists
@@ -105,7 +106,7 @@ names_depth (names.Paths paths) = omega (arith, list_depth 1 string paths (λ pa
 
 pcrs_depth : (p : PcrWish) → depth (pcrs_member p).1 ≤ 2
 pcrs_depth (Values values) = omega (arith, list_depth 1 pcr_value values (λ value. omega arith))
-pcrs_depth (Current mask) = omega (arith, list_depth 1 natural (pcrs_below 32 mask) (λ pcr. omega arith))
+pcrs_depth (Current mask) = omega (arith, list_depth 1 natural (pcrs_of_mask mask) (λ pcr. omega arith))
 
 integer_depth : (z : ℤ) → depth (integer z) ≤ 2
 integer_depth z = omega arith

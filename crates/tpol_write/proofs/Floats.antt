@@ -6,6 +6,7 @@ use Rattle.serde_json.specs.Data.{Data, boolean, string, Members, no_members, me
 use Rattle.serde_json.specs.View.{items_of}
 use Rattle.serde_json.specs.Written.{has_float, items_have_float, members_have_float}
 use Rattle.tpol_base.specs.declared.digest.Digest32.{Digest32}
+use Rattle.tpol_base.specs.Pcr.{pcrs_of_mask}
 use Rattle.tpol_tree.specs.declared.wishes.KeyWish.{KeyWish}
 use Rattle.tpol_tree.specs.declared.wishes.KeyWish.TheVariants as key
 use Rattle.tpol_tree.specs.declared.wishes.IndexWish.{IndexWish}
@@ -31,7 +32,7 @@ use Rattle.tpol_write.specs.Approvals.{approval_value, approvals_members}
 use Rattle.tpol_write.specs.Canonical.{policy_value}
 use Rattle.tpol_write.specs.Elements.{element_value, elements_values, branches_values, branch_value, comparison_members, signing_members, typed}
 use Rattle.tpol_write.specs.Objects.{Entry, with_members, object_of, hex_text, integer, list_of, natural}
-use Rattle.tpol_write.specs.Wishes.{name_value, key_member, index_member, entity_member, parent_member, names_member, pcr_value, pcrs_below, pcrs_member, cp_hash_members}
+use Rattle.tpol_write.specs.Wishes.{name_value, key_member, index_member, entity_member, parent_member, names_member, pcr_value, pcrs_member, cp_hash_members}
 
 -- ---- objects and lists
 
@@ -107,7 +108,7 @@ names_none (names.Paths paths) = list_none string paths (λ path. refl)
 
 pcrs_none : (p : PcrWish) → has_float (pcrs_member p).1 ≡ false
 pcrs_none (Values values) = list_none pcr_value values (λ value. refl)
-pcrs_none (Current mask) = list_none natural (pcrs_below 32 mask) (λ pcr. refl)
+pcrs_none (Current mask) = list_none natural (pcrs_of_mask mask) (λ pcr. refl)
 
 cp_hash_none : (cp_hash : Option Digest32) → NoFloats (cp_hash_members cp_hash)
 cp_hash_none None = tt

@@ -1,6 +1,8 @@
 -- The localities and the PCRs that canonical text writes read back.
 use Rattle.std.proofs.Common.{◌≡◌, ℕ, zero, suc, ◌+◌, ◌-◌, ◌*◌, ◌%◌, ◌^◌, ◌<◌, ◌≤◌, ◌==◌, nat_lt, bit_or, bit_and, Bool, true, false, cond, List, [], ◌∷◌, ◌++◌, map, codes, Option, Some, None, Ok, refl, sym, ap, subst, ◌∙◌, arith, append_assoc, append-nil, mod-eq_of_lt, ◌≢◌, ◌||◌, if◌then◌else◌}
 use Rattle.std.specs.Int.{bit_at}
+use Rattle.std.specs.List.{range_with_len}
+use Rattle.std.specs.Prelude.{filter}
 use Rattle.std.proofs.lemmas.Bool.{ltb-true, ltb-false, le-ltb, eqb-false, ne_eqb}
 use Rattle.std.proofs.lemmas.Nat.{or_lt, or_disjoint, pow_below, pow_pos, mod-pow-add, mod_below, le_or_r}
 use Rattle.std.proofs.lemmas.Nat.Bits.{and_pow, bit_at_above, bit_at-lt}
@@ -8,6 +10,7 @@ use Rattle.serde_json.specs.Data.{Data, null, boolean, number, string, array, ob
 use Rattle.serde_json.specs.Find.{get, as_array}
 use Rattle.serde_json.specs.View.{items_of}
 use Rattle.tpol_base.specs.declared.digest.Digest32.{Digest32}
+use Rattle.tpol_base.specs.Pcr.{is_in_mask, pcrs_of_mask}
 use Rattle.tpol_elements.proofs.Limits.{Is32, digest-fits, localities-fits, mask-fits, unsigned-fits}
 use Rattle.tpol_json.proofs.Limits.{FitsDigest}
 use Rattle.tpol_tree.specs.Bounds.{LocalityHasBounds}
@@ -31,7 +34,7 @@ use Rattle.tpol_tree.specs.declared.wishes.PcrWish.{PcrWish}
 use Rattle.tpol_tree.specs.declared.wishes.PcrWish.TheVariants.{Values, Current}
 use Rattle.tpol_write.specs.Elements.{typed}
 use Rattle.tpol_write.specs.Objects.{natural, list_of}
-use Rattle.tpol_write.specs.Wishes.{pcr_value, pcrs_below, pcrs_member}
+use Rattle.tpol_write.specs.Wishes.{pcr_value, pcrs_member}
 use Rattle.tpol_json.specs.Words.{find_word}
 
 -- ---- localities
@@ -179,48 +182,48 @@ abbrev AllPcrs : List ℕ → Type 0
 AllPcrs [] = Unit {0}
 AllPcrs (pcr ∷ pcrs) = (pcr ≤ 31) × AllPcrs pcrs
 
-bits_append : (mask : ℕ) (first second : List ℕ) → with_bits mask (first ++ second) ≡ with_bits (with_bits mask first) second
-bits_append mask [] second = refl
-bits_append mask (pcr ∷ pcrs) second = bits_append (bit_or mask (2 ^ pcr)) pcrs second
+one_fits : (test : Bool) (pcr : ℕ) (pcrs : List ℕ) → pcr ≤ 31 → AllPcrs pcrs → AllPcrs (cond test (pcr ∷ pcrs) pcrs)
+one_fits true pcr pcrs most all = (most, all)
+one_fits false pcr pcrs most all = all
 
-all_append : (first second : List ℕ) → AllPcrs first → AllPcrs second → AllPcrs (first ++ second)
-all_append [] second all others = others
-all_append (pcr ∷ pcrs) second all others = (all.0, all_append pcrs second all.1 others)
+-- the PCRs of a mask from `first` on, so many of them
+abbrev pcrs_from : ℕ → ℕ → ℕ → List ℕ
+pcrs_from mask first count = filter (is_in_mask mask) (range_with_len first count)
 
-at_most_one : (test : Bool) (pcr : ℕ) → pcr ≤ 31 → AllPcrs (if test then pcr ∷ [] else [])
-at_most_one true pcr most = (most, tt)
-at_most_one false pcr most = tt {0}
+pcrs_from-fits : (mask first count : ℕ) → first + count ≤ 32 → AllPcrs (pcrs_from mask first count)
+pcrs_from-fits mask first zero most = tt {0}
+pcrs_from-fits mask first (suc count) most =
+    one_fits (is_in_mask mask first) first (pcrs_from mask (first + 1) count) (omega arith) (pcrs_from-fits mask (first + 1) count (omega arith))
 
-pcrs_below-fits : (count mask : ℕ) → count ≤ 32 → AllPcrs (pcrs_below count mask)
-unfolding pcrs_below
-pcrs_below-fits zero mask most = tt {0}
-pcrs_below-fits (suc count) mask most =
-    all_append (pcrs_below count mask) (if bit_at mask count == 1 then count ∷ [] else []) (pcrs_below-fits count mask (omega arith)) (at_most_one (bit_at mask count == 1) count (omega arith))
-
--- one more bit above all others
-last_bit : (mask place bit : ℕ) → mask < 2 ^ place → bit < 2 → with_bits mask (if bit == 1 then place ∷ [] else []) ≡ bit * 2 ^ place + mask
-last_bit mask place zero small least = omega arith
-last_bit mask place (suc zero) small least =
-    let none : bit_at mask place ≡ 0 = bit_at_above mask place place small (omega arith) in
-    let apart : bit_and mask (2 ^ place) ≡ 0 = and_pow mask place ∙ ap (λ b. b * 2 ^ place) none ∙ omega arith in
-    or_disjoint mask (2 ^ place) apart ∙ omega arith
-last_bit mask place (suc (suc bit)) small least = absurd (omega arith)
-
-low_bits : (mask count : ℕ) → mask % 2 ^ suc count ≡ bit_at mask count * 2 ^ count + mask % 2 ^ count
+low_bits : (mask count : ℕ) → mask % 2 ^ (count + 1) ≡ bit_at mask count * 2 ^ count + mask % 2 ^ count
 low_bits mask count =
-    let more : suc count ≡ 1 + count = omega arith in
+    let more : count + 1 ≡ 1 + count = omega arith in
     ap (λ n. mask % 2 ^ n) more ∙ mod-pow-add mask 1 count
 
--- the PCRs below a number give that many bits of the mask
-bits_below : (count mask : ℕ) → with_bits 0 (pcrs_below count mask) ≡ mask % 2 ^ count
-unfolding pcrs_below
-bits_below zero mask = omega arith
-bits_below (suc count) mask =
-    let last = if bit_at mask count == 1 then count ∷ [] else [] in
-    bits_append 0 (pcrs_below count mask) last
-    ∙ ap (λ m. with_bits m last) (bits_below count mask)
-    ∙ last_bit (mask % 2 ^ count) count (bit_at mask count) (mod_below mask (2 ^ count) (pow_pos count)) (bit_at-lt mask count)
-    ∙ sym (low_bits mask count)
+-- one more bit above all others
+put_bit : (mask place bit : ℕ) (rest : List ℕ) → mask < 2 ^ place → bit < 2 → with_bits mask (cond (bit == 1) (place ∷ rest) rest) ≡ with_bits (bit * 2 ^ place + mask) rest
+put_bit mask place zero rest small least =
+    let same : mask ≡ 0 * 2 ^ place + mask = omega arith in
+    ap (λ m. with_bits m rest) same
+put_bit mask place (suc zero) rest small least =
+    let none : bit_at mask place ≡ 0 = bit_at_above mask place place small (omega arith) in
+    let apart : bit_and mask (2 ^ place) ≡ 0 = and_pow mask place ∙ ap (λ b. b * 2 ^ place) none ∙ omega arith in
+    let more : bit_or mask (2 ^ place) ≡ 1 * 2 ^ place + mask = or_disjoint mask (2 ^ place) apart ∙ omega arith in
+    ap (λ m. with_bits m rest) more
+put_bit mask place (suc (suc bit)) rest small least = absurd (omega arith)
+
+-- the PCRs from one on put their bits above the lower ones
+bits_from : (mask first count : ℕ) → with_bits (mask % 2 ^ first) (pcrs_from mask first count) ≡ mask % 2 ^ (first + count)
+bits_from mask first zero =
+    let same : first ≡ first + 0 = omega arith in
+    ap (λ n. mask % 2 ^ n) same
+bits_from mask first (suc count) =
+    let rest = pcrs_from mask (first + 1) count in
+    let more : first + 1 + count ≡ first + suc count = omega arith in
+    put_bit (mask % 2 ^ first) first (bit_at mask first) rest (mod_below mask (2 ^ first) (pow_pos first)) (bit_at-lt mask first)
+    ∙ ap (λ m. with_bits m rest) (sym (low_bits mask first))
+    ∙ bits_from mask (first + 1) count
+    ∙ ap (λ n. mask % 2 ^ n) more
 
 pcr_bit-back : (pcr : ℕ) (place : Place) → pcr ≤ 31 → pcr_bit (natural pcr) place ≡ Ok (2 ^ pcr)
 pcr_bit-back pcr place most =
@@ -233,10 +236,24 @@ mask_from-back mask index (pcr ∷ pcrs) place all =
     bound (pcr_bit (natural pcr) (at_item place index)) (2 ^ pcr) (λ bit. mask_from (bit_or mask bit) (suc index) (items_of (map natural pcrs)) place) (Ok (with_bits mask (pcr ∷ pcrs))) (pcr_bit-back pcr (at_item place index) all.0)
     (mask_from-back (bit_or mask (2 ^ pcr)) (suc index) pcrs place all.1)
 
-mask-back : (mask : ℕ) (place : Place) → Is32 mask → mask_in (list_of (map natural (pcrs_below 32 mask))) place ≡ Ok mask
+-- as many PCRs of a mask read back as that many of its bits
+pcrs_from-back : (mask count : ℕ) (place : Place) → count ≤ 32 → mask_in (list_of (map natural (pcrs_from mask 0 count))) place ≡ Ok (mask % 2 ^ count)
+pcrs_from-back mask count place most =
+    let none : 0 ≡ mask % 2 ^ 0 = omega arith in
+    let all : 0 + count ≡ count = omega arith in
+    let fits : 0 + count ≤ 32 = omega arith in
+    mask_from-back 0 0 (pcrs_from mask 0 count) place (pcrs_from-fits mask 0 count fits)
+    ∙ ap Ok (ap (λ m. with_bits m (pcrs_from mask 0 count)) none ∙ bits_from mask 0 count ∙ ap (λ n. mask % 2 ^ n) all)
+
+pcrs_of_mask-is : (mask : ℕ) → pcrs_of_mask mask ≡ pcrs_from mask 0 32
+unfolding pcrs_of_mask
+pcrs_of_mask-is mask = refl
+
+mask-back : (mask : ℕ) (place : Place) → Is32 mask → mask_in (list_of (map natural (pcrs_of_mask mask))) place ≡ Ok mask
 mask-back mask place is =
-    let whole : mask % 2 ^ 32 ≡ mask = mod-eq_of_lt is in
-    mask_from-back 0 0 (pcrs_below 32 mask) place (pcrs_below-fits 32 mask (omega arith)) ∙ ap Ok (bits_below 32 mask ∙ whole)
+    ap (λ pcrs. mask_in (list_of (map natural pcrs)) place) (pcrs_of_mask-is mask)
+    ∙ pcrs_from-back mask 32 place (omega arith)
+    ∙ ap Ok (mod-eq_of_lt is)
 
 -- ---- PCRs
 

@@ -1,10 +1,10 @@
 -- How canonical text writes keys, indices, entities, parents, Names and PCRs.
-use Rattle.std.specs.Prelude.{ℕ, zero, suc, ◌==◌, if◌then◌else◌, List, [], ◌∷◌, ◌++◌, codes, map, Option, Some, None, Bool, true, false}
-use Rattle.std.specs.Int.{bit_at}
+use Rattle.std.specs.Prelude.{ℕ, List, [], ◌∷◌, codes, map, Option, Some, None, Bool, true, false}
 use Rattle.serde_json.specs.Data.{Data, string}
 use Rattle.tpol_base.specs.declared.digest.Digest32.{Digest32}
 use Rattle.tpol_base.specs.declared.name.Name.{Name}
 use Rattle.tpol_base.specs.Name.{name_bytes}
+use Rattle.tpol_base.specs.Pcr.{pcrs_of_mask}
 use Rattle.tpol_tree.specs.declared.wishes.ObjectPublicText.{ObjectPublicText}
 use Rattle.tpol_tree.specs.declared.wishes.NvPublicText.{NvPublicText}
 use Rattle.tpol_tree.specs.declared.wishes.KeyWish.{KeyWish}
@@ -70,14 +70,9 @@ pcr_value value = object_of (
     (codes "pcr", natural value.0) ∷ (codes "hashAlg", string (codes "SHA256"))
     ∷ (codes "digest", hex_text value.1.bytes) ∷ [])
 
--- the PCRs below a number in a mask, bit n for PCR n, in rising order
-unfoldable pub pcrs_below : ℕ → ℕ → List ℕ
-pcrs_below zero mask = []
-pcrs_below (suc n) mask = pcrs_below n mask ++ (if bit_at mask n == 1 then n ∷ [] else [])
-
 abbrev pub pcrs_member : PcrWish → Entry
 pcrs_member (Values values) = (codes "pcrs", list_of (map pcr_value values))
-pcrs_member (Current mask) = (codes "currentPCRs", list_of (map natural (pcrs_below 32 mask)))
+pcrs_member (Current mask) = (codes "currentPCRs", list_of (map natural (pcrs_of_mask mask)))
 
 -- `cpHashA` is written where it is there
 abbrev pub cp_hash_members : Option Digest32 → List Entry

@@ -4,11 +4,12 @@ ghost use Rattle.std.specs.Prelude.{◌≡◌, IfOk, OnOk, map};
 ghost use Rattle.serde_json.specs.Data.{string, put as with_member};
 ghost use Rattle.serde_json.specs.View.{view, members_view};
 ghost use Rattle.tpol_write.specs.Objects.{list_of, natural};
-ghost use Rattle.tpol_write.specs.Wishes.{name_value, names_member, pcr_value, pcrs_below, pcrs_member};
+ghost use Rattle.tpol_write.specs.Wishes.{name_value, names_member, pcr_value, pcrs_member};
 
 use crate::object::{Object, put_hex, put_number, put_text};
 use serde_json::Value;
 use std::alloc::Global;
+use tpol_base::pcr::pcrs_of_mask;
 use tpol_base::{Digest32, Name, NoMemory, Text};
 use tpol_tree::{NamesWish, PcrWish};
 
@@ -41,7 +42,8 @@ pub fn put_pcrs(object: &mut Object, alloc: Global, pcrs: &PcrWish) -> Result<()
             Ok(serde_json::put(object, alloc, "pcrs", list)?)
         }
         PcrWish::Current(mask) => {
-            let list = mask_list(alloc, *mask)?;
+            let numbers = pcrs_of_mask(alloc, *mask)?;
+            let list = number_list(alloc, numbers.as_slice())?;
             Ok(serde_json::put(object, alloc, "currentPCRs", list)?)
         }
     }
@@ -88,16 +90,12 @@ fn pcr_value(alloc: Global, pcr: u8, digest: &Digest32) -> Result<Value, NoMemor
     Ok(Value::Object(object))
 }
 
-// The PCRs of a mask, bit n for PCR n, in rising order.
-#[tactic(auto, unfolding(crate::specs::Wishes::pcrs_below))]
-fn mask_list(alloc: Global, mask: u32) -> Result<Value, NoMemory>
-    ensures { IfOk result (λ value. view value ≡ list_of (map natural (pcrs_below 32 mask))) }
+fn number_list(alloc: Global, numbers: &[u8]) -> Result<Value, NoMemory>
+    ensures { IfOk result (λ value. view value ≡ list_of (map natural numbers.now)) }
 {
     let mut list = Vec::new(alloc);
-    for pcr in 0..32u32 {
-        if (mask >> pcr) % 2 == 1 {
-            list.push(Value::from(pcr))?;
-        }
+    for number in numbers {
+        list.push(Value::from(*number))?;
     }
     Ok(Value::Array(list))
 }
