@@ -1,6 +1,7 @@
 -- What becomes of the tables by a command, and the response to it.
-use Rattle.std.specs.Prelude.{◌≡◌, ℕ, List, [], Option, None, IfSome, option_map, if◌then◌else◌}
+use Rattle.std.specs.Prelude.{◌≡◌, ℕ, List, [], Option, Some, None, IfSome, option_map, if◌then◌else◌}
 use Rattle.tpol_digest.specs.Sound.{IsSound}
+use Rattle.tpol_tree.specs.declared.facts.Fact.{Fact}
 use Rattle.tpol_wire.specs.declared.command.Command.{Command}
 use Rattle.tpol_wire.specs.declared.command.Command.TheVariants as commands
 use Rattle.tpm_bindings.specs.Agreement.{Agree}
@@ -56,10 +57,15 @@ pub record IsResponse (before : TableState) (number : ℕ) (command : Command) (
   pub sound : IfSome done.opened (λ found. IsSound (moves_of found.facts))
   pub agree : IfSome done.opened (λ found. Agree (moves_of found.facts))
 
+-- the facts of the session that a command starts, if it starts one
+abbrev pub first_facts : Command → Option (List Fact)
+first_facts (commands.StartAuthSession tpm_key bind nonce) = Some []
+first_facts _ = None
+
 -- what is prepared for a command that may succeed
 pub record IsPrepared (tables : TableState) (number : ℕ) (command : Command) (prepared : Prepared) : Type 0 where
   pub reply : prepared.reply ≡ (succeeding tables number command).reply
   pub kept : prepared.kept ≡ (succeeding tables number command).reply
   pub outcome : prepared.outcome ≡ success_of command
   pub closing : prepared.closing ≡ closing_of command
-  pub facts : prepared.facts ≡ []
+  pub facts : prepared.facts ≡ first_facts command

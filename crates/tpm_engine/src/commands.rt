@@ -1,11 +1,11 @@
 //! The own rules of commands, their replies, and how they are carried out.
 
-ghost use Rattle.std.specs.Prelude.{◌≡◌, None, [], IfOk, OnErr, OnOk};
+ghost use Rattle.std.specs.Prelude.{◌≡◌, None, IfOk, OnErr, OnOk};
 ghost use Rattle.tpol_wire.specs.Commands.{FitsCommand};
 ghost use Rattle.tpm_rules.specs.Rule.{Obeys};
 ghost use Rattle.tpm_engine.specs.Answers.{own_rule, reply_to, succeeding};
 ghost use Rattle.tpm_engine.specs.Deeds.{after_deed, command_deed};
-ghost use Rattle.tpm_engine.specs.Responses.{checked_rule};
+ghost use Rattle.tpm_engine.specs.Responses.{checked_rule, first_facts};
 ghost use Rattle.tpm_engine.specs.Stops.{room_stop};
 
 use crate::Tables;
@@ -48,18 +48,18 @@ impl Tables {
     }
 
     // Carries out a command, or answers the code of the first of its own rules that is broken, and then changes
-    // nothing. It takes no memory; `facts` are empty, and are those of a session that starts.
+    // nothing. It takes no memory; `facts` are the empty ones of the session that the command starts, if it starts one.
     pub(crate) fn carry_out(
         &mut self,
         alloc: Global,
         number: u32,
         command: Command,
-        facts: Facts,
+        facts: Option<Facts>,
     ) -> Result<(), Rc>
         requires fits { FitsCommand command }
         requires checked { checked_rule self.old command ≡ None }
         requires room { room_stop self.old command ≡ None }
-        requires empty { facts ≡ [] }
+        requires empty { facts ≡ first_facts command }
         ensures rule { Obeys result (own_rule self.old command) }
         ensures tables { OnOk result (self.new ≡ after_deed number (command_deed command (succeeding self.old number command).reply) self.old) }
         ensures err { OnErr result (self.new ≡ self.old) }

@@ -6,7 +6,7 @@ use tpol_tree::Facts;
 
 /// All that takes memory in the response to a command: the bytes of the reply where it succeeds, twice, room
 /// for those of a refusal, twice, what becomes of it where it succeeds, the use of a policy session to be
-/// closed, and the empty facts of a session that starts.
+/// closed, and the empty facts of the session that the command starts, if it starts one.
 #[derive(Drop)]
 pub struct Prepared {
     pub reply: Blob,
@@ -15,5 +15,5 @@ pub struct Prepared {
     pub kept_refusal: Refusal,
     pub outcome: Outcome,
     pub closing: Option<Closing>,
-    pub facts: Facts,
+    pub facts: Option<Facts>,
 }

@@ -10,7 +10,7 @@ ghost use Rattle.tpm_engine.specs.Answers as spec;
 ghost use Rattle.tpm_engine.specs.Authorization.{reply_auth};
 ghost use Rattle.tpm_engine.specs.Deeds.{after_event};
 ghost use Rattle.tpm_engine.specs.Events.{event_of};
-ghost use Rattle.tpm_engine.specs.Responses.{IsPrepared, IsResponse, checked_rule, own_answer, own_opened};
+ghost use Rattle.tpm_engine.specs.Responses.{IsPrepared, IsResponse, checked_rule, first_facts, own_answer, own_opened};
 ghost use Rattle.tpm_engine.specs.Stops.{room_stop, session_stop};
 
 use crate::closing::closing_of;
@@ -23,6 +23,7 @@ use tpm_rules::Outcome;
 use tpm_session::fresh_facts;
 use tpm_world::area_of;
 use tpol_base::{Blob, NoMemory, Rc};
+use tpol_tree::Facts;
 use tpol_wire::{Command, Reply, WireFault, read_command, write_reply};
 
 impl Tables {
@@ -132,7 +133,7 @@ impl Tables {
             kept_refusal: Refusal::new(alloc)?,
             outcome: success_of(command),
             closing: closing_of(alloc, command)?,
-            facts: fresh_facts(alloc)?,
+            facts: first_facts(alloc, command)?,
         })
     }
 
@@ -188,6 +189,16 @@ impl Tables {
         let reply = self.reply_to(alloc, number, command)?;
         let auth = self.reply_auth(alloc, number, command, &reply)?;
         write_reply(alloc, &reply, auth.as_ref())
+    }
+}
+
+// The empty facts of the session that a command starts, if it starts one: room for all that it may ever have.
+fn first_facts(alloc: Global, command: &Command) -> Result<Option<Facts>, NoMemory>
+    ensures { IfOk result (λ facts. facts ≡ first_facts command.now) }
+{
+    match command {
+        Command::StartAuthSession { .. } => Ok(Some(fresh_facts(alloc)?)),
+        _ => Ok(None),
     }
 }
 

@@ -1,10 +1,11 @@
 //! The commands on sessions themselves, a file a command with what it asks, what it answers, and what it does.
 
-ghost use Rattle.std.specs.Prelude.{◌≡◌, None, [], true, OnErr, OnOk};
+ghost use Rattle.std.specs.Prelude.{◌≡◌, None, true, OnErr, OnOk};
 ghost use Rattle.tpol_wire.specs.Replies.{spell_reply};
 ghost use Rattle.tpm_rules.specs.Rule as rules;
 ghost use Rattle.tpm_rules.specs.Rule.{Obeys};
 ghost use Rattle.tpm_engine.specs.Deeds.{after_deed, plain_deed};
+ghost use Rattle.tpm_engine.specs.Responses.{first_facts};
 ghost use Rattle.tpm_engine.specs.SessionCommands as spec;
 
 mod context_load;
@@ -62,16 +63,19 @@ impl Tables {
         &mut self,
         number: u32,
         command: &Command,
-        facts: Facts,
+        facts: Option<Facts>,
     ) -> Result<(), Rc>
         requires session { spec.is_session_command command.now ≡ true }
-        requires empty { facts ≡ [] }
+        requires empty { facts ≡ first_facts command.now }
         ensures rule { Obeys result (spec.session_rule self.old command.now) }
         ensures tables { OnOk result (self.new ≡ after_deed number (plain_deed command.now (spell_reply (spec.session_reply self.old number command.now) None)) self.old) }
         ensures err { OnErr result (self.new ≡ self.old) }
     {
         match command {
-            Command::StartAuthSession { .. } => self.start_auth_session(number, facts),
+            Command::StartAuthSession { .. } => match facts {
+                Some(facts) => self.start_auth_session(number, facts),
+                None => unreachable!(),
+            },
             Command::FlushContext { session } => self.flush_context(*session),
             Command::ContextSave { session } => self.context_save(number, *session),
             Command::ContextLoad {
