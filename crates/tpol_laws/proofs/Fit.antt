@@ -1,5 +1,5 @@
 -- The commands of a run's moves are within the bounds of the wire.
-use Rattle.std.proofs.Common.{◌≡◌, ◌≤◌, ◌<◌, ◌⊎◌, inl, inr, ℕ, ◌+◌, ◌/◌, ◌^◌, ◌||◌, Bool, true, false, List, [], length, nat_eq, refl, ap, sym, subst, ◌∙◌, arith}
+use Rattle.std.proofs.Common.{◌≡◌, ◌≤◌, ◌<◌, ◌⊎◌, inl, inr, ℕ, ◌+◌, ◌/◌, ◌^◌, ◌||◌, ◌==◌, Bool, true, false, List, [], length, nat_eq, refl, ap, sym, subst, ◌∙◌, arith}
 use Rattle.std.specs.Prelude.{ℤ, Option, Some, None, All, IsTrue, find, option_map, unwrap_or, if◌then◌else◌, FitsSigned}
 use Rattle.std.specs.Int.{w32}
 use Rattle.std.specs.List.{AllByRecursion}
@@ -21,24 +21,28 @@ use Rattle.tpol_driver.specs.Commands.{password_area, start_command}
 use Rattle.tpol_tree.specs.Bounds.{NameHasBounds}
 use Rattle.tpol_wire.specs.declared.auth_area.AuthArea.{AuthArea}
 use Rattle.tpol_wire.specs.declared.command.Command.TheVariants as commands
-use Rattle.tpol_wire.specs.declared.handle_type.HandleType.{HandleType}
-use Rattle.tpol_wire.specs.declared.handle_type.HandleType.TheVariants as types
 use Rattle.tpol_wire.specs.declared.ticket.Ticket.{Ticket}
 use Rattle.tpol_wire.specs.Authorizations.{AreaFits}
 use Rattle.tpol_wire.specs.Commands.{FitsCommand, ValuesFit}
-use Rattle.tpol_wire.specs.HandleTypes.{is_of_type}
 use Rattle.tpol_wire.specs.Kinds.{Fits, NameFits, TicketFits}
 use Rattle.tpm_session.specs.Slots.{IsSlotHandle, first_handle, slot_count}
 use Rattle.tpol_laws.proofs.Finds.{find-each}
 use Rattle.tpol_laws.proofs.Named.{FoundEntity, FoundIndex, FoundObject}
 use Rattle.tpol_name.specs.declared.setup.Setup.{Setup}
 
--- a handle of this type, on the wire
-pub record IsHandle (named : HandleType) (handle : ℕ) : Type 0 where
+-- a handle that passes the test of its place on the wire
+pub record IsHandle (test : ℕ → Bool) (handle : ℕ) : Type 0 where
   pub low : handle < 2 ^ 32
-  pub kind : is_of_type named handle ≡ true
+  pub kind : test handle ≡ true
 
-pub session-handle : (handle : ℕ) → IsSlotHandle handle → IsHandle types.PolicySession handle
+-- the tests of what authorizes the reading of an index, and of the entity of PolicySecret
+abbrev pub is_authority : ℕ → Bool
+is_authority handle = handle == rh_owner || is_index handle
+
+abbrev pub is_entity : ℕ → Bool
+is_entity handle = handle == rh_owner || handle == rh_lockout || handle == rh_endorsement || is_object handle || is_index handle
+
+pub session-handle : (handle : ℕ) → IsSlotHandle handle → IsHandle is_policy_session handle
 session-handle handle slot =
     let first : 0x03000000 ≤ handle = slot.0 in
     let last : handle < 0x03000000 + 64 = slot.1 in
@@ -50,20 +54,20 @@ index-kind handle low high = grind (arith, nat_tests, low, high)
 object-kind : (handle : ℕ) → 0x80000000 ≤ handle → handle ≤ 0x80ffffff → is_object handle ≡ true
 object-kind handle low high = grind (arith, nat_tests, low, high)
 
-pub index-handle : (setup : Setup) (name : Name) (handle : ℕ) → FoundIndex setup name handle → IsHandle types.Index handle
+pub index-handle : (setup : Setup) (name : Name) (handle : ℕ) → FoundIndex setup name handle → IsHandle is_index handle
 index-handle setup name handle found = record { low = omega (arith, found.high); kind = index-kind handle found.low found.high }
 
-pub object-handle : (setup : Setup) (name : Name) (handle : ℕ) → FoundObject setup name handle → IsHandle types.Object handle
+pub object-handle : (setup : Setup) (name : Name) (handle : ℕ) → FoundObject setup name handle → IsHandle is_object handle
 object-handle setup name handle found = record { low = omega (arith, found.high); kind = object-kind handle found.low found.high }
 
 -- what authorizes the reading of an index
-pub authority-handle : (setup : Setup) (name : Name) (handle attributes : ℕ) (grants : Grants) → FoundIndex setup name handle → IsHandle types.Authority (authority grants handle attributes)
+pub authority-handle : (setup : Setup) (name : Name) (handle attributes : ℕ) (grants : Grants) → FoundIndex setup name handle → IsHandle is_authority (authority grants handle attributes)
 authority-handle setup name handle attributes grants found = at _
   where
     own : (nat_eq handle rh_owner || is_index handle) ≡ true
     own = grind (arith, nat_tests, index-kind handle found.low found.high)
 
-    at : (b : Bool) → IsHandle types.Authority (if b then handle else rh_owner)
+    at : (b : Bool) → IsHandle is_authority (if b then handle else rh_owner)
     at true = record { low = omega (arith, found.high); kind = own }
     at false = record { low = omega arith; kind = refl }
 
@@ -90,7 +94,7 @@ index-test false false false false index h = h
 hierarchy-low : (handle : ℕ) → is_hierarchy handle ≡ true → handle < 2 ^ 32
 hierarchy-low handle h = grind (arith, nat_tests, h)
 
-pub entity-handle : (setup : Setup) (name : Name) (handle : ℕ) → FoundEntity setup name handle → IsHandle types.Entity handle
+pub entity-handle : (setup : Setup) (name : Name) (handle : ℕ) → FoundEntity setup name handle → IsHandle is_entity handle
 entity-handle setup name handle (inl hierarchy) = record {
   low = hierarchy-low handle hierarchy.is;
   kind = entity-test (nat_eq handle rh_owner) (nat_eq handle rh_lockout) (nat_eq handle rh_endorsement) (is_object handle) (is_index handle) hierarchy.is;
@@ -136,7 +140,7 @@ pub fits-start : (seed : Digest32) → FitsCommand (start_command seed)
 unfolding ValuesFit Fits
 fits-start seed = record { handles = ((omega arith, refl), ((omega arith, refl), tt)); area = tt; parameters = (tt, (tt, (tt, (tt, (tt, tt))))) }
 
-module _ (session : ℕ) (own : IsHandle types.PolicySession session) where
+module _ (session : ℕ) (own : IsHandle is_policy_session session) where
   pub fits-auth_value : FitsCommand (commands.PolicyAuthValue session)
   unfolding ValuesFit Fits
   fits-auth_value = record { handles = ((own.low, own.kind), tt); area = tt; parameters = tt }
@@ -192,29 +196,29 @@ module _ (session : ℕ) (own : IsHandle types.PolicySession session) where
   fits-authorize approved policy_ref key ticket short name fits =
       record { handles = ((own.low, own.kind), tt); area = tt; parameters = (tt, (short, (name-fits key name, (fits, tt)))) }
 
-  pub fits-signed : (key : ℕ) (nonce : Digest32) (cp_hash : Option Digest32) (policy_ref : List ℕ) (expiration : ℤ) (signature : Digest32) → IsHandle types.Object key → length policy_ref ≤ 64 → FitsSigned w32 expiration
+  pub fits-signed : (key : ℕ) (nonce : Digest32) (cp_hash : Option Digest32) (policy_ref : List ℕ) (expiration : ℤ) (signature : Digest32) → IsHandle is_object key → length policy_ref ≤ 64 → FitsSigned w32 expiration
       → FitsCommand (commands.PolicySigned key session nonce.bytes cp_hash policy_ref expiration signature)
   unfolding ValuesFit Fits
   fits-signed key nonce cp_hash policy_ref expiration signature handle short signed =
       record { handles = ((handle.low, handle.kind), ((own.low, own.kind), tt)); area = tt; parameters = (nonce-short nonce, (tt, (short, (signed, (tt, tt))))) }
 
-  pub fits-secret : (entity : ℕ) (auth : AuthArea) (nonce : Digest32) (cp_hash : Option Digest32) (policy_ref : List ℕ) (expiration : ℤ) → IsHandle types.Entity entity → AreaFits auth → length policy_ref ≤ 64 → FitsSigned w32 expiration
+  pub fits-secret : (entity : ℕ) (auth : AuthArea) (nonce : Digest32) (cp_hash : Option Digest32) (policy_ref : List ℕ) (expiration : ℤ) → IsHandle is_entity entity → AreaFits auth → length policy_ref ≤ 64 → FitsSigned w32 expiration
       → FitsCommand (commands.PolicySecret entity session auth nonce.bytes cp_hash policy_ref expiration)
   unfolding ValuesFit Fits
   fits-secret entity auth nonce cp_hash policy_ref expiration handle area short signed =
       record { handles = ((handle.low, handle.kind), ((own.low, own.kind), tt)); area = area; parameters = (nonce-short nonce, (tt, (short, (signed, tt)))) }
 
-  pub fits-nv : (authority index : ℕ) (auth : AuthArea) (operand : List ℕ) (offset : ℕ) (operation : Compare) → IsHandle types.Authority authority → IsHandle types.Index index → AreaFits auth → length operand ≤ 64 → offset < 2 ^ 16
+  pub fits-nv : (authority index : ℕ) (auth : AuthArea) (operand : List ℕ) (offset : ℕ) (operation : Compare) → IsHandle is_authority authority → IsHandle is_index index → AreaFits auth → length operand ≤ 64 → offset < 2 ^ 16
       → FitsCommand (commands.PolicyNv authority index session auth operand offset operation)
   unfolding ValuesFit Fits
   fits-nv authority index auth operand offset operation first second area short few =
       record { handles = ((first.low, first.kind), ((second.low, second.kind), ((own.low, own.kind), tt))); area = area; parameters = (short, ((few, refl), (tt, tt))) }
 
-  pub fits-authorize_nv : (authority index : ℕ) (auth : AuthArea) → IsHandle types.Authority authority → IsHandle types.Index index → AreaFits auth → FitsCommand (commands.PolicyAuthorizeNv authority index session auth)
+  pub fits-authorize_nv : (authority index : ℕ) (auth : AuthArea) → IsHandle is_authority authority → IsHandle is_index index → AreaFits auth → FitsCommand (commands.PolicyAuthorizeNv authority index session auth)
   unfolding ValuesFit Fits
   fits-authorize_nv authority index auth first second area =
       record { handles = ((first.low, first.kind), ((second.low, second.kind), ((own.low, own.kind), tt))); area = area; parameters = tt }
 
-pub fits-verify : (key : ℕ) (digest signature : Digest32) → IsHandle types.Object key → FitsCommand (commands.VerifySignature key digest signature)
+pub fits-verify : (key : ℕ) (digest signature : Digest32) → IsHandle is_object key → FitsCommand (commands.VerifySignature key digest signature)
 unfolding ValuesFit Fits
 fits-verify key digest signature handle = record { handles = ((handle.low, handle.kind), tt); area = tt; parameters = (tt, (tt, tt)) }

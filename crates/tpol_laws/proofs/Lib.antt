@@ -1,1 +1,9 @@
+mod After
+mod Answered
+mod Calm
+mod Codes
 mod Finds
+mod Fit
+mod Named
+mod Own
+mod Starts
