@@ -56,20 +56,20 @@ deed-held (Saves own) session held h = refl
 deed-held (Loads own) session held h = refl
 deed-held (Shows own fact) session held h = refl
 
-use-facts : (use : Option SessionUse) (session : ℕ) (facts : List Fact) → touches_by_use use session ≡ false → facts_used use session facts ≡ facts
+use-facts : (served : Option SessionUse) (session : ℕ) (facts : List Fact) → touches_by_use served session ≡ false → facts_used served session facts ≡ facts
 use-facts None session facts h = refl
 use-facts (Some served) session facts h = ap (λ b. if b then [] else facts) h
 
-use-held : (use : Option SessionUse) (session : ℕ) (held : Bool) → touches_by_use use session ≡ false → held_used use session held ≡ held
+use-held : (served : Option SessionUse) (session : ℕ) (held : Bool) → touches_by_use served session ≡ false → held_used served session held ≡ held
 use-held None session held h = refl
 use-held (Some served) session held h = rw h refl
 
 pub stays : (setup : Setup) (past : List Event) (event : Event) (session : ℕ) → touches (deed_of event) session ≡ false → touches_by_use (use_of event) session ≡ false
     → Stays setup past event session
 unfolding is_held facts_of
-stays setup past event session deed use = record {
-  held = use-held (use_of event) session (held_after (deed_of event) session (is_held past session)) use ∙ deed-held (deed_of event) session (is_held past session) deed;
-  facts = use-facts (use_of event) session (facts_after (deed_of event) session (moment_of setup past session) (facts_of setup past session)) use
+stays setup past event session deed uses = record {
+  held = use-held (use_of event) session (held_after (deed_of event) session (is_held past session)) uses ∙ deed-held (deed_of event) session (is_held past session) deed;
+  facts = use-facts (use_of event) session (facts_after (deed_of event) session (moment_of setup past session) (facts_of setup past session)) uses
       ∙ deed-facts (deed_of event) session (moment_of setup past session) (facts_of setup past session) deed;
 }
 
@@ -84,13 +84,13 @@ pub record HasStarted (setup : Setup) (past : List Event) (event : Event) (sessi
 
 pub has-started : (setup : Setup) (past : List Event) (event : Event) (session : ℕ) → deed_of event ≡ Starts session → use_of event ≡ None → HasStarted setup past event session
 unfolding is_held facts_of
-has-started setup past event session deed use = record {
+has-started setup past event session deed uses = record {
   held =
-      ap (λ u. held_used u session (held_after (deed_of event) session (is_held past session))) use
+      ap (λ u. held_used u session (held_after (deed_of event) session (is_held past session))) uses
       ∙ ap (λ d. held_after d session (is_held past session)) deed
       ∙ ap (λ b. if b then true else is_held past session) (same-number session);
   facts =
-      ap (λ u. facts_used u session (facts_after (deed_of event) session (moment_of setup past session) (facts_of setup past session))) use
+      ap (λ u. facts_used u session (facts_after (deed_of event) session (moment_of setup past session) (facts_of setup past session))) uses
       ∙ ap (λ d. facts_after d session (moment_of setup past session) (facts_of setup past session)) deed
       ∙ ap (λ b. if b then [] else facts_of setup past session) (same-number session);
 }
@@ -102,12 +102,12 @@ pub record HasShown (setup : Setup) (past : List Event) (event : Event) (session
 pub has-shown : (setup : Setup) (past : List Event) (event : Event) (session : ℕ) (fact : Moment → Fact) → deed_of event ≡ Shows session fact → use_of event ≡ None
     → HasShown setup past event session fact
 unfolding is_held facts_of
-has-shown setup past event session fact deed use = record {
+has-shown setup past event session fact deed uses = record {
   held =
-      ap (λ u. held_used u session (held_after (deed_of event) session (is_held past session))) use
+      ap (λ u. held_used u session (held_after (deed_of event) session (is_held past session))) uses
       ∙ ap (λ d. held_after d session (is_held past session)) deed;
   facts =
-      ap (λ u. facts_used u session (facts_after (deed_of event) session (moment_of setup past session) (facts_of setup past session))) use
+      ap (λ u. facts_used u session (facts_after (deed_of event) session (moment_of setup past session) (facts_of setup past session))) uses
       ∙ ap (λ d. facts_after d session (moment_of setup past session) (facts_of setup past session)) deed
       ∙ ap (λ b. if b then facts_of setup past session ++ fact (moment_of setup past session) ∷ [] else facts_of setup past session) (same-number session);
 }

@@ -83,15 +83,15 @@ stop-code first stop coded is = subst Coded is coded
 -- a command that is stopped did nothing
 pub record DidNothing (event : Event) : Type 0 where
   pub deed : deed_of event ≡ Idle
-  pub use : use_of event ≡ None
+  pub uses : use_of event ≡ None
 
 unserved : (b : Bool) → b ≡ false → (deed : Deed) → (if b then deed else Idle) ≡ Idle
 unserved true h deed = absurd cc
 unserved false h deed = refl
 
-unused : (b : Bool) → b ≡ false → (use : Option SessionUse) → (if b then use else None) ≡ None
-unused true h use = absurd cc
-unused false h use = refl
+unused : (b : Bool) → b ≡ false → (served : Option SessionUse) → (if b then served else None) ≡ None
+unused true h served = absurd cc
+unused false h served = refl
 
 not-served : (stop : Stop) → is_success stop.outcome ≡ false → is_served stop.outcome ≡ false
 not-served stop fails = served stop.outcome fails
@@ -105,7 +105,7 @@ not-served stop fails = served stop.outcome fails
 pub stopped-idle : (client locality : ℕ) (buffer : List ℕ) (stop : Stop) → is_success stop.outcome ≡ false → DidNothing (event_of client locality buffer (stopped stop))
 stopped-idle client locality buffer stop fails = record {
   deed = unserved (is_success stop.outcome) fails (deed_in (reading buffer) (stopped stop).reply);
-  use = unused (is_served stop.outcome) (not-served stop fails) (use_in (reading buffer));
+  uses = unused (is_served stop.outcome) (not-served stop fails) (use_in (reading buffer));
 }
 
 pub stop-fails : (tables : TableState) (locality : ℕ) (command : Command) (stop : Stop) → first_stop tables locality command ≡ Some stop → is_success stop.outcome ≡ false

@@ -136,7 +136,7 @@ fresh setup past locality session command held first = tt
 
 idle-stays : (setup : Setup) (past : List Event) (event : Event) (session : ℕ) → DidNothing event → Stays setup past event session
 idle-stays setup past event session did =
-    stays setup past event session (ap (λ d. touches d session) did.deed) (ap (λ u. touches_by_use u session) did.use)
+    stays setup past event session (ap (λ d. touches d session) did.deed) (ap (λ u. touches_by_use u session) did.uses)
 
 command-stays : (setup : Setup) (past : List Event) (client locality : ℕ) (buffer : List ℕ) (session : ℕ) (command : Command) → reading buffer ≡ Ok command → is_held past session ≡ true → names command session ≡ false
     → first_stop (view_of setup past) locality command ≡ None

@@ -1,5 +1,5 @@
 -- The codes of stops: none of them is success, and each fits into a reply.
-use Rattle.std.proofs.Common.{◌≡◌, ◌≢◌, ℕ, ◌+◌, ◌^◌, ◌<◌, ◌≤◌, ◌&&◌, not, Bool, true, false, List, [], ◌∷◌, length, Option, None, Some, IfSome, nat_eq, nat_lt, if◌then◌else◌, refl, ap, sym, ◌∙◌, arith}
+use Rattle.std.proofs.Common.{◌≡◌, ◌≢◌, ℕ, ◌+◌, ◌^◌, ◌<◌, ◌≤◌, ◌&&◌, not, Bool, true, false, List, [], ◌∷◌, length, Option, None, Some, IfSome, is_some, nat_eq, nat_lt, if◌then◌else◌, refl, ap, sym, ◌∙◌, arith}
 use Rattle.std.specs.Prelude.{ℤ, nat_le}
 use Rattle.std.specs.Option.{option_and_then, option_map, option_map_or}
 use Rattle.std.proofs.lemmas.Bool.Decides.{nat_tests}
@@ -11,6 +11,7 @@ use Rattle.tpol_base.specs.declared.handle.HandleKind.TheVariants as kinds
 use Rattle.tpol_base.specs.declared.name.Name.{Name}
 use Rattle.tpol_base.specs.Handle.{is_policy_session, kind_of_handle, rs_pw}
 use Rattle.tpol_base.specs.ResponseCode.{of_handle, of_parameter, of_session, rc_attributes, rc_auth_fail, rc_auth_type, rc_auth_unavailable, rc_bad_auth, rc_command_code, rc_cphash, rc_expired, rc_handle, rc_hash, rc_nonce, rc_nv_authorization, rc_nv_uninitialized, rc_pcr_changed, rc_policy, rc_range, rc_reference_h0, rc_reference_s0, rc_session_memory, rc_signature, rc_size, rc_ticket, rc_value, reference_of_handle}
+use Rattle.tpol_name.specs.Areas.{is_signing_key, is_written}
 use Rattle.tpol_name.specs.declared.entries.IndexEntry.{IndexEntry}
 use Rattle.tpol_name.specs.declared.entries.ObjectEntry.{ObjectEntry}
 use Rattle.tpol_name.specs.declared.areas.ObjectPublic.{ObjectPublic}
@@ -23,9 +24,29 @@ use Rattle.tpm_rules.specs.declared.outcome.Denial.{Denial}
 use Rattle.tpm_rules.specs.declared.outcome.Denial.TheVariants as denials
 use Rattle.tpm_rules.specs.Checks.{code_of_check}
 use Rattle.tpm_rules.specs.Entity.{Entity, is_da_protected, is_duplicate, is_policy_available}
-use Rattle.tpm_rules.specs.Objects.{verify_signature_rule}
+use Rattle.tpm_rules.specs.Objects.{signing_key_rule, verify_signature_rule}
 use Rattle.tpm_rules.specs.Password.{password_denial, unavailable_password_code, wrong_password_code}
+use Rattle.tpm_rules.specs.Deadline.{deadline_of, is_before, is_nonce_or_none}
+use Rattle.tpm_rules.specs.NvAuthority.{has_authority, nv_authority_rule}
+use Rattle.tpm_rules.specs.PolicyAuthorizeNv.{begins_with_sha256, has_digest_behind, policy_authorize_nv_rule}
+use Rattle.tpm_rules.specs.PolicyLocality.{is_locality_set, shares_locality}
+use Rattle.tpm_rules.specs.PolicyNv.{compares, policy_nv_rule}
+use Rattle.tpm_rules.specs.PolicyPcr.{is_digest_or_none}
 use Rattle.tpm_rules.specs.PolicySecret.{policy_secret_rule}
+use Rattle.tpm_rules.specs.PolicySigned.{policy_signed_rule}
+use Rattle.tpm_rules.specs.Session.{is_counter_now, policy_digest_of}
+use Rattle.tpm_rules.specs.Slot.{is_slot_set, takes_cp_hash, takes_name_hash, takes_optional_cp_hash}
+use Rattle.tpm_auth.specs.Signatures.{signature_of}
+use Rattle.tpm_bindings.specs.Facts.{every_code, every_written, same_digest, sets_code}
+use Rattle.tpm_pcr.specs.Clock.{clock_info}
+use Rattle.tpm_pcr.specs.Pcrs.{selection_digest}
+use Rattle.tpm_policy.specs.Judgments.{is_approval_ticket, is_auth_ticket, is_signature}
+use Rattle.tpm_world.specs.Hashes.{proof_of}
+use Rattle.tpol_base.specs.declared.command_code.CommandCode.TheVariants as codes
+use Rattle.tpol_base.specs.declared.compare.Compare.{Compare}
+use Rattle.tpol_base.specs.CommandCode.{number_of_code}
+use Rattle.tpol_base.specs.Digest.{is_same_digest}
+use Rattle.std.specs.List.{list_any}
 use Rattle.tpm_rules.specs.Rule.{or_else, unless}
 use Rattle.tpm_session.specs.Slots.{is_live, state_at}
 use Rattle.tpm_world.specs.Entities.{handle_rule, handle_rule_of_kind}
@@ -33,11 +54,11 @@ use Rattle.tpm_world.specs.Handles.{area_of, handles_of, policy_session_of}
 use Rattle.tpm_world.specs.Missing.{missing_index, missing_object}
 use Rattle.tpm_world.specs.Objects.{object_of}
 use Rattle.tpm_world.specs.VerifySignature as verify_signature
-use Rattle.tpm_world.specs.World.{WorldState}
+use Rattle.tpm_world.specs.World.{WorldState, clock_of}
 use Rattle.tpm_engine.specs.declared.stop.Stop.{Stop}
 use Rattle.tpm_engine.specs.Answers.{early_stop, first_stop, own_rule}
 use Rattle.tpm_engine.specs.Authorization.{area_stop, authorization_stop, authorized_entity, broken_check, check_stop, entity_stop, number_of_command, password_code, password_stop, policy_stop}
-use Rattle.tpm_engine.specs.PolicyCommands.{policy_command_rule, policy_rule}
+use Rattle.tpm_engine.specs.PolicyCommands.{policy_command_rule, policy_rule, verified_digest}
 use Rattle.tpm_engine.specs.SessionCommands.{free_slot, start_rule}
 use Rattle.tpm_engine.specs.Stops.{apart_stop, authorizing_session, denies, handle_stop, handles_from, handles_stop, has_room, refuses, room_stop, session_stop}
 use Rattle.tpm_engine.specs.Tables.{TableState}
@@ -238,9 +259,22 @@ first-coded tables locality command own =
 
 -- ---- own rules
 
+-- rules in a row
+two : (a b : Bool) (ca cb : ℕ) → is_code ca ≡ true → is_code cb ≡ true → HasCode (or_else (unless a ca) (unless b cb))
+two a b ca cb ta tb = and-then (unless a ca) (unless b cb) (one a ca ta) (one b cb tb)
+
+three : (a b c : Bool) (ca cb cc' : ℕ) → is_code ca ≡ true → is_code cb ≡ true → is_code cc' ≡ true → HasCode (or_else (unless a ca) (or_else (unless b cb) (unless c cc')))
+three a b c ca cb cc' ta tb tc = and-then (unless a ca) (or_else (unless b cb) (unless c cc')) (one a ca ta) (two b c cb cc' tb tc)
+
+four : (a b c d : Bool) (ca cb cc' cd : ℕ) → is_code ca ≡ true → is_code cb ≡ true → is_code cc' ≡ true → is_code cd ≡ true
+    → HasCode (or_else (unless a ca) (or_else (unless b cb) (or_else (unless c cc') (unless d cd))))
+four a b c d ca cb cc' cd ta tb tc td =
+    and-then (unless a ca) (or_else (unless b cb) (or_else (unless c cc') (unless d cd))) (one a ca ta) (three b c d cb cc' cd tb tc td)
+
 secret-coded : (session : SessionState) (time : ℕ) (nonce : List ℕ) (cp_hash : Option Digest32) (expiration : ℤ) → HasCode (policy_secret_rule session time nonce cp_hash expiration)
 secret-coded session time nonce cp_hash expiration =
-    and-then _ _ (one _ (rc_nonce + of_parameter 1) refl) (and-then _ _ (one _ (rc_expired + of_parameter 4) refl) (one _ rc_cphash refl))
+    three (is_nonce_or_none session.nonce nonce) (is_before time (deadline_of session.start nonce expiration)) (takes_optional_cp_hash session.facts cp_hash)
+    (rc_nonce + of_parameter 1) (rc_expired + of_parameter 4) rc_cphash refl refl refl
 
 index-coded : (world : WorldState) (handle : ℕ) (rule : IndexEntry → Option ℕ) → ((entry : IndexEntry) → HasCode (rule entry)) → HasCode (option_map_or rule (index_of handle world.indices) (Some missing_index))
 index-coded world handle rule h = map_or-each IsCode rule (index_of handle world.indices) missing_index h (coded missing_index refl)
@@ -248,39 +282,71 @@ index-coded world handle rule h = map_or-each IsCode rule (index_of handle world
 object-coded : (world : WorldState) (handle : ℕ) (rule : ObjectEntry → Option ℕ) → ((object : ObjectEntry) → HasCode (rule object)) → HasCode (option_map_or rule (object_of handle world.objects) (Some missing_object))
 object-coded world handle rule h = map_or-each IsCode rule (object_of handle world.objects) missing_object h (coded missing_object refl)
 
+nv-coded : (authority code : ℕ) (operand : List ℕ) (offset : ℕ) (operation : Compare) (entry : IndexEntry)
+    → HasCode (or_else (nv_authority_rule authority entry.public code) (policy_nv_rule entry operand offset operation))
+nv-coded authority code operand offset operation entry =
+    and-then (nv_authority_rule authority entry.public code) (policy_nv_rule entry operand offset operation)
+    (one (has_authority authority entry.public code) rc_nv_authorization refl)
+    (four (is_written entry.public.attributes) (nat_le offset entry.public.size) (nat_le (offset + length operand) entry.public.size) (compares operation entry.content offset operand)
+    rc_nv_uninitialized (rc_value + of_parameter 2) (rc_size + of_parameter 1) rc_policy refl refl refl refl)
+
+authorize_nv-coded : (authority code : ℕ) (session : SessionState) (entry : IndexEntry)
+    → HasCode (or_else (nv_authority_rule authority entry.public code) (policy_authorize_nv_rule session entry))
+authorize_nv-coded authority code session entry =
+    and-then (nv_authority_rule authority entry.public code) (policy_authorize_nv_rule session entry)
+    (one (has_authority authority entry.public code) rc_nv_authorization refl)
+    (three (is_written entry.public.attributes) (begins_with_sha256 entry.content) (has_digest_behind entry.content (policy_digest_of session))
+    rc_nv_uninitialized rc_hash rc_value refl refl refl)
+
+signed-coded : (session : SessionState) (time : ℕ) (nonce : List ℕ) (cp_hash : Option Digest32) (expiration : ℤ) (right : Bool) (object : ObjectEntry)
+    → HasCode (or_else (signing_key_rule object.public) (policy_signed_rule session time nonce cp_hash expiration right))
+signed-coded session time nonce cp_hash expiration right object =
+    and-then (signing_key_rule object.public) (policy_signed_rule session time nonce cp_hash expiration right)
+    (one (is_signing_key object.public) (rc_attributes + of_handle 1) refl)
+    (and-then (policy_secret_rule session time nonce cp_hash expiration) (unless right (rc_signature + of_parameter 5))
+    (secret-coded session time nonce cp_hash expiration) (one right (rc_signature + of_parameter 5) refl))
+
 policy-coded : (world : WorldState) (session : SessionState) (command : Command) → HasCode (policy_rule world session command)
 policy-coded world session (commands.PolicyNv authority index own auth operand offset operation) =
-    index-coded world index _ (λ entry. and-then _ _ (one _ rc_nv_authorization refl)
-    (and-then _ _ (one _ rc_nv_uninitialized refl) (and-then _ _ (one _ (rc_value + of_parameter 2) refl) (and-then _ _ (one _ (rc_size + of_parameter 1) refl) (one _ rc_policy refl)))))
-policy-coded world session (commands.PolicyCpHash own digest) = one _ rc_cphash refl
-policy-coded world session (commands.PolicyNameHash own digest) = one _ rc_cphash refl
-policy-coded world session (commands.PolicyCommandCode own code) = one _ (rc_value + of_parameter 1) refl
-policy-coded world session (commands.PolicyCounterTimer own operand offset operation) = and-then _ _ (one _ (rc_range + of_parameter 1) refl) (one _ rc_policy refl)
-policy-coded world session (commands.PolicyLocality own locality) = one _ (rc_range + of_parameter 1) refl
-policy-coded world session (commands.PolicyPcr own given mask) = and-then _ _ (one _ rc_pcr_changed refl) (one _ (rc_value + of_parameter 1) refl)
-policy-coded world session (commands.PolicyDuplicationSelect own object parent include) = and-then _ _ (one _ rc_cphash refl) (one _ rc_command_code refl)
-policy-coded world session (commands.PolicyNvWritten own written) = one _ (rc_value + of_parameter 1) refl
+    index-coded world index (λ entry. or_else (nv_authority_rule authority entry.public (number_of_code codes.PolicyNv)) (policy_nv_rule entry operand offset operation))
+    (nv-coded authority (number_of_code codes.PolicyNv) operand offset operation)
+policy-coded world session (commands.PolicyCpHash own digest) = one (takes_cp_hash session.facts digest) rc_cphash refl
+policy-coded world session (commands.PolicyNameHash own digest) = one (takes_name_hash session.facts digest) rc_cphash refl
+policy-coded world session (commands.PolicyCommandCode own code) = one (every_code session.facts code) (rc_value + of_parameter 1) refl
+policy-coded world session (commands.PolicyCounterTimer own operand offset operation) =
+    two (nat_le (offset + length operand) 25) (compares operation (clock_info (clock_of world)) offset operand) (rc_range + of_parameter 1) rc_policy refl refl
+policy-coded world session (commands.PolicyLocality own locality) = one (is_locality_set locality && shares_locality session locality) (rc_range + of_parameter 1) refl
+policy-coded world session (commands.PolicyPcr own given mask) =
+    two (is_counter_now session.counter world.pcrs.counter) (is_digest_or_none (selection_digest world.pcrs.values mask) given) rc_pcr_changed (rc_value + of_parameter 1) refl refl
+policy-coded world session (commands.PolicyDuplicationSelect own object parent include) =
+    two (not (is_slot_set session.facts)) (not (sets_code session.facts)) rc_cphash rc_command_code refl refl
+policy-coded world session (commands.PolicyNvWritten own written) = one (every_written session.facts written) (rc_value + of_parameter 1) refl
 policy-coded world session (commands.PolicySigned key own nonce cp_hash policy_ref expiration signature) =
-    object-coded world key _ (λ object. and-then _ _ (one _ (rc_attributes + of_handle 1) refl)
-    (and-then _ _ (secret-coded session world.time nonce cp_hash expiration) (one _ (rc_signature + of_parameter 5) refl)))
+    object-coded world key (λ object. or_else (signing_key_rule object.public) (policy_signed_rule session world.time nonce cp_hash expiration (is_signature object.secret nonce expiration cp_hash policy_ref signature)))
+    (λ object. signed-coded session world.time nonce cp_hash expiration (is_signature object.secret nonce expiration cp_hash policy_ref signature) object)
 policy-coded world session (commands.PolicySecret entity own auth nonce cp_hash policy_ref expiration) = secret-coded session world.time nonce cp_hash expiration
 policy-coded world session (commands.PolicyTicket own timeout cp_hash policy_ref key ticket) =
-    and-then _ _ (one _ (rc_expired + of_parameter 1) refl) (and-then _ _ (one _ rc_cphash refl) (one _ (rc_ticket + of_parameter 5) refl))
-policy-coded world session (commands.PolicyAuthorize own approved policy_ref key ticket) = and-then _ _ (one _ (rc_value + of_parameter 1) refl) (one _ (rc_value + of_parameter 4) refl)
-policy-coded world session (commands.PolicyOr own digests) = one _ (rc_value + of_parameter 1) refl
+    three (nat_le world.time timeout) (takes_optional_cp_hash session.facts cp_hash)
+    (is_auth_ticket (proof_of world.seed) world.reset_count timeout cp_hash policy_ref key ticket.tag ticket.hierarchy ticket.digest)
+    (rc_expired + of_parameter 1) rc_cphash (rc_ticket + of_parameter 5) refl refl refl
+policy-coded world session (commands.PolicyAuthorize own approved policy_ref key ticket) =
+    two (same_digest (policy_digest_of session) approved) (is_approval_ticket (proof_of world.seed) approved policy_ref key (verified_digest ticket))
+    (rc_value + of_parameter 1) (rc_value + of_parameter 4) refl refl
+policy-coded world session (commands.PolicyOr own digests) = one (list_any (same_digest (policy_digest_of session)) digests) (rc_value + of_parameter 1) refl
 policy-coded world session (commands.PolicyAuthorizeNv authority index own auth) =
-    index-coded world index _ (λ entry. and-then _ _ (one _ rc_nv_authorization refl)
-    (and-then _ _ (one _ rc_nv_uninitialized refl) (and-then _ _ (one _ rc_hash refl) (one _ rc_value refl))))
+    index-coded world index (λ entry. or_else (nv_authority_rule authority entry.public (number_of_code codes.PolicyAuthorizeNv)) (policy_authorize_nv_rule session entry))
+    (authorize_nv-coded authority (number_of_code codes.PolicyAuthorizeNv) session)
 policy-coded world session command = tt
 
 pub policy-own-coded : (tables : TableState) (command : Command) → HasCode (policy_command_rule tables command)
-policy-own-coded tables command = and_then-each IsCode _ (policy_session_of command)
+policy-own-coded tables command = and_then-each IsCode (λ (own : ℕ × ℕ). option_map_or (λ state. policy_rule tables.world state command) (state_at tables.sessions own.0) (Some rc_reference_h0)) (policy_session_of command)
     (λ own. map_or-each IsCode (λ state. policy_rule tables.world state command) (state_at tables.sessions own.0) rc_reference_h0
     (λ state. policy-coded tables.world state command) (coded rc_reference_h0 refl))
 
 pub start-coded : (tables : TableState) → HasCode (start_rule tables)
-start-coded tables = one _ rc_session_memory refl
+start-coded tables = one (is_some (free_slot tables)) rc_session_memory refl
 
 pub verify-coded : (world : WorldState) (key : ℕ) (digest signature : Digest32) → HasCode (verify_signature.rule world key digest signature)
 verify-coded world key digest signature =
-    object-coded world key _ (λ object. and-then _ _ (one _ (rc_attributes + of_handle 1) refl) (one _ (rc_signature + of_parameter 2) refl))
+    object-coded world key (λ object. verify_signature_rule object.public (is_same_digest signature (signature_of object.secret digest)))
+    (λ object. two (is_signing_key object.public) (is_same_digest signature (signature_of object.secret digest)) (rc_attributes + of_handle 1) (rc_signature + of_parameter 2) refl refl)

@@ -7,3 +7,4 @@ mod Fit
 mod Named
 mod Own
 mod Starts
+mod Step

@@ -200,8 +200,8 @@ module _ (run : Run) (is : IsRun run) (past : List Event) (session : Session) (s
       let shows = own.shows passed.state passed.holds in
       let deed = done-deed (view_of run.setup past) (next_number past) run.client run.locality (spelling command) command reads
           ∙ ap (λ (o : Option Shown). option_map_or (λ (shown : Shown). Shows shown.0 shown.1) o (plain_deed command (succeeding (view_of run.setup past) (next_number past) command).reply)) shows.is in
-      let use = done-use (view_of run.setup past) (next_number past) run.client run.locality (spelling command) command reads ∙ password-use (area_of command) own.area in
-      shown-on run past _ session ticket done act shows.fact at on (has-shown run.setup past _ session.handle shows.fact deed use)
+      let uses = done-use (view_of run.setup past) (next_number past) run.client run.locality (spelling command) command reads ∙ password-use (area_of command) own.area in
+      shown-on run past _ session ticket done act shows.fact at on (has-shown run.setup past _ session.handle shows.fact deed uses)
       (shows.same (moment_of run.setup past session.handle) refl)
 
   own-turn : (ticket : Option Ticket) (act : Move) (command : Command) (number : ℕ) → slice_get run.plan.path.moves done ≡ Some act → IsOnPath run past session ticket done → is_verification ticket act ≡ false
