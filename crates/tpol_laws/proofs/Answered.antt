@@ -5,9 +5,6 @@ use Rattle.std.specs.Prelude.{⊤}
 use Rattle.std.specs.Option.{option_map}
 use Rattle.tpol_base.specs.declared.rc.Rc.{Rc}
 use Rattle.tpol_base.specs.Handle.{rs_pw}
-use Rattle.tpol_driver.specs.declared.answer.Answer.{Answer}
-use Rattle.tpol_driver.specs.declared.answer.Answer.TheVariants.{Denied as DeniedAnswer}
-use Rattle.tpol_driver.specs.Answers.{answer_of}
 use Rattle.tpol_wire.specs.declared.auth_area.AuthArea.{AuthArea}
 use Rattle.tpol_wire.specs.declared.auth_area.ReplyAuth.{ReplyAuth}
 use Rattle.tpol_wire.specs.declared.command.Command.{Command}
@@ -38,13 +35,11 @@ use Rattle.tpol_laws.proofs.Codes.{Coded, IsCode}
 pub read-back : (command : Command) → FitsCommand command → reading (spelling command) ≡ Ok command
 read-back command fits = command_read (spelling command) command (record { whole = refl; fits = fits })
 
--- a refusal is heard as a denial, whatever was sent
-pub refusal-heard : (number code : ℕ) → IsCode code
-    → answer_of (reply_reading number (spell_reply (replies.Refused (record { code = code })) None)) ≡ DeniedAnswer (record { code = code })
-refusal-heard number code is =
-    let read : reply_reading number (spell_reply (replies.Refused (record { code = code })) None) ≡ Some (replies.Refused (record { code = code }), None) =
-    reply_read number _ (replies.Refused (record { code = code })) None (record { whole = refl; fits = (is.fails, is.fits, refl); answers = tt }) in
-    ap answer_of read
+-- a refusal is read as one, whatever was sent
+pub refusal-read : (number code : ℕ) → IsCode code
+    → reply_reading number (spell_reply (replies.Refused (record { code = code })) None) ≡ Some (replies.Refused (record { code = code }), None)
+refusal-read number code is =
+    reply_read number _ (replies.Refused (record { code = code })) None (record { whole = refl; fits = (is.fails, is.fits, refl); answers = tt })
 
 -- ---- stopped, or not
 

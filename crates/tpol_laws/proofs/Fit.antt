@@ -16,7 +16,6 @@ use Rattle.tpol_goal.specs.declared.grants.Grants.{Grants}
 use Rattle.tpol_goal.specs.Entities.{is_hierarchy}
 use Rattle.tpol_goal.specs.Grants.{IsGrants, authority, granted, secret_of}
 use Rattle.tpol_name.specs.Setups.{IsAuthValue}
-use Rattle.tpol_driver.specs.declared.session.Session.{Session}
 use Rattle.tpol_driver.specs.Commands.{password_area, start_command}
 use Rattle.tpol_tree.specs.Bounds.{NameHasBounds}
 use Rattle.tpol_wire.specs.declared.auth_area.AuthArea.{AuthArea}

@@ -18,7 +18,6 @@ use Rattle.tpol_base.specs.Name.{name_bytes}
 use Rattle.tpol_base.specs.ResponseCode.{rc_reference_h0}
 use Rattle.tpol_digest.specs.Laws.{MoveHasBounds}
 use Rattle.tpol_digest.specs.Update.{comparison, from_zero, hash_of_inner, one_hash, pcr_selection, two_hashes, update_of}
-use Rattle.tpol_driver.specs.declared.session.Session.{Session}
 use Rattle.tpol_driver.specs.Commands.{command_of_assertion, command_of_move, key_of, optional_bytes, or_null, password_area}
 use Rattle.tpol_driver.specs.Driving.{is_verification}
 use Rattle.tpol_driver.specs.Plans.{is_granted_key, is_known_assertion, is_known_move}
@@ -143,16 +142,16 @@ abbrev pub TicketIsFit : Option Ticket → Type 0
 TicketIsFit None = ⊤
 TicketIsFit (Some ticket) = TicketFits ticket
 
-module _ (setup : Setup) (is : IsSetup setup) (world : WorldState) (of : IsOf setup world) (grants : Grants) (are : IsGrants grants) (session : Session) (slot : IsSlotHandle session.handle) where
+module _ (setup : Setup) (is : IsSetup setup) (world : WorldState) (of : IsOf setup world) (grants : Grants) (are : IsGrants grants) (own : ℕ) (nonce : Digest32) (slot : IsSlotHandle own) where
   own-nv : (name : Name) (operand : List ℕ) (offset : ℕ) (operation : Compare) (o : Option DirEntry) → index_of_name (directory_of setup) name ≡ o → is_some o ≡ true → length operand ≤ 64 → offset < 2 ^ 16
-      → IsOwn world session.handle (Assert (assertions.Nv name operand offset operation))
-      (commands.PolicyNv (or_null (option_map (λ (entry : DirEntry). authority grants entry.handle entry.attributes) o)) (or_null (option_map (λ (entry : DirEntry). entry.handle) o)) session.handle
+      → IsOwn world own (Assert (assertions.Nv name operand offset operation))
+      (commands.PolicyNv (or_null (option_map (λ (entry : DirEntry). authority grants entry.handle entry.attributes) o)) (or_null (option_map (λ (entry : DirEntry). entry.handle) o)) own
       (password_area grants (or_null (option_map (λ (entry : DirEntry). authority grants entry.handle entry.attributes) o))) operand offset operation)
   own-nv name operand offset operation None e known short few = absurd (false≢true known)
   own-nv name operand offset operation (Some entry) e known short few =
       let found = index-found setup is name entry e in
       record {
-        fits = fits-nv session.handle (session-handle session.handle slot) (authority grants entry.handle entry.attributes) entry.handle (password_area grants (authority grants entry.handle entry.attributes)) operand offset operation
+        fits = fits-nv own (session-handle own slot) (authority grants entry.handle entry.attributes) entry.handle (password_area grants (authority grants entry.handle entry.attributes)) operand offset operation
             (authority-handle setup name entry.handle entry.attributes grants found) (index-handle setup name entry.handle found) (area-fits grants (authority grants entry.handle entry.attributes) are) short few;
         area = refl;
         policy = refl;
@@ -169,14 +168,14 @@ module _ (setup : Setup) (is : IsSetup setup) (world : WorldState) (of : IsOf se
       }
 
   own-authorize_nv : (name : Name) (approved : Digest32) (o : Option DirEntry) → index_of_name (directory_of setup) name ≡ o → is_some o ≡ true
-      → IsOwn world session.handle (ApproveNv name approved)
-      (commands.PolicyAuthorizeNv (or_null (option_map (λ (entry : DirEntry). authority grants entry.handle entry.attributes) o)) (or_null (option_map (λ (entry : DirEntry). entry.handle) o)) session.handle
+      → IsOwn world own (ApproveNv name approved)
+      (commands.PolicyAuthorizeNv (or_null (option_map (λ (entry : DirEntry). authority grants entry.handle entry.attributes) o)) (or_null (option_map (λ (entry : DirEntry). entry.handle) o)) own
       (password_area grants (or_null (option_map (λ (entry : DirEntry). authority grants entry.handle entry.attributes) o))))
   own-authorize_nv name approved None e known = absurd (false≢true known)
   own-authorize_nv name approved (Some entry) e known =
       let found = index-found setup is name entry e in
       record {
-        fits = fits-authorize_nv session.handle (session-handle session.handle slot) (authority grants entry.handle entry.attributes) entry.handle (password_area grants (authority grants entry.handle entry.attributes))
+        fits = fits-authorize_nv own (session-handle own slot) (authority grants entry.handle entry.attributes) entry.handle (password_area grants (authority grants entry.handle entry.attributes))
             (authority-handle setup name entry.handle entry.attributes grants found) (index-handle setup name entry.handle found) (area-fits grants (authority grants entry.handle entry.attributes) are);
         area = refl;
         policy = refl;
@@ -194,13 +193,13 @@ module _ (setup : Setup) (is : IsSetup setup) (world : WorldState) (of : IsOf se
 
   own-secret : (name : Name) (policy_ref : List ℕ) (cp_hash : Option Digest32) (expiration : ℤ) (o : Option ℕ) → entity_of_name (directory_of setup) name ≡ o → is_some o ≡ true
       → AssertionHasBounds (assertions.Secret name policy_ref cp_hash expiration) → IsWrittenAt world.indices (or_null o)
-      → IsOwn world session.handle (Assert (assertions.Secret name policy_ref cp_hash expiration))
-      (commands.PolicySecret (or_null o) session.handle (password_area grants (or_null o)) session.nonce.bytes cp_hash policy_ref expiration)
+      → IsOwn world own (Assert (assertions.Secret name policy_ref cp_hash expiration))
+      (commands.PolicySecret (or_null o) own (password_area grants (or_null o)) nonce.bytes cp_hash policy_ref expiration)
   own-secret name policy_ref cp_hash expiration None e known bounds written = absurd (false≢true known)
   own-secret name policy_ref cp_hash expiration (Some handle) e known bounds written =
       let found = entity-found setup is name handle e in
       record {
-        fits = fits-secret session.handle (session-handle session.handle slot) handle (password_area grants handle) session.nonce cp_hash policy_ref expiration (entity-handle setup name handle found) (area-fits grants handle are) bounds.1 bounds.2;
+        fits = fits-secret own (session-handle own slot) handle (password_area grants handle) nonce cp_hash policy_ref expiration (entity-handle setup name handle found) (area-fits grants handle are) bounds.1 bounds.2;
         area = refl;
         policy = refl;
         shows = λ state rule. record {
@@ -213,14 +212,14 @@ module _ (setup : Setup) (is : IsSetup setup) (world : WorldState) (of : IsOf se
 
   own-signed : (name : Name) (policy_ref : List ℕ) (cp_hash : Option Digest32) (expiration : ℤ) (o : Option DirEntry) → object_of_name (directory_of setup) name ≡ o → is_granted_key grants o ≡ true
       → AssertionHasBounds (assertions.Signed name policy_ref cp_hash expiration)
-      → IsOwn world session.handle (Assert (assertions.Signed name policy_ref cp_hash expiration))
-      (commands.PolicySigned (or_null (option_map (λ (entry : DirEntry). entry.handle) o)) session.handle session.nonce.bytes cp_hash policy_ref expiration
-      (signature_of (key_of grants (or_null (option_map (λ (entry : DirEntry). entry.handle) o))) (signed_hash session.nonce.bytes expiration (optional_bytes cp_hash) policy_ref)))
+      → IsOwn world own (Assert (assertions.Signed name policy_ref cp_hash expiration))
+      (commands.PolicySigned (or_null (option_map (λ (entry : DirEntry). entry.handle) o)) own nonce.bytes cp_hash policy_ref expiration
+      (signature_of (key_of grants (or_null (option_map (λ (entry : DirEntry). entry.handle) o))) (signed_hash nonce.bytes expiration (optional_bytes cp_hash) policy_ref)))
   own-signed name policy_ref cp_hash expiration None e known bounds = absurd (false≢true known)
   own-signed name policy_ref cp_hash expiration (Some entry) e known bounds =
       let found = object-found setup is name entry e in
       record {
-        fits = fits-signed session.handle (session-handle session.handle slot) entry.handle session.nonce cp_hash policy_ref expiration _ (object-handle setup name entry.handle found) bounds.1 bounds.2;
+        fits = fits-signed own (session-handle own slot) entry.handle nonce cp_hash policy_ref expiration _ (object-handle setup name entry.handle found) bounds.1 bounds.2;
         area = tt;
         policy = refl;
         shows = λ state rule. record {
@@ -231,9 +230,9 @@ module _ (setup : Setup) (is : IsSetup setup) (world : WorldState) (of : IsOf se
         };
       }
 
-  own-pcr : (mask : ℕ) (digest : Digest32) (values : List Digest32) → mask < 2 ^ 24 → IsOwn world session.handle (Assert (assertions.Pcr mask digest values)) (commands.PolicyPcr session.handle (Some digest) mask)
+  own-pcr : (mask : ℕ) (digest : Digest32) (values : List Digest32) → mask < 2 ^ 24 → IsOwn world own (Assert (assertions.Pcr mask digest values)) (commands.PolicyPcr own (Some digest) mask)
   own-pcr mask digest values few = record {
-    fits = fits-pcr session.handle (session-handle session.handle slot) digest mask few;
+    fits = fits-pcr own (session-handle own slot) digest mask few;
     area = tt;
     policy = refl;
     shows = λ state rule.
@@ -248,8 +247,8 @@ module _ (setup : Setup) (is : IsSetup setup) (world : WorldState) (of : IsOf se
   }
 
   own-assertion : (assertion : Assertion) → AssertionHasBounds assertion → is_known_assertion (directory_of setup) grants assertion ≡ true
-      → AsksWritten world.indices (command_of_assertion (directory_of setup) grants session assertion)
-      → IsOwn world session.handle (Assert assertion) (command_of_assertion (directory_of setup) grants session assertion)
+      → AsksWritten world.indices (command_of_assertion (directory_of setup) grants (record { handle = own; nonce = nonce }) assertion)
+      → IsOwn world own (Assert assertion) (command_of_assertion (directory_of setup) grants (record { handle = own; nonce = nonce }) assertion)
   own-assertion (assertions.Pcr mask digest values) bounds known asks = own-pcr mask digest values bounds
   own-assertion (assertions.Nv index operand offset operation) bounds known asks = own-nv index operand offset operation (index_of_name (directory_of setup) index) refl known bounds.1 bounds.2
   own-assertion (assertions.Secret entity policy_ref cp_hash expiration) bounds known asks =
@@ -257,57 +256,57 @@ module _ (setup : Setup) (is : IsSetup setup) (world : WorldState) (of : IsOf se
   own-assertion (assertions.Signed key policy_ref cp_hash expiration) bounds known asks =
       own-signed key policy_ref cp_hash expiration (object_of_name (directory_of setup) key) refl known bounds
   own-assertion (assertions.CounterTimer operand offset operation) bounds known asks = record {
-    fits = fits-counter_timer session.handle (session-handle session.handle slot) operand offset operation bounds.0 bounds.1;
+    fits = fits-counter_timer own (session-handle own slot) operand offset operation bounds.0 bounds.1;
     area = tt; policy = refl; shows = λ state rule. record { fact = _; is = refl; same = λ now same. refl };
   }
   own-assertion (assertions.CommandCode code) bounds known asks = record {
-    fits = fits-code session.handle (session-handle session.handle slot) code bounds;
+    fits = fits-code own (session-handle own slot) code bounds;
     area = tt; policy = refl; shows = λ state rule. record { fact = _; is = refl; same = λ now same. refl };
   }
   own-assertion (assertions.Locality localities) bounds known asks = record {
-    fits = fits-locality session.handle (session-handle session.handle slot) localities bounds.1;
+    fits = fits-locality own (session-handle own slot) localities bounds.1;
     area = tt; policy = refl; shows = λ state rule. record { fact = _; is = refl; same = λ now same. refl };
   }
   own-assertion (assertions.CpHash digest) bounds known asks = record {
-    fits = fits-cp_hash session.handle (session-handle session.handle slot) digest;
+    fits = fits-cp_hash own (session-handle own slot) digest;
     area = tt; policy = refl; shows = λ state rule. record { fact = _; is = refl; same = λ now same. refl };
   }
   own-assertion (assertions.NameHash digest) bounds known asks = record {
-    fits = fits-name_hash session.handle (session-handle session.handle slot) digest;
+    fits = fits-name_hash own (session-handle own slot) digest;
     area = tt; policy = refl; shows = λ state rule. record { fact = _; is = refl; same = λ now same. refl };
   }
   own-assertion (assertions.NvWritten written) bounds known asks = record {
-    fits = fits-nv_written session.handle (session-handle session.handle slot) written;
+    fits = fits-nv_written own (session-handle own slot) written;
     area = tt; policy = refl; shows = λ state rule. record { fact = _; is = refl; same = λ now same. refl };
   }
   own-assertion assertions.AuthValue bounds known asks = record {
-    fits = fits-auth_value session.handle (session-handle session.handle slot);
+    fits = fits-auth_value own (session-handle own slot);
     area = tt; policy = refl; shows = λ state rule. record { fact = _; is = refl; same = λ now same. refl };
   }
   own-assertion assertions.Password bounds known asks = record {
-    fits = fits-password session.handle (session-handle session.handle slot);
+    fits = fits-password own (session-handle own slot);
     area = tt; policy = refl; shows = λ state rule. record { fact = _; is = refl; same = λ now same. refl };
   }
   own-assertion assertions.PhysicalPresence bounds known asks = record {
-    fits = fits-presence session.handle (session-handle session.handle slot);
+    fits = fits-presence own (session-handle own slot);
     area = tt; policy = refl; shows = λ state rule. record { fact = _; is = refl; same = λ now same. refl };
   }
   own-assertion (assertions.Duplication object parent include) bounds known asks = record {
-    fits = fits-duplication session.handle (session-handle session.handle slot) object parent include bounds.0 bounds.1;
+    fits = fits-duplication own (session-handle own slot) object parent include bounds.0 bounds.1;
     area = tt; policy = refl; shows = λ state rule. record { fact = _; is = refl; same = λ now same. refl };
   }
 
   pub own-move : (ticket : Option Ticket) (act : Move) → TicketIsFit ticket → MoveHasBounds act → is_known_move (directory_of setup) grants act ≡ true → is_verification ticket act ≡ false
-      → AsksWritten world.indices (command_of_move (directory_of setup) grants session ticket act)
-      → IsOwn world session.handle act (command_of_move (directory_of setup) grants session ticket act)
+      → AsksWritten world.indices (command_of_move (directory_of setup) grants (record { handle = own; nonce = nonce }) ticket act)
+      → IsOwn world own act (command_of_move (directory_of setup) grants (record { handle = own; nonce = nonce }) ticket act)
   own-move ticket (Assert assertion) fits bounds known verifies asks = own-assertion assertion bounds known asks
   own-move ticket (Or digests) fits bounds known verifies asks = record {
-    fits = fits-or session.handle (session-handle session.handle slot) digests bounds.0 bounds.1;
+    fits = fits-or own (session-handle own slot) digests bounds.0 bounds.1;
     area = tt; policy = refl; shows = λ state rule. record { fact = _; is = refl; same = λ now same. refl };
   }
   own-move None (Approve key policy_ref approved signature) fits bounds known verifies asks = absurd (false≢true (sym verifies))
   own-move (Some ticket) (Approve key policy_ref approved signature) fits bounds known verifies asks = record {
-    fits = fits-authorize session.handle (session-handle session.handle slot) approved policy_ref key ticket bounds.1 bounds.0 fits;
+    fits = fits-authorize own (session-handle own slot) approved policy_ref key ticket bounds.1 bounds.0 fits;
     area = tt; policy = refl; shows = λ state rule. record { fact = _; is = refl; same = λ now same. refl };
   }
   own-move ticket (ApproveNv index approved) fits bounds known verifies asks = own-authorize_nv index approved (index_of_name (directory_of setup) index) refl known

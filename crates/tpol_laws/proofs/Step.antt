@@ -8,7 +8,7 @@ use Rattle.std.specs.Option.{option_and_then, option_map_or}
 use Rattle.std.proofs.Math.Seq.{take-suc}
 use Rattle.std.proofs.lemmas.List.{map-append}
 use Rattle.std.proofs.lemmas.Bool.{false≢true}
-use Rattle.std.proofs.lemmas.Option.{get_or_from_slice_get, none-some, slice_get_within}
+use Rattle.std.proofs.lemmas.Option.{get_or_from_slice_get, none-some, same_Some, slice_get_within}
 use Rattle.tpol_base.specs.declared.digest.Digest32.{Digest32}
 use Rattle.tpol_base.specs.declared.name.Name.{Name}
 use Rattle.tpol_base.specs.CommandCode.{number_of_code}
@@ -20,13 +20,9 @@ use Rattle.tpol_digest.specs.Laws.{MoveHasBounds}
 use Rattle.tpol_digest.specs.Sound.{moves_of_facts}
 use Rattle.tpol_digest.specs.Update.{Update, update_of}
 use Rattle.tpol_digest.proofs.Meeting.{digest_from-append}
-use Rattle.tpol_driver.specs.declared.answer.Answer.{Answer}
-use Rattle.tpol_driver.specs.declared.answer.Answer.TheVariants.{Done, Denied, Malformed}
 use Rattle.tpol_driver.specs.declared.end.End.{End}
 use Rattle.tpol_driver.specs.declared.end.End.TheVariants as ends
-use Rattle.tpol_driver.specs.declared.session.Session.{Session}
-use Rattle.tpol_driver.specs.declared.step.Heard.TheVariants.{Accepted}
-use Rattle.tpol_driver.specs.Answers.{answer_of}
+use Rattle.tpol_driver.specs.Answers.{answer_of, answer_of_reply}
 use Rattle.tpol_driver.specs.Commands.{command_of_move, key_handle, or_null, start_command, verify_signature}
 use Rattle.tpol_driver.specs.Driving.{Closing, Ends, Moving, Over, Sends, Standing, Starting, after_goal, goal_heard, goes_on, heard_on_path, hears, is_verification, move_heard, next_command, sends, start_heard, verified}
 use Rattle.tpol_driver.specs.Plans.{is_complete, is_known_move}
@@ -40,6 +36,7 @@ use Rattle.tpol_name.specs.Directories.{directory_of}
 use Rattle.tpol_tree.specs.declared.facts.Fact.{Fact}
 use Rattle.tpol_tree.specs.declared.path.Move.{Move}
 use Rattle.tpol_tree.specs.declared.path.Move.TheVariants.{Assert, Or, Approve, ApproveNv}
+use Rattle.tpol_wire.specs.declared.auth_area.ReplyAuth.{ReplyAuth}
 use Rattle.tpol_wire.specs.declared.command.Command.{Command}
 use Rattle.tpol_wire.specs.declared.command.Command.TheVariants as commands
 use Rattle.tpol_wire.specs.declared.reply.Reply.{Reply}
@@ -70,10 +67,10 @@ use Rattle.tpm_engine.specs.PolicyCommands.{policy_rule}
 use Rattle.tpm_engine.specs.Tables.{TableState}
 use Rattle.tpm_engine.specs.Views.{facts_of, indices_after, indices_of, is_held, moment_of, next_number, view_of, world_at}
 use Rattle.tpol_laws.specs.Acts.{Act, Course, Other, Run, Turn, after_act, after_acts, answer_in, begun, event_in, turned}
-use Rattle.tpol_laws.specs.Others.{AreOthersApart, AreSecretsOnWritten, AsksWritten, LeavesAlone, LeavesSession, SendsOnWritten, TurnsOnWritten, session_of}
+use Rattle.tpol_laws.specs.Others.{AreOthersApart, AreSecretsOnWritten, AsksWritten, LeavesAlone, LeavesSession, SendsOnWritten, TurnsOnWritten, place_of, session_of}
 use Rattle.tpol_laws.specs.Runs.{IsRun}
 use Rattle.tpol_laws.proofs.After.{HasShown, HasStarted, Stays, has-shown, has-started, stays, touches, touches_by_use}
-use Rattle.tpol_laws.proofs.Answered.{done-deed, done-use, on-answer, own-passed, password-use, read-back, refusal-heard, stop-code}
+use Rattle.tpol_laws.proofs.Answered.{done-deed, done-use, on-answer, own-passed, password-use, read-back, refusal-read, stop-code}
 use Rattle.tpol_laws.proofs.Calm.{others-stay}
 use Rattle.tpol_laws.proofs.Codes.{Coded, HasCode, IsCode, first-coded, policy-own-coded, start-coded, verify-coded}
 use Rattle.tpol_laws.proofs.Finds.{all-at, both as and-both, tests}
@@ -110,22 +107,22 @@ is-of setup past = record { objects = refl; areas = areas-same setup past }
 
 -- ---- where a run stands
 
-pub record IsOnPath (run : Run) (past : List Event) (session : Session) (ticket : Option Ticket) (done : ℕ) : Type 0 where
-  pub slot : IsSlotHandle session.handle
+pub record IsOnPath (run : Run) (past : List Event) (own : ℕ) (ticket : Option Ticket) (done : ℕ) : Type 0 where
+  pub slot : IsSlotHandle own
   pub fits : TicketIsFit ticket
-  pub held : is_held past session.handle ≡ true
-  pub digest : digest_of_moves (moves_of_facts (facts_of run.setup past session.handle)) ≡ digest_of_moves (take done run.plan.path.moves)
+  pub held : is_held past own ≡ true
+  pub digest : digest_of_moves (moves_of_facts (facts_of run.setup past own)) ≡ digest_of_moves (take done run.plan.path.moves)
 
 abbrev pub IsOn : Run → List Event → Standing → Type 0
 IsOn run past Starting = ⊤
-IsOn run past (Moving session sent ticket done) = IsOnPath run past session ticket done
+IsOn run past (Moving session sent ticket done) = IsOnPath run past session.handle ticket done
 IsOn run past (Closing session end) = ⊤
 IsOn run past (Over end) = ⊤
 
 -- an event that leaves the session keeps it
-pub stays-on : (run : Run) (past : List Event) (event : Event) (session : Session) (before after : Option Ticket) (done : ℕ) → TicketIsFit after → IsOnPath run past session before done → Stays run.setup past event session.handle
-    → IsOnPath run (event ∷ past) session after done
-stays-on run past event session before after done fits on stay = record {
+pub stays-on : (run : Run) (past : List Event) (event : Event) (own : ℕ) (before after : Option Ticket) (done : ℕ) → TicketIsFit after → IsOnPath run past own before done → Stays run.setup past event own
+    → IsOnPath run (event ∷ past) own after done
+stays-on run past event own before after done fits on stay = record {
   slot = on.slot;
   fits = fits;
   held = stay.held ∙ on.held;
@@ -146,12 +143,12 @@ take-more moves done act is =
 moves-more : (moves : List Move) (done : ℕ) (act : Move) → slice_get moves done ≡ Some act → digest_of_moves (take (done + 1) moves) ≡ digest_after act (digest_of_moves (take done moves))
 moves-more moves done act is = ap digest_of_moves (take-more moves done act is) ∙ digest_from-append zero_digest (take done moves) (act ∷ [])
 
-shown-on : (run : Run) (past : List Event) (event : Event) (session : Session) (ticket : Option Ticket) (done : ℕ) (act : Move) (fact : Moment → Fact) → slice_get run.plan.path.moves done ≡ Some act
-    → IsOnPath run past session ticket done → HasShown run.setup past event session.handle fact → update_of (fact (moment_of run.setup past session.handle)).act ≡ update_of act
-    → IsOnPath run (event ∷ past) session None (done + 1)
-shown-on run past event session ticket done act fact at on shown same =
-    let facts = facts_of run.setup past session.handle in
-    let new = fact (moment_of run.setup past session.handle) in
+shown-on : (run : Run) (past : List Event) (event : Event) (own : ℕ) (ticket : Option Ticket) (done : ℕ) (act : Move) (fact : Moment → Fact) → slice_get run.plan.path.moves done ≡ Some act
+    → IsOnPath run past own ticket done → HasShown run.setup past event own fact → update_of (fact (moment_of run.setup past own)).act ≡ update_of act
+    → IsOnPath run (event ∷ past) own None (done + 1)
+shown-on run past event own ticket done act fact at on shown same =
+    let facts = facts_of run.setup past own in
+    let new = fact (moment_of run.setup past own) in
     record {
       slot = on.slot;
       fits = tt;
@@ -165,17 +162,26 @@ shown-on run past event session ticket done act fact at on shown same =
 
 -- ---- what is heard
 
-denied-on : (run : Run) (past : List Event) (session : Session) (sent done at : ℕ) (ticket : Option Ticket) (act : Move) (number code : ℕ) → IsCode code
-    → IsOn run past (goes_on session sent done (move_heard ticket act at (answer_of (reply_reading number (spell_reply (replies.Refused (record { code = code })) None)))))
-denied-on run past session sent done at ticket act number code is =
-    subst (λ answer. IsOn run past (goes_on session sent done (move_heard ticket act at answer))) (sym (refusal-heard number code is)) tt
+denied-on : (run : Run) (past : List Event) (own : ℕ) (nonce : Digest32) (sent done at : ℕ) (ticket : Option Ticket) (act : Move) (number code : ℕ) → IsCode code
+    → IsOn run past (goes_on (record { handle = own; nonce = nonce }) sent done (move_heard ticket act at (answer_of (reply_reading number (spell_reply (replies.Refused (record { code = code })) None)))))
+denied-on run past own nonce sent done at ticket act number code is =
+    subst (λ (read : Option (Reply × Option ReplyAuth)). IsOn run past (goes_on (record { handle = own; nonce = nonce }) sent done (move_heard ticket act at (answer_of read)))) (sym (refusal-read number code is)) tt
 
-accepted-on : (run : Run) (past : List Event) (session : Session) (sent done at : ℕ) (ticket : Option Ticket) (act : Move) (answer : Answer) → is_verification ticket act ≡ false → IsOnPath run past session None (done + 1)
-    → IsOn run past (goes_on session sent done (move_heard ticket act at answer))
-accepted-on run past session sent done at ticket act (Done reply auth) other on =
-    subst (λ b. IsOn run past (goes_on session sent done (if b then verified at reply else Accepted))) (sym other) on
-accepted-on run past session sent done at ticket act (Denied rc) other on = tt
-accepted-on run past session sent done at ticket act Malformed other on = tt
+-- a reply that is no refusal accepts a move
+some-ticket : Ticket
+some-ticket = record { tag = 0; hierarchy = 0; digest = [] }
+
+accepted-reply : (run : Run) (past : List Event) (own : ℕ) (nonce : Digest32) (sent done at : ℕ) (ticket : Option Ticket) (act : Move) (reply : Reply) (auth : Option ReplyAuth) → is_verification ticket act ≡ false → IsOnPath run past own None (done + 1)
+    → IsOn run past (goes_on (record { handle = own; nonce = nonce }) sent done (move_heard ticket act at (answer_of_reply reply auth)))
+unfolding some-ticket
+accepted-reply run past own nonce sent done at ticket act (replies.Refused rc) auth other on = tt
+accepted-reply run past own nonce sent done at ticket act reply auth other on =
+    subst (λ b. IsOn run past (goes_on (record { handle = own; nonce = nonce }) sent done (if b then verified at reply else move_heard (Some some-ticket) (Or []) at (answer_of_reply replies.FlushContext None)))) (sym other) on
+
+accepted-on : (run : Run) (past : List Event) (own : ℕ) (nonce : Digest32) (sent done at : ℕ) (ticket : Option Ticket) (act : Move) (read : Option (Reply × Option ReplyAuth)) → is_verification ticket act ≡ false → IsOnPath run past own None (done + 1)
+    → IsOn run past (goes_on (record { handle = own; nonce = nonce }) sent done (move_heard ticket act at (answer_of read)))
+accepted-on run past own nonce sent done at ticket act None other on = tt
+accepted-on run past own nonce sent done at ticket act (Some found) other on = accepted-reply run past own nonce sent done at ticket act found.0 found.1 other on
 
 goal-on : (run : Run) (past : List Event) (session : ℕ) (end : End) → IsOn run past (after_goal session end)
 goal-on run past session (ends.Served bytes) = tt
@@ -184,14 +190,11 @@ goal-on run past session (ends.BadReply stage) = tt
 
 -- ---- a turn on the path
 
-module _ (run : Run) (is : IsRun run) (past : List Event) (session : Session) (sent done : ℕ) where
-  tables : TableState
-  tables = view_of run.setup past
-
+module _ (run : Run) (is : IsRun run) (past : List Event) (own : ℕ) (nonce : Digest32) (sent done : ℕ) where
   -- a policy command that nothing stops
-  own-done : (ticket : Option Ticket) (act : Move) (command : Command) → slice_get run.plan.path.moves done ≡ Some act → IsOnPath run past session ticket done
-      → IsOwn (view_of run.setup past).world session.handle act command → first_stop (view_of run.setup past) run.locality command ≡ None
-      → IsOnPath run (event_of run.client run.locality (spelling command) (succeeding (view_of run.setup past) (next_number past) command) ∷ past) session None (done + 1)
+  own-done : (ticket : Option Ticket) (act : Move) (command : Command) → slice_get run.plan.path.moves done ≡ Some act → IsOnPath run past own ticket done
+      → IsOwn (view_of run.setup past).world own act command → first_stop (view_of run.setup past) run.locality command ≡ None
+      → IsOnPath run (event_of run.client run.locality (spelling command) (succeeding (view_of run.setup past) (next_number past) command) ∷ past) own None (done + 1)
   unfolding view_of
   own-done ticket act command at on own first =
       let reads = read-back command own.fits in
@@ -201,20 +204,20 @@ module _ (run : Run) (is : IsRun run) (past : List Event) (session : Session) (s
       let deed = done-deed (view_of run.setup past) (next_number past) run.client run.locality (spelling command) command reads
           ∙ ap (λ (o : Option Shown). option_map_or (λ (shown : Shown). Shows shown.0 shown.1) o (plain_deed command (succeeding (view_of run.setup past) (next_number past) command).reply)) shows.is in
       let uses = done-use (view_of run.setup past) (next_number past) run.client run.locality (spelling command) command reads ∙ password-use (area_of command) own.area in
-      shown-on run past _ session ticket done act shows.fact at on (has-shown run.setup past _ session.handle shows.fact deed uses)
-      (shows.same (moment_of run.setup past session.handle) refl)
+      shown-on run past _ own ticket done act shows.fact at on (has-shown run.setup past _ own shows.fact deed uses)
+      (shows.same (moment_of run.setup past own) refl)
 
-  own-turn : (ticket : Option Ticket) (act : Move) (command : Command) (number : ℕ) → slice_get run.plan.path.moves done ≡ Some act → IsOnPath run past session ticket done → is_verification ticket act ≡ false
-      → IsOwn (view_of run.setup past).world session.handle act command
-      → IsOn run (event_in run past command ∷ past) (goes_on session sent done (move_heard ticket act (done + 1) (answer_of (reply_reading number (answer_in run past command).reply))))
+  own-turn : (ticket : Option Ticket) (act : Move) (command : Command) (number : ℕ) → slice_get run.plan.path.moves done ≡ Some act → IsOnPath run past own ticket done → is_verification ticket act ≡ false
+      → IsOwn (view_of run.setup past).world own act command
+      → IsOn run (event_in run past command ∷ past) (goes_on (record { handle = own; nonce = nonce }) sent done (move_heard ticket act (done + 1) (answer_of (reply_reading number (answer_in run past command).reply))))
   own-turn ticket act command number at on other own =
-      on-answer (λ a. IsOn run (event_of run.client run.locality (spelling command) a ∷ past) (goes_on session sent done (move_heard ticket act (done + 1) (answer_of (reply_reading number a.reply)))))
+      on-answer (λ a. IsOn run (event_of run.client run.locality (spelling command) a ∷ past) (goes_on (record { handle = own; nonce = nonce }) sent done (move_heard ticket act (done + 1) (answer_of (reply_reading number a.reply)))))
       (view_of run.setup past) (next_number past) run.locality (spelling command) command (read-back command own.fits)
-      (λ stop stops. denied-on run _ session sent done (done + 1) ticket act number stop.code
+      (λ stop stops. denied-on run _ own nonce sent done (done + 1) ticket act number stop.code
       (stop-code (first_stop (view_of run.setup past) run.locality command) stop
       (first-coded (view_of run.setup past) run.locality command
       (subst HasCode (sym (own-is-policy (view_of run.setup past) command own.policy)) (policy-own-coded (view_of run.setup past) command))) stops))
-      (λ first. accepted-on run _ session sent done (done + 1) ticket act _ other (own-done ticket act command at on own first))
+      (λ first. accepted-on run _ own nonce sent done (done + 1) ticket act _ other (own-done ticket act command at on own first))
 
 -- ---- VerifySignature, which makes the ticket
 
@@ -232,7 +235,7 @@ ticket-reply ticket fits = ((fits, tt), refl)
 pub record Verifies (reply : List ℕ) : Type 0 where
   pub ticket : Ticket
   pub fits : TicketFits ticket
-  pub heard : answer_of (reply_reading (number_of_code codes.VerifySignature) reply) ≡ Done (replies.VerifySignature ticket) None
+  pub reads : reply_reading (number_of_code codes.VerifySignature) reply ≡ Some (replies.VerifySignature ticket, None)
 
 verifies : (tables : TableState) (number key : ℕ) (digest signature : Digest32) → verification.rule tables.world key digest signature ≡ None
     → Verifies (succeeding tables number (commands.VerifySignature key digest signature)).reply
@@ -247,15 +250,15 @@ verifies tables number key digest signature rule =
     record {
       ticket = ticket;
       fits = fits;
-      heard = ap answer_of (ap (λ (r : Reply). reply_reading (number_of_code codes.VerifySignature) (spell_reply r None)) same ∙ read);
+      reads = ap (λ (r : Reply). reply_reading (number_of_code codes.VerifySignature) (spell_reply r None)) same ∙ read;
     }
 
-module _ (run : Run) (is : IsRun run) (past : List Event) (session : Session) (sent done : ℕ) where
-  verify-done : (key : Name) (policy_ref : List ℕ) (approved signature : Digest32) (handle : ℕ) (digest : Digest32) → IsOnPath run past session None done
+module _ (run : Run) (is : IsRun run) (past : List Event) (own : ℕ) (nonce : Digest32) (sent done : ℕ) where
+  verify-done : (key : Name) (policy_ref : List ℕ) (approved signature : Digest32) (handle : ℕ) (digest : Digest32) → IsOnPath run past own None done
       → FitsCommand (commands.VerifySignature handle digest signature)
       → first_stop (view_of run.setup past) run.locality (commands.VerifySignature handle digest signature) ≡ None
       → IsOn run (event_of run.client run.locality (spelling (commands.VerifySignature handle digest signature)) (succeeding (view_of run.setup past) (next_number past) (commands.VerifySignature handle digest signature)) ∷ past)
-      (goes_on session sent done (move_heard None (Approve key policy_ref approved signature) (done + 1)
+      (goes_on (record { handle = own; nonce = nonce }) sent done (move_heard None (Approve key policy_ref approved signature) (done + 1)
       (answer_of (reply_reading (number_of_code codes.VerifySignature) (succeeding (view_of run.setup past) (next_number past) (commands.VerifySignature handle digest signature)).reply))))
   verify-done key policy_ref approved signature handle digest on fits first =
       let command : Command = commands.VerifySignature handle digest signature in
@@ -263,22 +266,22 @@ module _ (run : Run) (is : IsRun run) (past : List Event) (session : Session) (s
       let rule = own-passed (view_of run.setup past) run.locality (commands.VerifySignature handle digest signature) first in
       let it = verifies (view_of run.setup past) (next_number past) handle digest signature rule in
       let event = event_of run.client run.locality (spelling command) (succeeding (view_of run.setup past) (next_number past) command) in
-      let stay = stays run.setup past event session.handle
-          (ap (λ d. touches d session.handle) (done-deed (view_of run.setup past) (next_number past) run.client run.locality (spelling command) command reads))
-          (ap (λ u. touches_by_use u session.handle) (done-use (view_of run.setup past) (next_number past) run.client run.locality (spelling command) command reads)) in
-      subst (λ answer. IsOn run (event ∷ past) (goes_on session sent done (move_heard None (Approve key policy_ref approved signature) (done + 1) answer))) (sym it.heard)
-      (stays-on run past event session None (Some it.ticket) done it.fits on stay)
+      let stay = stays run.setup past event own
+          (ap (λ d. touches d own) (done-deed (view_of run.setup past) (next_number past) run.client run.locality (spelling command) command reads))
+          (ap (λ u. touches_by_use u own) (done-use (view_of run.setup past) (next_number past) run.client run.locality (spelling command) command reads)) in
+      subst (λ (read : Option (Reply × Option ReplyAuth)). IsOn run (event ∷ past) (goes_on (record { handle = own; nonce = nonce }) sent done (move_heard None (Approve key policy_ref approved signature) (done + 1) (answer_of read)))) (sym it.reads)
+      (stays-on run past event own None (Some it.ticket) done it.fits on stay)
 
-  verify-turn : (key : Name) (policy_ref : List ℕ) (approved signature : Digest32) (handle : ℕ) (digest : Digest32) → IsOnPath run past session None done
+  verify-turn : (key : Name) (policy_ref : List ℕ) (approved signature : Digest32) (handle : ℕ) (digest : Digest32) → IsOnPath run past own None done
       → FitsCommand (commands.VerifySignature handle digest signature)
       → IsOn run (event_in run past (commands.VerifySignature handle digest signature) ∷ past)
-      (goes_on session sent done (move_heard None (Approve key policy_ref approved signature) (done + 1)
+      (goes_on (record { handle = own; nonce = nonce }) sent done (move_heard None (Approve key policy_ref approved signature) (done + 1)
       (answer_of (reply_reading (number_of_code codes.VerifySignature) (answer_in run past (commands.VerifySignature handle digest signature)).reply))))
   verify-turn key policy_ref approved signature handle digest on fits =
       let command : Command = commands.VerifySignature handle digest signature in
-      on-answer (λ a. IsOn run (event_of run.client run.locality (spelling command) a ∷ past) (goes_on session sent done (move_heard None (Approve key policy_ref approved signature) (done + 1) (answer_of (reply_reading (number_of_code codes.VerifySignature) a.reply)))))
+      on-answer (λ a. IsOn run (event_of run.client run.locality (spelling command) a ∷ past) (goes_on (record { handle = own; nonce = nonce }) sent done (move_heard None (Approve key policy_ref approved signature) (done + 1) (answer_of (reply_reading (number_of_code codes.VerifySignature) a.reply)))))
       (view_of run.setup past) (next_number past) run.locality (spelling command) command (read-back (commands.VerifySignature handle digest signature) fits)
-      (λ stop stops. denied-on run _ session sent done (done + 1) None (Approve key policy_ref approved signature) (number_of_code codes.VerifySignature) stop.code
+      (λ stop stops. denied-on run _ own nonce sent done (done + 1) None (Approve key policy_ref approved signature) (number_of_code codes.VerifySignature) stop.code
       (stop-code (first_stop (view_of run.setup past) run.locality command) stop
       (first-coded (view_of run.setup past) run.locality command (verify-coded (view_of run.setup past).world handle digest signature)) stops))
       (λ first. verify-done key policy_ref approved signature handle digest on fits first)
@@ -295,42 +298,42 @@ asks-view : (setup : Setup) (past : List Event) (command : Command) → AsksWrit
 unfolding view_of world_at
 asks-view setup past command asks = asks
 
-module _ (run : Run) (is : IsRun run) (past : List Event) (session : Session) (sent done : ℕ) where
-  own-step : (ticket : Option Ticket) (act : Move) → slice_get run.plan.path.moves done ≡ Some act → IsOnPath run past session ticket done
+module _ (run : Run) (is : IsRun run) (past : List Event) (own : ℕ) (nonce : Digest32) (sent done : ℕ) where
+  own-step : (ticket : Option Ticket) (act : Move) → slice_get run.plan.path.moves done ≡ Some act → IsOnPath run past own ticket done
       → MoveHasBounds act → is_known_move (directory_of run.setup) run.plan.grants act ≡ true → is_verification ticket act ≡ false
-      → AsksWritten (indices_of run.setup past) (command_of_move (directory_of run.setup) run.plan.grants session ticket act)
-      → IsOn run (event_in run past (command_of_move (directory_of run.setup) run.plan.grants session ticket act) ∷ past)
-      (goes_on session sent done (move_heard ticket act (done + 1) (answer_of (reply_reading (number_of_code (code_of_command (command_of_move (directory_of run.setup) run.plan.grants session ticket act)))
-      (answer_in run past (command_of_move (directory_of run.setup) run.plan.grants session ticket act)).reply))))
+      → AsksWritten (indices_of run.setup past) (command_of_move (directory_of run.setup) run.plan.grants (record { handle = own; nonce = nonce }) ticket act)
+      → IsOn run (event_in run past (command_of_move (directory_of run.setup) run.plan.grants (record { handle = own; nonce = nonce }) ticket act) ∷ past)
+      (goes_on (record { handle = own; nonce = nonce }) sent done (move_heard ticket act (done + 1) (answer_of (reply_reading (number_of_code (code_of_command (command_of_move (directory_of run.setup) run.plan.grants (record { handle = own; nonce = nonce }) ticket act)))
+      (answer_in run past (command_of_move (directory_of run.setup) run.plan.grants (record { handle = own; nonce = nonce }) ticket act)).reply))))
   own-step ticket act at on bounds known other asks =
-      own-turn run is past session sent done ticket act (command_of_move (directory_of run.setup) run.plan.grants session ticket act) _ at on other
-      (own-move run.setup is.setup (view_of run.setup past).world (is-of run.setup past) run.plan.grants is.grants session on.slot ticket act on.fits bounds known other (asks-view run.setup past _ asks))
+      own-turn run is past own nonce sent done ticket act (command_of_move (directory_of run.setup) run.plan.grants (record { handle = own; nonce = nonce }) ticket act) _ at on other
+      (own-move run.setup is.setup (view_of run.setup past).world (is-of run.setup past) run.plan.grants is.grants own nonce on.slot ticket act on.fits bounds known other (asks-view run.setup past _ asks))
 
-  move-step : (ticket : Option Ticket) (act : Move) → slice_get run.plan.path.moves done ≡ Some act → IsOnPath run past session ticket done
+  move-step : (ticket : Option Ticket) (act : Move) → slice_get run.plan.path.moves done ≡ Some act → IsOnPath run past own ticket done
       → MoveHasBounds act → is_known_move (directory_of run.setup) run.plan.grants act ≡ true
-      → AsksWritten (indices_of run.setup past) (command_of_move (directory_of run.setup) run.plan.grants session ticket act)
-      → IsOn run (event_in run past (command_of_move (directory_of run.setup) run.plan.grants session ticket act) ∷ past)
-      (goes_on session sent done (move_heard ticket act (done + 1) (answer_of (reply_reading (number_of_code (code_of_command (command_of_move (directory_of run.setup) run.plan.grants session ticket act)))
-      (answer_in run past (command_of_move (directory_of run.setup) run.plan.grants session ticket act)).reply))))
+      → AsksWritten (indices_of run.setup past) (command_of_move (directory_of run.setup) run.plan.grants (record { handle = own; nonce = nonce }) ticket act)
+      → IsOn run (event_in run past (command_of_move (directory_of run.setup) run.plan.grants (record { handle = own; nonce = nonce }) ticket act) ∷ past)
+      (goes_on (record { handle = own; nonce = nonce }) sent done (move_heard ticket act (done + 1) (answer_of (reply_reading (number_of_code (code_of_command (command_of_move (directory_of run.setup) run.plan.grants (record { handle = own; nonce = nonce }) ticket act)))
+      (answer_in run past (command_of_move (directory_of run.setup) run.plan.grants (record { handle = own; nonce = nonce }) ticket act)).reply))))
   move-step None (Approve key policy_ref approved signature) at on bounds known asks =
-      verify-turn run is past session sent done key policy_ref approved signature (key_handle (directory_of run.setup) key) (sha256_digest (approved.bytes ++ policy_ref)) on
-      (verify-fits run is past session sent done key (sha256_digest (approved.bytes ++ policy_ref)) signature (object_of_name (directory_of run.setup) key) refl known)
+      verify-turn run is past own nonce sent done key policy_ref approved signature (key_handle (directory_of run.setup) key) (sha256_digest (approved.bytes ++ policy_ref)) on
+      (verify-fits run is past own nonce sent done key (sha256_digest (approved.bytes ++ policy_ref)) signature (object_of_name (directory_of run.setup) key) refl known)
   move-step None (Assert assertion) at on bounds known asks = own-step None (Assert assertion) at on bounds known refl asks
   move-step None (Or digests) at on bounds known asks = own-step None (Or digests) at on bounds known refl asks
   move-step None (ApproveNv index approved) at on bounds known asks = own-step None (ApproveNv index approved) at on bounds known refl asks
   move-step (Some ticket) act at on bounds known asks = own-step (Some ticket) act at on bounds known refl asks
 
   -- with the plan's directory, which is the setup's
-  move-in : (directory : List DirEntry) → directory_of run.setup ≡ directory → (ticket : Option Ticket) (act : Move) → slice_get run.plan.path.moves done ≡ Some act → IsOnPath run past session ticket done
-      → MoveHasBounds act → is_known_move directory run.plan.grants act ≡ true → AsksWritten (indices_of run.setup past) (command_of_move directory run.plan.grants session ticket act)
-      → IsOn run (event_in run past (command_of_move directory run.plan.grants session ticket act) ∷ past)
-      (goes_on session sent done (move_heard ticket act (done + 1) (answer_of (reply_reading (number_of_code (code_of_command (command_of_move directory run.plan.grants session ticket act)))
-      (answer_in run past (command_of_move directory run.plan.grants session ticket act)).reply))))
+  move-in : (directory : List DirEntry) → directory_of run.setup ≡ directory → (ticket : Option Ticket) (act : Move) → slice_get run.plan.path.moves done ≡ Some act → IsOnPath run past own ticket done
+      → MoveHasBounds act → is_known_move directory run.plan.grants act ≡ true → AsksWritten (indices_of run.setup past) (command_of_move directory run.plan.grants (record { handle = own; nonce = nonce }) ticket act)
+      → IsOn run (event_in run past (command_of_move directory run.plan.grants (record { handle = own; nonce = nonce }) ticket act) ∷ past)
+      (goes_on (record { handle = own; nonce = nonce }) sent done (move_heard ticket act (done + 1) (answer_of (reply_reading (number_of_code (code_of_command (command_of_move directory run.plan.grants (record { handle = own; nonce = nonce }) ticket act)))
+      (answer_in run past (command_of_move directory run.plan.grants (record { handle = own; nonce = nonce }) ticket act)).reply))))
   move-in directory same ticket act at on bounds =
-      subst (λ (d : List DirEntry). is_known_move d run.plan.grants act ≡ true → AsksWritten (indices_of run.setup past) (command_of_move d run.plan.grants session ticket act)
-      → IsOn run (event_in run past (command_of_move d run.plan.grants session ticket act) ∷ past)
-      (goes_on session sent done (move_heard ticket act (done + 1) (answer_of (reply_reading (number_of_code (code_of_command (command_of_move d run.plan.grants session ticket act)))
-      (answer_in run past (command_of_move d run.plan.grants session ticket act)).reply))))) same
+      subst (λ (d : List DirEntry). is_known_move d run.plan.grants act ≡ true → AsksWritten (indices_of run.setup past) (command_of_move d run.plan.grants (record { handle = own; nonce = nonce }) ticket act)
+      → IsOn run (event_in run past (command_of_move d run.plan.grants (record { handle = own; nonce = nonce }) ticket act) ∷ past)
+      (goes_on (record { handle = own; nonce = nonce }) sent done (move_heard ticket act (done + 1) (answer_of (reply_reading (number_of_code (code_of_command (command_of_move d run.plan.grants (record { handle = own; nonce = nonce }) ticket act)))
+      (answer_in run past (command_of_move d run.plan.grants (record { handle = own; nonce = nonce }) ticket act)).reply))))) same
       (move-step ticket act at on bounds)
 
   known-at : (act : Move) → slice_get run.plan.path.moves done ≡ Some act → is_known_move run.plan.directory run.plan.grants act ≡ true
@@ -339,11 +342,11 @@ module _ (run : Run) (is : IsRun run) (past : List Event) (session : Session) (s
       all-at (λ (a : Move). is_known_move run.plan.directory run.plan.grants a ≡ true) run.plan.path.moves done act
       (All-from_recursion (λ (a : Move). is_known_move run.plan.directory run.plan.grants a ≡ true) run.plan.path.moves (tests (is_known_move run.plan.directory run.plan.grants) run.plan.path.moves both.1)) at
 
-  path-turn : (ticket : Option Ticket) (o : Option Move) → slice_get run.plan.path.moves done ≡ o → IsOnPath run past session ticket done
-      → AsksWritten (indices_of run.setup past) (next_command run.plan session sent ticket o)
-      → IsOn run (event_in run past (next_command run.plan session sent ticket o) ∷ past)
-      (heard_on_path run.plan session sent ticket done o (answer_of (reply_reading (number_of_code (code_of_command (next_command run.plan session sent ticket o))) (answer_in run past (next_command run.plan session sent ticket o)).reply)))
-  path-turn ticket None at on asks = goal-on run _ session.handle (goal_heard run.plan sent _)
+  path-turn : (ticket : Option Ticket) (o : Option Move) → slice_get run.plan.path.moves done ≡ o → IsOnPath run past own ticket done
+      → AsksWritten (indices_of run.setup past) (next_command run.plan (record { handle = own; nonce = nonce }) sent ticket o)
+      → IsOn run (event_in run past (next_command run.plan (record { handle = own; nonce = nonce }) sent ticket o) ∷ past)
+      (heard_on_path run.plan (record { handle = own; nonce = nonce }) sent ticket done o (answer_of (reply_reading (number_of_code (code_of_command (next_command run.plan (record { handle = own; nonce = nonce }) sent ticket o))) (answer_in run past (next_command run.plan (record { handle = own; nonce = nonce }) sent ticket o)).reply)))
+  path-turn ticket None at on asks = goal-on run _ own (goal_heard run.plan sent _)
   path-turn ticket (Some act) at on asks =
       move-in run.plan.directory (sym is.directory) ticket act at on (all-at MoveHasBounds run.plan.path.moves done act is.moves at) (known-at act at) asks
 
@@ -362,7 +365,7 @@ module _ (run : Run) (is : IsRun run) (past : List Event) where
       let has = has-started run.setup past event (handle_of_slot start.slot)
           (done-deed (view_of run.setup past) (next_number past) run.client run.locality (spelling (start_command seed)) (start_command seed) reads ∙ start.is.deed)
           (done-use (view_of run.setup past) (next_number past) run.client run.locality (spelling (start_command seed)) (start_command seed) reads) in
-      subst (λ answer. IsOn run (event ∷ past) (start_heard answer)) (sym (ap answer_of start.is.reads))
+      subst (λ (read : Option (Reply × Option ReplyAuth)). IsOn run (event ∷ past) (start_heard (answer_of read))) (sym start.is.reads)
       (record {
         slot = (omega arith, omega (arith, within));
         fits = tt;
@@ -375,8 +378,8 @@ module _ (run : Run) (is : IsRun run) (past : List Event) where
   start-turn seed =
       on-answer (λ a. IsOn run (event_of run.client run.locality (spelling (start_command seed)) a ∷ past) (start_heard (answer_of (reply_reading (number_of_code codes.StartAuthSession) a.reply))))
       (view_of run.setup past) (next_number past) run.locality (spelling (start_command seed)) (start_command seed) (read-back (start_command seed) (fits-start seed))
-      (λ stop stops. subst (λ answer. IsOn run (event_of run.client run.locality (spelling (start_command seed)) (stopped stop) ∷ past) (start_heard answer))
-      (sym (refusal-heard (number_of_code codes.StartAuthSession) stop.code
+      (λ stop stops. subst (λ (read : Option (Reply × Option ReplyAuth)). IsOn run (event_of run.client run.locality (spelling (start_command seed)) (stopped stop) ∷ past) (start_heard (answer_of read)))
+      (sym (refusal-read (number_of_code codes.StartAuthSession) stop.code
       (stop-code (first_stop (view_of run.setup past) run.locality (start_command seed)) stop
       (first-coded (view_of run.setup past) run.locality (start_command seed) (start-coded (view_of run.setup past))) stops))) tt)
       (λ first. start-done seed first)
@@ -386,13 +389,13 @@ module _ (run : Run) (is : IsRun run) (past : List Event) where
   turn-on : (standing : Standing) → IsOn run past standing → SendsOnWritten (indices_of run.setup past) (sends run.plan standing)
       → IsOn run (turned run (record { past = past; standing = standing }) (sends run.plan standing)).past (turned run (record { past = past; standing = standing }) (sends run.plan standing)).standing
   turn-on Starting on asks = start-turn run.plan.nonce_seed
-  turn-on (Moving session sent ticket done) on asks = path-turn run is past session sent done ticket (slice_get run.plan.path.moves done) refl on asks
+  turn-on (Moving session sent ticket done) on asks = path-turn run is past session.handle session.nonce sent done ticket (slice_get run.plan.path.moves done) refl on asks
   turn-on (Closing session end) on asks = tt
   turn-on (Over end) on asks = tt
 
   other-on : (standing : Standing) (call : Call) → IsOn run past standing → LeavesAlone (Other call) standing → IsOn run (event_by run.setup past call ∷ past) standing
   other-on Starting call on leaves = tt
-  other-on (Moving session sent ticket done) call on leaves = stays-on run past _ session ticket ticket done on.fits on (others-stay run.setup past session.handle call on.held leaves)
+  other-on (Moving session sent ticket done) call on leaves = stays-on run past _ session.handle ticket ticket done on.fits on (others-stay run.setup past session.handle call on.held leaves)
   other-on (Closing session end) call on leaves = tt
   other-on (Over end) call on leaves = tt
 
@@ -407,11 +410,19 @@ unfolding after_acts AreOthersApart AreSecretsOnWritten
 acts-on run is [] course on apart asks = on
 acts-on run is (act ∷ acts) course on apart asks = acts-on run is acts (after_act run course act) (act-on run is course act on apart.0 asks.0) apart.1 asks.1
 
-pub path-digest : (run : Run) (past : List Event) (acts : List Act) (session : Session) (sent : ℕ) (ticket : Option Ticket) (done : ℕ)
+-- what holds where the run is on its path
+place-digest : (run : Run) (past : List Event) (standing : Standing) (own done : ℕ) → IsOn run past standing → place_of standing ≡ Some (own, done)
+    → digest_of_moves (moves_of_facts (facts_of run.setup past own)) ≡ digest_of_moves (take done run.plan.path.moves)
+place-digest run past Starting own done on at = absurd (none-some (own, done) at)
+place-digest run past (Moving session sent ticket now) own done on at =
+    let same : (session.handle, now) ≡ (own, done) = same_Some _ _ at in
+    subst (λ (place : ℕ × ℕ). digest_of_moves (moves_of_facts (facts_of run.setup past place.0)) ≡ digest_of_moves (take place.1 run.plan.path.moves)) same on.digest
+place-digest run past (Closing session end) own done on at = absurd (none-some (own, done) at)
+place-digest run past (Over end) own done on at = absurd (none-some (own, done) at)
+
+pub path-digest : (run : Run) (past : List Event) (acts : List Act) (session done : ℕ)
     → IsRun run → AreOthersApart run acts (begun past) → AreSecretsOnWritten run acts (begun past)
-    → (after_acts run acts (begun past)).standing ≡ Moving session sent ticket done
-    → digest_of_moves (moves_of_facts (facts_of run.setup (after_acts run acts (begun past)).past session.handle)) ≡ digest_of_moves (take done run.plan.path.moves)
-path-digest run past acts session sent ticket done is apart asks stands =
-    let on : IsOnPath run (after_acts run acts (begun past)).past session ticket done =
-    subst (λ (standing : Standing). IsOn run (after_acts run acts (begun past)).past standing) stands (acts-on run is acts (begun past) tt apart asks) in
-    on.digest
+    → place_of (after_acts run acts (begun past)).standing ≡ Some (session, done)
+    → digest_of_moves (moves_of_facts (facts_of run.setup (after_acts run acts (begun past)).past session)) ≡ digest_of_moves (take done run.plan.path.moves)
+path-digest run past acts session done is apart asks at =
+    place-digest run (after_acts run acts (begun past)).past (after_acts run acts (begun past)).standing session done (acts-on run is acts (begun past) tt apart asks) at

@@ -45,6 +45,13 @@ session_of (Moving session sent ticket done) = Some session.handle
 session_of (Closing session end) = Some session
 session_of (Over end) = None
 
+-- while a run is on its path: its session, and how many of its moves are done
+abbrev pub place_of : Standing → Option (ℕ × ℕ)
+place_of Starting = None
+place_of (Moving session sent ticket done) = Some (session.handle, done)
+place_of (Closing session end) = None
+place_of (Over end) = None
+
 abbrev pub LeavesSession : Call → ℕ → Type 0
 LeavesSession (Execute client locality buffer) session = names_in (reading buffer) session ≡ false
 LeavesSession (Advance ms) session = ⊤
@@ -52,8 +59,8 @@ LeavesSession (SetPresence on) session = ⊤
 LeavesSession Reset session = ⊥
 
 abbrev pub LeavesAlone : Act → Standing → Type 0
-LeavesAlone Turn standing = ⊤
-LeavesAlone (Other call) standing = IfSome (session_of standing) (LeavesSession call)
+LeavesAlone Turn at = ⊤
+LeavesAlone (Other call) at = IfSome (session_of at) (LeavesSession call)
 
 -- from where the run is, all along
 unfoldable pub AreOthersApart : Run → List Act → Course → Type 0

@@ -1,19 +1,16 @@
 //! What the definitions promise together: functions without a body, whose clauses are the laws.
 
-ghost use Rattle.std.specs.Prelude.{◌≡◌, ℕ, List, Option, None, length, take};
+ghost use Rattle.std.specs.Prelude.{◌≡◌, ℕ, List, Some, length, take};
 ghost use Rattle.std.specs.List.{Contains};
 ghost use Rattle.tpol_digest.specs.Digest.{digest_of_moves, policy_digest};
 ghost use Rattle.tpol_digest.specs.Paths.{paths_of};
 ghost use Rattle.tpol_digest.specs.Sound.{moves_of_facts};
-ghost use Rattle.tpol_driver.specs.Driving.{Moving};
-ghost use Rattle.tpol_driver.specs.declared.session.Session.{Session};
 ghost use Rattle.tpol_tree.specs.declared.closed.Closed.{Closed};
 ghost use Rattle.tpol_tree.specs.declared.path.ApprovedDoc.{ApprovedDoc};
-ghost use Rattle.tpol_wire.specs.declared.ticket.Ticket.{Ticket};
 ghost use Rattle.tpm_engine.specs.declared.event.Event.{Event as EventOf};
 ghost use Rattle.tpm_engine.specs.Views.{facts_of};
 ghost use Rattle.tpol_laws.specs.Acts.{Act, Run, after_acts, begun};
-ghost use Rattle.tpol_laws.specs.Others.{AreOthersApart, AreSecretsOnWritten};
+ghost use Rattle.tpol_laws.specs.Others.{AreOthersApart, AreSecretsOnWritten, place_of};
 ghost use Rattle.tpol_laws.specs.Runs.{IsRun};
 
 /// While the commands of a run succeed, no event of anybody else names its session, no Reset comes, and each
@@ -22,12 +19,12 @@ ghost use Rattle.tpol_laws.specs.Runs.{IsRun};
 /// which is the compiled digest of the policy. Where a command of the run does not succeed, the run does not
 /// stand on its path any more.
 pub fn session_digest_is_compiled()
-    ensures path { (run : Run) (past : List EventOf) (acts : List Act) (session : Session) (sent : ℕ) (ticket : Option Ticket) (done : ℕ)
+    ensures path { (run : Run) (past : List EventOf) (acts : List Act) (session done : ℕ)
         → IsRun run → AreOthersApart run acts (begun past) → AreSecretsOnWritten run acts (begun past)
-        → (after_acts run acts (begun past)).standing ≡ Moving session sent ticket done
-        → digest_of_moves (moves_of_facts (facts_of run.setup (after_acts run acts (begun past)).past session.handle)) ≡ digest_of_moves (take done run.plan.path.moves) }
-    ensures compiled { (run : Run) (past : List EventOf) (acts : List Act) (session : Session) (sent : ℕ) (policy : Closed) (approvals : List ApprovedDoc)
+        → place_of (after_acts run acts (begun past)).standing ≡ Some (session, done)
+        → digest_of_moves (moves_of_facts (facts_of run.setup (after_acts run acts (begun past)).past session)) ≡ digest_of_moves (take done run.plan.path.moves) }
+    ensures compiled { (run : Run) (past : List EventOf) (acts : List Act) (session : ℕ) (policy : Closed) (approvals : List ApprovedDoc)
         → IsRun run → Contains (paths_of policy approvals) run.plan.path → AreOthersApart run acts (begun past) → AreSecretsOnWritten run acts (begun past)
-        → (after_acts run acts (begun past)).standing ≡ Moving session sent None (length run.plan.path.moves)
-        → digest_of_moves (moves_of_facts (facts_of run.setup (after_acts run acts (begun past)).past session.handle)) ≡ policy_digest policy }
+        → place_of (after_acts run acts (begun past)).standing ≡ Some (session, length run.plan.path.moves)
+        → digest_of_moves (moves_of_facts (facts_of run.setup (after_acts run acts (begun past)).past session)) ≡ policy_digest policy }
 {}

@@ -1,4 +1,24 @@
-//! What holds of whole runs, over the definitions of the machine and of the driver alone.
+//! What holds of whole runs: laws over the definitions of the machine, of the driver and of digests, which no
+//! single call can say.
+//!
+//! Each law is a function without a body, whose clauses are the law. The definitions that a law names are those
+//! of the contracts of calls that the program makes: what the machine answers and what a journal tells
+//! (`answer_to`, `facts_of` of tpm_engine, which `Machine::execute` ensures), what a run sends and hears (`sends`,
+//! `hears` of tpol_driver, which the states ensure), the paths of a policy and digests (tpol_digest). A law's
+//! premises are met by clauses of those who begin a run:
+//!
+//! `session_digest_is_compiled`
+//! - `IsRun.setup`, `IsRun.grants`: the clauses of `read_scene` on its setup and on its clients' grants.
+//! - `IsRun.directory`: a plan's directory is that of the scene's setup, which `directory` ensures.
+//! - `IsRun.moves`: `paths_have_bounds`, from the bounds that `fill` keeps of what `read_policy` read.
+//! - `IsRun.complete`: `Plan::complete`, which `Planned::new` asks for; a path that can has no `NoEntity` and no
+//!   `NoKey`, and is not outside.
+//! - `AreOthersApart`: nobody else names the run's session between, and no TPM Reset comes.
+//! - `AreSecretsOnWritten`: each index on which a PolicySecret of the run is executed is written at that moment.
+//!   Without it the law is false: PolicySecret hashes the Name that the index has now, and a policy names the
+//!   index once it is written.
+//!
+//! That the commands of the run succeed is no premise of its own: a run stands on its path as long as they do.
 #![tactic(auto)]
 
 mod laws;
