@@ -47,7 +47,7 @@ session-handle handle slot =
     let last : handle < 0x03000000 + 64 = slot.1 in
     record { low = omega (arith, last); kind = grind (arith, nat_tests, first, last) }
 
-index-kind : (handle : ℕ) → 0x01000000 ≤ handle → handle ≤ 0x01ffffff → is_index handle ≡ true
+pub index-kind : (handle : ℕ) → 0x01000000 ≤ handle → handle ≤ 0x01ffffff → is_index handle ≡ true
 index-kind handle low high = grind (arith, nat_tests, low, high)
 
 object-kind : (handle : ℕ) → 0x80000000 ≤ handle → handle ≤ 0x80ffffff → is_object handle ≡ true

@@ -2,6 +2,7 @@
 -- keeps it.
 use Rattle.std.proofs.Common.{◌≡◌, ℕ, suc, ◌+◌, ◌<◌, ◌≤◌, Bool, true, false, List, [], ◌∷◌, ◌++◌, length, map, not, take, get_or, refl, ap, sym, subst, ◌∙◌, add-one, arith}
 use Rattle.std.specs.Prelude.{Option, Some, None, IfSome, All, is_some, option_map, slice_get, if◌then◌else◌, ⊤}
+use Rattle.std.specs.Int.{to_be_bytes, w64}
 use Rattle.std.specs.List.{AllByRecursion, list_all}
 use Rattle.std.proofs.lemmas.List.Elements.{All-from_recursion}
 use Rattle.std.specs.Option.{option_and_then, option_map_or}
@@ -47,6 +48,7 @@ use Rattle.tpol_wire.specs.Kinds.{Fits, TicketFits}
 use Rattle.tpol_wire.specs.Replies.{FitsReply, spell_reply}
 use Rattle.tpol_wire.specs.ReplyReading.{reply_reading}
 use Rattle.tpol_wire.proofs.ReplyLaws.{reply_read}
+use Rattle.tpm_nv.specs.Indices.{count_after}
 use Rattle.tpm_session.specs.Slots.{IsSlotHandle, handle_of_slot}
 use Rattle.tpm_world.specs.Handles.{area_of, is_policy_command}
 use Rattle.tpm_world.specs.Objects.{object_of}
@@ -88,7 +90,7 @@ deed-areas (Shifts on) indices = refl
 deed-areas Resets indices = refl
 deed-areas (Extends pcr digest) indices = refl
 deed-areas (Writes index offset bytes) indices = areas-written index offset bytes indices
-deed-areas (Increments index) indices = areas-written index 0 _ indices
+deed-areas (Increments index) indices = areas-written index 0 (to_be_bytes w64 (count_after index indices)) indices
 deed-areas (Starts session) indices = refl
 deed-areas (EndsDeed session) indices = refl
 deed-areas (Restarts session) indices = refl
@@ -136,7 +138,7 @@ digest-more facts fact = ap digest_of_moves (map-append (λ (f : Fact). f.act) f
 
 take-more : (moves : List Move) (done : ℕ) (act : Move) → slice_get moves done ≡ Some act → take (done + 1) moves ≡ take done moves ++ act ∷ []
 take-more moves done act is =
-    ap (λ n. take n moves) add-one
+    ap (λ n. take n moves) (add-one done)
     ∙ take-suc moves done act (slice_get_within moves done act is)
     ∙ ap (λ a. take done moves ++ a ∷ []) (get_or_from_slice_get moves done act act is)
 
@@ -196,28 +198,28 @@ module _ (run : Run) (is : IsRun run) (past : List Event) (own : ℕ) (nonce : D
       → IsOwn (view_of run.setup past).world own act command → first_stop (view_of run.setup past) run.locality command ≡ None
       → IsOnPath run (event_of run.client run.locality (spelling command) (succeeding (view_of run.setup past) (next_number past) command) ∷ past) own None (done + 1)
   unfolding view_of
-  own-done ticket act command at on own first =
-      let reads = read-back command own.fits in
+  own-done ticket act command at on made first =
+      let reads = read-back command made.fits in
       let rule = own-passed (view_of run.setup past) run.locality command first in
-      let passed = rule-passed (view_of run.setup past) command own.policy rule in
-      let shows = own.shows passed.state passed.holds in
+      let passed = rule-passed (view_of run.setup past) command made.policy rule in
+      let shows = made.shows passed.state passed.holds in
       let deed = done-deed (view_of run.setup past) (next_number past) run.client run.locality (spelling command) command reads
           ∙ ap (λ (o : Option Shown). option_map_or (λ (shown : Shown). Shows shown.0 shown.1) o (plain_deed command (succeeding (view_of run.setup past) (next_number past) command).reply)) shows.is in
-      let uses = done-use (view_of run.setup past) (next_number past) run.client run.locality (spelling command) command reads ∙ password-use (area_of command) own.area in
+      let uses = done-use (view_of run.setup past) (next_number past) run.client run.locality (spelling command) command reads ∙ password-use (area_of command) made.area in
       shown-on run past _ own ticket done act shows.fact at on (has-shown run.setup past _ own shows.fact deed uses)
       (shows.same (moment_of run.setup past own) refl)
 
   own-turn : (ticket : Option Ticket) (act : Move) (command : Command) (number : ℕ) → slice_get run.plan.path.moves done ≡ Some act → IsOnPath run past own ticket done → is_verification ticket act ≡ false
       → IsOwn (view_of run.setup past).world own act command
       → IsOn run (event_in run past command ∷ past) (goes_on (record { handle = own; nonce = nonce }) sent done (move_heard ticket act (done + 1) (answer_of (reply_reading number (answer_in run past command).reply))))
-  own-turn ticket act command number at on other own =
+  own-turn ticket act command number at on other made =
       on-answer (λ a. IsOn run (event_of run.client run.locality (spelling command) a ∷ past) (goes_on (record { handle = own; nonce = nonce }) sent done (move_heard ticket act (done + 1) (answer_of (reply_reading number a.reply)))))
-      (view_of run.setup past) (next_number past) run.locality (spelling command) command (read-back command own.fits)
+      (view_of run.setup past) (next_number past) run.locality (spelling command) command (read-back command made.fits)
       (λ stop stops. denied-on run _ own nonce sent done (done + 1) ticket act number stop.code
       (stop-code (first_stop (view_of run.setup past) run.locality command) stop
       (first-coded (view_of run.setup past) run.locality command
-      (subst HasCode (sym (own-is-policy (view_of run.setup past) command own.policy)) (policy-own-coded (view_of run.setup past) command))) stops))
-      (λ first. accepted-on run _ own nonce sent done (done + 1) ticket act _ other (own-done ticket act command at on own first))
+      (subst HasCode (sym (own-is-policy (view_of run.setup past) command made.policy)) (policy-own-coded (view_of run.setup past) command))) stops))
+      (λ first. accepted-on run _ own nonce sent done (done + 1) ticket act _ other (own-done ticket act command at on made first))
 
 -- ---- VerifySignature, which makes the ticket
 
@@ -346,7 +348,9 @@ module _ (run : Run) (is : IsRun run) (past : List Event) (own : ℕ) (nonce : D
       → AsksWritten (indices_of run.setup past) (next_command run.plan (record { handle = own; nonce = nonce }) sent ticket o)
       → IsOn run (event_in run past (next_command run.plan (record { handle = own; nonce = nonce }) sent ticket o) ∷ past)
       (heard_on_path run.plan (record { handle = own; nonce = nonce }) sent ticket done o (answer_of (reply_reading (number_of_code (code_of_command (next_command run.plan (record { handle = own; nonce = nonce }) sent ticket o))) (answer_in run past (next_command run.plan (record { handle = own; nonce = nonce }) sent ticket o)).reply)))
-  path-turn ticket None at on asks = goal-on run _ own (goal_heard run.plan sent _)
+  path-turn ticket None at on asks =
+      goal-on run (event_in run past (next_command run.plan (record { handle = own; nonce = nonce }) sent ticket None) ∷ past) own
+      (goal_heard run.plan sent (answer_of (reply_reading (number_of_code (code_of_command (next_command run.plan (record { handle = own; nonce = nonce }) sent ticket None))) (answer_in run past (next_command run.plan (record { handle = own; nonce = nonce }) sent ticket None)).reply)))
   path-turn ticket (Some act) at on asks =
       move-in run.plan.directory (sym is.directory) ticket act at on (all-at MoveHasBounds run.plan.path.moves done act is.moves at) (known-at act at) asks
 
