@@ -3,12 +3,9 @@
 use Rattle.std.proofs.Common.{◌≡◌, ℕ, Bool, true, false, List, Option, None, Some, IfSome, Result, Ok, Err, is_some, if◌then◌else◌, refl, ap, sym, subst, ◌∙◌}
 use Rattle.std.specs.Prelude.{⊤}
 use Rattle.std.specs.Option.{option_map}
-use Rattle.tpol_base.specs.declared.rc.Rc.{Rc}
 use Rattle.tpol_base.specs.Handle.{rs_pw}
 use Rattle.tpol_wire.specs.declared.auth_area.AuthArea.{AuthArea}
-use Rattle.tpol_wire.specs.declared.auth_area.ReplyAuth.{ReplyAuth}
 use Rattle.tpol_wire.specs.declared.command.Command.{Command}
-use Rattle.tpol_wire.specs.declared.reply.Reply.{Reply}
 use Rattle.tpol_wire.specs.declared.reply.Reply.TheVariants as replies
 use Rattle.tpol_wire.specs.Commands.{FitsCommand, spelling}
 use Rattle.tpol_wire.specs.Reading.{reading}
@@ -18,11 +15,10 @@ use Rattle.tpol_wire.proofs.CommandLaws.{command_read}
 use Rattle.tpol_wire.proofs.ReplyLaws.{reply_read}
 use Rattle.tpm_rules.specs.declared.outcome.Outcome.{Outcome}
 use Rattle.tpm_rules.specs.declared.outcome.Outcome.TheVariants.{Accepted, Denied, Refused, Served}
-use Rattle.tpm_rules.specs.Rule.{or_else}
 use Rattle.tpm_world.specs.Handles.{area_of}
 use Rattle.tpm_engine.specs.declared.event.Event.{Event}
 use Rattle.tpm_engine.specs.declared.stop.Stop.{Stop}
-use Rattle.tpm_engine.specs.Answers.{answer, answer_to_command, answer_to_reading, answer_unless, early_stop, first_stop, own_rule, stopped, succeeding, success_of}
+use Rattle.tpm_engine.specs.Answers.{answer, answer_to_reading, answer_unless, early_stop, first_stop, own_rule, stopped, succeeding, success_of}
 use Rattle.tpm_engine.specs.Deeds.{Deed, Idle, SessionUse, area_use, command_deed, deed_in, deed_of, use_in, use_of}
 use Rattle.tpm_engine.specs.Events.{Answered, event_of, is_served, is_success}
 use Rattle.tpm_engine.specs.Stops.{refuses}

@@ -1,5 +1,5 @@
 -- What others do leaves the session of a run as it is.
-use Rattle.std.proofs.Common.{◌≡◌, ℕ, ◌||◌, ◌<◌, Bool, true, false, List, [], ◌∷◌, Option, None, Some, IfSome, Result, Ok, Err, nat_eq, if◌then◌else◌, refl, ap, sym, subst, ◌∙◌}
+use Rattle.std.proofs.Common.{◌≡◌, ℕ, ◌||◌, Bool, true, false, List, [], ◌∷◌, Option, None, Some, Result, Ok, Err, nat_eq, if◌then◌else◌, refl, ap, sym, ◌∙◌}
 use Rattle.std.specs.Prelude.{⊤}
 use Rattle.std.specs.List.{list_any}
 use Rattle.std.specs.Option.{option_map_or}
@@ -14,13 +14,12 @@ use Rattle.tpm_session.specs.Slots.{handle_of_slot}
 use Rattle.tpm_world.specs.Handles.{area_of, handles_of}
 use Rattle.tpm_engine.specs.declared.event.Event.{Event}
 use Rattle.tpm_engine.specs.declared.event.Event.TheVariants as events
-use Rattle.tpm_engine.specs.Answers.{first_stop, stopped, succeeding}
+use Rattle.tpm_engine.specs.Answers.{first_stop, succeeding}
 use Rattle.tpm_engine.specs.Calls.{Advance, Call, Execute, Reset, SetPresence, event_by}
-use Rattle.tpm_engine.specs.Deeds.{Deed, SessionUse, Starts, area_use, command_deed, continues, started_by}
-use Rattle.tpm_engine.specs.Events.{Answered, event_of}
+use Rattle.tpm_engine.specs.Deeds.{Starts, area_use, command_deed, continues, started_by}
+use Rattle.tpm_engine.specs.Events.{event_of}
 use Rattle.tpm_engine.specs.SessionCommands.{start_rule}
 use Rattle.tpm_engine.specs.Stops.{refuses}
-use Rattle.tpm_engine.specs.Tables.{TableState}
 use Rattle.tpm_engine.specs.Views.{is_held, next_number, view_of}
 use Rattle.tpol_laws.specs.Others.{LeavesSession, is_authorized_by, names, names_as_parameter, names_in}
 use Rattle.tpol_laws.proofs.After.{Stays, stays, touches, touches_by_use}

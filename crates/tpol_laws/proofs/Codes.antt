@@ -1,5 +1,5 @@
 -- The codes of stops: none of them is success, and each fits into a reply.
-use Rattle.std.proofs.Common.{◌≡◌, ◌≢◌, ℕ, ◌+◌, ◌^◌, ◌<◌, ◌≤◌, ◌&&◌, not, Bool, true, false, List, [], ◌∷◌, length, Option, None, Some, IfSome, is_some, nat_eq, nat_lt, if◌then◌else◌, refl, ap, sym, ◌∙◌, arith}
+use Rattle.std.proofs.Common.{◌≡◌, ◌≢◌, ℕ, ◌+◌, ◌^◌, ◌<◌, ◌≤◌, ◌&&◌, not, Bool, true, false, List, [], ◌∷◌, length, Option, None, Some, IfSome, is_some, nat_eq, nat_lt, if◌then◌else◌, refl, arith}
 use Rattle.std.specs.Prelude.{ℤ, nat_le}
 use Rattle.std.specs.Option.{option_and_then, option_map, option_map_or}
 use Rattle.std.proofs.lemmas.Bool.Decides.{nat_tests}
@@ -8,13 +8,11 @@ use Rattle.tpol_base.specs.declared.check.Check.TheVariants as checks
 use Rattle.tpol_base.specs.declared.digest.Digest32.{Digest32}
 use Rattle.tpol_base.specs.declared.handle.HandleKind.{HandleKind}
 use Rattle.tpol_base.specs.declared.handle.HandleKind.TheVariants as kinds
-use Rattle.tpol_base.specs.declared.name.Name.{Name}
 use Rattle.tpol_base.specs.Handle.{is_policy_session, kind_of_handle, rs_pw}
 use Rattle.tpol_base.specs.ResponseCode.{of_handle, of_parameter, of_session, rc_attributes, rc_auth_fail, rc_auth_type, rc_auth_unavailable, rc_bad_auth, rc_command_code, rc_cphash, rc_expired, rc_handle, rc_hash, rc_nonce, rc_nv_authorization, rc_nv_uninitialized, rc_pcr_changed, rc_policy, rc_range, rc_reference_h0, rc_reference_s0, rc_session_memory, rc_signature, rc_size, rc_ticket, rc_value, reference_of_handle}
 use Rattle.tpol_name.specs.Areas.{is_signing_key, is_written}
 use Rattle.tpol_name.specs.declared.entries.IndexEntry.{IndexEntry}
 use Rattle.tpol_name.specs.declared.entries.ObjectEntry.{ObjectEntry}
-use Rattle.tpol_name.specs.declared.areas.ObjectPublic.{ObjectPublic}
 use Rattle.tpol_wire.specs.declared.auth_area.AuthArea.{AuthArea}
 use Rattle.tpol_wire.specs.declared.command.Command.{Command}
 use Rattle.tpol_wire.specs.declared.command.Command.TheVariants as commands
@@ -25,7 +23,7 @@ use Rattle.tpm_rules.specs.declared.outcome.Denial.TheVariants as denials
 use Rattle.tpm_rules.specs.Checks.{code_of_check}
 use Rattle.tpm_rules.specs.Entity.{Entity, is_da_protected, is_duplicate, is_policy_available}
 use Rattle.tpm_rules.specs.Objects.{signing_key_rule, verify_signature_rule}
-use Rattle.tpm_rules.specs.Password.{password_denial, unavailable_password_code, wrong_password_code}
+use Rattle.tpm_rules.specs.Password.{password_denial}
 use Rattle.tpm_rules.specs.Deadline.{deadline_of, is_before, is_nonce_or_none}
 use Rattle.tpm_rules.specs.NvAuthority.{has_authority, nv_authority_rule}
 use Rattle.tpm_rules.specs.PolicyAuthorizeNv.{begins_with_sha256, has_digest_behind, policy_authorize_nv_rule}

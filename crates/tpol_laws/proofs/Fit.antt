@@ -1,20 +1,18 @@
 -- The commands of a run's moves are within the bounds of the wire.
-use Rattle.std.proofs.Common.{◌≡◌, ◌≤◌, ◌<◌, ◌⊎◌, inl, inr, ℕ, ◌+◌, ◌/◌, ◌^◌, ◌||◌, ◌==◌, Bool, true, false, List, [], length, nat_eq, refl, ap, sym, subst, ◌∙◌, arith}
-use Rattle.std.specs.Prelude.{ℤ, Option, Some, None, All, IsTrue, find, option_map, unwrap_or, if◌then◌else◌, FitsSigned}
+use Rattle.std.proofs.Common.{◌≡◌, ◌≤◌, ◌<◌, inl, inr, ℕ, ◌+◌, ◌^◌, ◌||◌, ◌==◌, Bool, true, false, List, [], length, nat_eq, refl, ap, arith}
+use Rattle.std.specs.Prelude.{ℤ, Option, Some, None, All, find, option_map, unwrap_or, if◌then◌else◌, FitsSigned}
 use Rattle.std.specs.Int.{w32}
-use Rattle.std.specs.List.{AllByRecursion}
 use Rattle.std.proofs.lemmas.Bool.Decides.{nat_tests}
 use Rattle.std.proofs.lemmas.Bool.{false≢true}
 use Rattle.std.proofs.lemmas.List.Elements.{recursion_from_All}
-use Rattle.std.proofs.lemmas.Option.{none-some, same_Some}
 use Rattle.tpol_base.specs.declared.compare.Compare.{Compare}
 use Rattle.tpol_base.specs.declared.digest.Digest32.{Digest32}
 use Rattle.tpol_base.specs.declared.name.Name.{Name}
 use Rattle.tpol_base.specs.declared.name.Name.TheVariants as names
-use Rattle.tpol_base.specs.Handle.{is_index, is_object, is_policy_session, rh_endorsement, rh_lockout, rh_null, rh_owner, rs_pw}
+use Rattle.tpol_base.specs.Handle.{is_index, is_object, is_policy_session, rh_endorsement, rh_lockout, rh_owner}
 use Rattle.tpol_goal.specs.declared.grants.Grants.{Grants}
 use Rattle.tpol_goal.specs.Entities.{is_hierarchy}
-use Rattle.tpol_goal.specs.Grants.{IsGrants, authority, granted, secret_of}
+use Rattle.tpol_goal.specs.Grants.{IsGrants, authority, secret_of}
 use Rattle.tpol_name.specs.Setups.{IsAuthValue}
 use Rattle.tpol_driver.specs.Commands.{password_area, start_command}
 use Rattle.tpol_tree.specs.Bounds.{NameHasBounds}
@@ -24,7 +22,7 @@ use Rattle.tpol_wire.specs.declared.ticket.Ticket.{Ticket}
 use Rattle.tpol_wire.specs.Authorizations.{AreaFits}
 use Rattle.tpol_wire.specs.Commands.{FitsCommand, ValuesFit}
 use Rattle.tpol_wire.specs.Kinds.{Fits, NameFits, TicketFits}
-use Rattle.tpm_session.specs.Slots.{IsSlotHandle, first_handle, slot_count}
+use Rattle.tpm_session.specs.Slots.{IsSlotHandle}
 use Rattle.tpol_laws.proofs.Finds.{find-each}
 use Rattle.tpol_laws.proofs.Named.{FoundEntity, FoundIndex, FoundObject}
 use Rattle.tpol_name.specs.declared.setup.Setup.{Setup}

@@ -1,7 +1,7 @@
 -- What each policy command of a run is: within the bounds of the wire, by a password or by no authorization, and
 -- where it succeeds the session is shown a fact that hashes what the move hashes.
-use Rattle.std.proofs.Common.{◌≡◌, ◌≤◌, ◌⊎◌, inl, inr, ℕ, ◌+◌, ◌/◌, ◌||◌, ◌^◌, ◌<◌, Bool, true, false, List, [], ◌∷◌, ◌++◌, length, map, nat_eq, refl, ap, sym, subst, ◌∙◌, arith}
-use Rattle.std.specs.Prelude.{ℤ, Option, Some, None, IfSome, find, is_some, nat_lt, option_map, unwrap_or, if◌then◌else◌, ⊤}
+use Rattle.std.proofs.Common.{◌≡◌, ◌≤◌, inl, inr, ℕ, ◌/◌, ◌||◌, ◌^◌, ◌<◌, Bool, true, false, List, ◌++◌, length, map, nat_eq, refl, ap, sym, subst, ◌∙◌, arith}
+use Rattle.std.specs.Prelude.{ℤ, Option, Some, None, IfSome, is_some, nat_lt, option_map, if◌then◌else◌, ⊤}
 use Rattle.std.specs.Option.{option_and_then, option_map_or}
 use Rattle.std.proofs.lemmas.Bool.{eqb-true, false≢true}
 use Rattle.std.proofs.lemmas.Bool.Decides.{nat_tests}
@@ -63,7 +63,7 @@ use Rattle.tpm_world.specs.Plain.{plain_rule}
 use Rattle.tpol_laws.specs.Others.{AsksWritten, IsWrittenAt}
 use Rattle.tpol_laws.proofs.Answered.{IsByPassword}
 use Rattle.tpol_laws.proofs.Fit.{area-fits, authority-handle, entity-handle, fits-auth_value, fits-authorize, fits-authorize_nv, fits-code, fits-counter_timer, fits-cp_hash, fits-duplication, fits-locality, fits-name_hash, fits-nv, fits-nv_written, fits-or, fits-password, fits-pcr, fits-presence, fits-secret, fits-signed, index-handle, index-kind, object-handle, session-handle}
-use Rattle.tpol_laws.proofs.Named.{FoundEntity, FoundHierarchy, FoundIndex, FoundObject, area, entity-found, index-found, index-now, object-found, written-name}
+use Rattle.tpol_laws.proofs.Named.{FoundEntity, FoundIndex, FoundObject, area, entity-found, index-found, index-now, object-found, written-name}
 
 -- a world of the machine that started from this setup
 pub record IsOf (setup : Setup) (world : WorldState) : Type 0 where
@@ -257,43 +257,63 @@ module _ (setup : Setup) (is : IsSetup setup) (world : WorldState) (of : IsOf se
       own-signed key policy_ref cp_hash expiration (object_of_name (directory_of setup) key) refl known bounds
   own-assertion (assertions.CounterTimer operand offset operation) bounds known asks = record {
     fits = fits-counter_timer own (session-handle own slot) operand offset operation bounds.0 bounds.1;
-    area = tt; policy = refl; shows = λ state rule. record { fact = _; is = refl; same = λ now same. refl };
+    area = tt;
+    policy = refl;
+    shows = λ state rule. record { fact = _; is = refl; same = λ now same. refl };
   }
   own-assertion (assertions.CommandCode code) bounds known asks = record {
     fits = fits-code own (session-handle own slot) code bounds;
-    area = tt; policy = refl; shows = λ state rule. record { fact = _; is = refl; same = λ now same. refl };
+    area = tt;
+    policy = refl;
+    shows = λ state rule. record { fact = _; is = refl; same = λ now same. refl };
   }
   own-assertion (assertions.Locality localities) bounds known asks = record {
     fits = fits-locality own (session-handle own slot) localities bounds.1;
-    area = tt; policy = refl; shows = λ state rule. record { fact = _; is = refl; same = λ now same. refl };
+    area = tt;
+    policy = refl;
+    shows = λ state rule. record { fact = _; is = refl; same = λ now same. refl };
   }
   own-assertion (assertions.CpHash digest) bounds known asks = record {
     fits = fits-cp_hash own (session-handle own slot) digest;
-    area = tt; policy = refl; shows = λ state rule. record { fact = _; is = refl; same = λ now same. refl };
+    area = tt;
+    policy = refl;
+    shows = λ state rule. record { fact = _; is = refl; same = λ now same. refl };
   }
   own-assertion (assertions.NameHash digest) bounds known asks = record {
     fits = fits-name_hash own (session-handle own slot) digest;
-    area = tt; policy = refl; shows = λ state rule. record { fact = _; is = refl; same = λ now same. refl };
+    area = tt;
+    policy = refl;
+    shows = λ state rule. record { fact = _; is = refl; same = λ now same. refl };
   }
   own-assertion (assertions.NvWritten written) bounds known asks = record {
     fits = fits-nv_written own (session-handle own slot) written;
-    area = tt; policy = refl; shows = λ state rule. record { fact = _; is = refl; same = λ now same. refl };
+    area = tt;
+    policy = refl;
+    shows = λ state rule. record { fact = _; is = refl; same = λ now same. refl };
   }
   own-assertion assertions.AuthValue bounds known asks = record {
     fits = fits-auth_value own (session-handle own slot);
-    area = tt; policy = refl; shows = λ state rule. record { fact = _; is = refl; same = λ now same. refl };
+    area = tt;
+    policy = refl;
+    shows = λ state rule. record { fact = _; is = refl; same = λ now same. refl };
   }
   own-assertion assertions.Password bounds known asks = record {
     fits = fits-password own (session-handle own slot);
-    area = tt; policy = refl; shows = λ state rule. record { fact = _; is = refl; same = λ now same. refl };
+    area = tt;
+    policy = refl;
+    shows = λ state rule. record { fact = _; is = refl; same = λ now same. refl };
   }
   own-assertion assertions.PhysicalPresence bounds known asks = record {
     fits = fits-presence own (session-handle own slot);
-    area = tt; policy = refl; shows = λ state rule. record { fact = _; is = refl; same = λ now same. refl };
+    area = tt;
+    policy = refl;
+    shows = λ state rule. record { fact = _; is = refl; same = λ now same. refl };
   }
   own-assertion (assertions.Duplication object parent include) bounds known asks = record {
     fits = fits-duplication own (session-handle own slot) object parent include bounds.0 bounds.1;
-    area = tt; policy = refl; shows = λ state rule. record { fact = _; is = refl; same = λ now same. refl };
+    area = tt;
+    policy = refl;
+    shows = λ state rule. record { fact = _; is = refl; same = λ now same. refl };
   }
 
   pub own-move : (ticket : Option Ticket) (act : Move) → TicketIsFit ticket → MoveHasBounds act → is_known_move (directory_of setup) grants act ≡ true → is_verification ticket act ≡ false
@@ -302,12 +322,16 @@ module _ (setup : Setup) (is : IsSetup setup) (world : WorldState) (of : IsOf se
   own-move ticket (Assert assertion) fits bounds known verifies asks = own-assertion assertion bounds known asks
   own-move ticket (Or digests) fits bounds known verifies asks = record {
     fits = fits-or own (session-handle own slot) digests bounds.0 bounds.1;
-    area = tt; policy = refl; shows = λ state rule. record { fact = _; is = refl; same = λ now same. refl };
+    area = tt;
+    policy = refl;
+    shows = λ state rule. record { fact = _; is = refl; same = λ now same. refl };
   }
   own-move None (Approve key policy_ref approved signature) fits bounds known verifies asks = absurd (false≢true (sym verifies))
   own-move (Some ticket) (Approve key policy_ref approved signature) fits bounds known verifies asks = record {
     fits = fits-authorize own (session-handle own slot) approved policy_ref key ticket bounds.1 bounds.0 fits;
-    area = tt; policy = refl; shows = λ state rule. record { fact = _; is = refl; same = λ now same. refl };
+    area = tt;
+    policy = refl;
+    shows = λ state rule. record { fact = _; is = refl; same = λ now same. refl };
   }
   own-move ticket (ApproveNv index approved) fits bounds known verifies asks = own-authorize_nv index approved (index_of_name (directory_of setup) index) refl known
 

@@ -1,7 +1,6 @@
 -- A session that starts takes a slot that nothing holds.
-use Rattle.std.proofs.Common.{◌≡◌, ℕ, ◌+◌, ◌-◌, ◌^◌, ◌<◌, ◌≤◌, ◌&&◌, not, Bool, true, false, List, Option, None, Some, is_some, nat_eq, nat_le, nat_lt, if◌then◌else◌, refl, ap, sym, subst, ◌∙◌, arith}
-use Rattle.std.specs.Option.{option_and_then, option_map, option_map_or}
-use Rattle.std.proofs.lemmas.Bool.{false≢true}
+use Rattle.std.proofs.Common.{◌≡◌, ℕ, ◌+◌, ◌-◌, ◌^◌, ◌<◌, true, List, Option, None, Some, is_some, nat_le, nat_lt, if◌then◌else◌, refl, ap, sym, subst, ◌∙◌, arith}
+use Rattle.std.specs.Option.{option_and_then, option_map_or}
 use Rattle.std.proofs.lemmas.Bool.Decides.{nat_tests}
 use Rattle.std.proofs.lemmas.Option.{none-some}
 use Rattle.tpol_base.specs.declared.command_code.CommandCode.TheVariants as codes
@@ -18,7 +17,7 @@ use Rattle.tpol_wire.specs.Replies.{FitsReply, spell_reply}
 use Rattle.tpol_wire.specs.ReplyReading.{reply_reading}
 use Rattle.tpol_wire.proofs.ReplyLaws.{reply_read}
 use Rattle.tpm_bindings.specs.State.{SessionState}
-use Rattle.tpm_session.specs.Slots.{bits_of, content_at, handle_of_slot, is_free, slot_count, state_at}
+use Rattle.tpm_session.specs.Slots.{bits_of, handle_of_slot, is_free, slot_count}
 use Rattle.tpm_session.proofs.Least.{least-is}
 use Rattle.tpm_session.proofs.Slots.{free-apart}
 use Rattle.tpm_engine.specs.declared.event.Event.{Event}

@@ -1,11 +1,11 @@
 -- A run that stands on its path: the facts of its session have the digest of the moves that are done. Each act
 -- keeps it.
-use Rattle.std.proofs.Common.{◌≡◌, ℕ, suc, ◌+◌, ◌<◌, ◌≤◌, Bool, true, false, List, [], ◌∷◌, ◌++◌, length, map, not, take, get_or, refl, ap, sym, subst, ◌∙◌, add-one, arith}
-use Rattle.std.specs.Prelude.{Option, Some, None, IfSome, All, is_some, option_map, slice_get, if◌then◌else◌, ⊤}
+use Rattle.std.proofs.Common.{◌≡◌, ℕ, ◌+◌, ◌<◌, ◌≤◌, true, false, List, [], ◌∷◌, ◌++◌, length, map, not, take, refl, ap, sym, subst, ◌∙◌, add-one, arith}
+use Rattle.std.specs.Prelude.{Option, Some, None, is_some, option_map, slice_get, if◌then◌else◌, ⊤}
 use Rattle.std.specs.Int.{to_be_bytes, w64}
-use Rattle.std.specs.List.{AllByRecursion, list_all}
+use Rattle.std.specs.List.{list_all}
 use Rattle.std.proofs.lemmas.List.Elements.{All-from_recursion}
-use Rattle.std.specs.Option.{option_and_then, option_map_or}
+use Rattle.std.specs.Option.{option_map_or}
 use Rattle.std.proofs.Math.Seq.{take-suc}
 use Rattle.std.proofs.lemmas.List.{map-append}
 use Rattle.std.proofs.lemmas.Bool.{false≢true}
@@ -13,20 +13,18 @@ use Rattle.std.proofs.lemmas.Option.{get_or_from_slice_get, none-some, same_Some
 use Rattle.tpol_base.specs.declared.digest.Digest32.{Digest32}
 use Rattle.tpol_base.specs.declared.name.Name.{Name}
 use Rattle.tpol_base.specs.CommandCode.{number_of_code}
-use Rattle.tpol_base.specs.Constants.{st_verified}
-use Rattle.tpol_base.specs.Handle.{rh_owner}
 use Rattle.tpol_base.specs.declared.command_code.CommandCode.TheVariants as codes
-use Rattle.tpol_digest.specs.Digest.{after_update, digest_after, digest_from, digest_of_moves, zero_digest}
+use Rattle.tpol_digest.specs.Digest.{after_update, digest_after, digest_of_moves, zero_digest}
 use Rattle.tpol_digest.specs.Laws.{MoveHasBounds}
 use Rattle.tpol_digest.specs.Sound.{moves_of_facts}
-use Rattle.tpol_digest.specs.Update.{Update, update_of}
+use Rattle.tpol_digest.specs.Update.{update_of}
 use Rattle.tpol_digest.proofs.Meeting.{digest_from-append}
 use Rattle.tpol_driver.specs.declared.end.End.{End}
 use Rattle.tpol_driver.specs.declared.end.End.TheVariants as ends
 use Rattle.tpol_driver.specs.Answers.{answer_of, answer_of_reply}
-use Rattle.tpol_driver.specs.Commands.{command_of_move, key_handle, or_null, start_command, verify_signature}
-use Rattle.tpol_driver.specs.Driving.{Closing, Ends, Moving, Over, Sends, Standing, Starting, after_goal, goal_heard, goes_on, heard_on_path, hears, is_verification, move_heard, next_command, sends, start_heard, verified}
-use Rattle.tpol_driver.specs.Plans.{is_complete, is_known_move}
+use Rattle.tpol_driver.specs.Commands.{command_of_move, key_handle, or_null, start_command}
+use Rattle.tpol_driver.specs.Driving.{Closing, Moving, Over, Standing, Starting, after_goal, goal_heard, goes_on, heard_on_path, is_verification, move_heard, next_command, sends, start_heard, verified}
+use Rattle.tpol_driver.specs.Plans.{is_known_move}
 use Rattle.tpol_goal.specs.Entities.{object_of_name}
 use Rattle.tpol_hash.specs.Sha256.{sha256_digest}
 use Rattle.tpol_name.specs.declared.entries.DirEntry.{DirEntry}
@@ -50,36 +48,34 @@ use Rattle.tpol_wire.specs.ReplyReading.{reply_reading}
 use Rattle.tpol_wire.proofs.ReplyLaws.{reply_read}
 use Rattle.tpm_nv.specs.Indices.{count_after}
 use Rattle.tpm_session.specs.Slots.{IsSlotHandle, handle_of_slot}
-use Rattle.tpm_world.specs.Handles.{area_of, is_policy_command}
+use Rattle.tpm_world.specs.Handles.{area_of}
 use Rattle.tpm_world.specs.Objects.{object_of}
 use Rattle.tpm_world.specs.Hashes.{proof_of}
 use Rattle.tpm_world.specs.Missing.{missing_object}
 use Rattle.tpm_world.specs.VerifySignature as verification
 use Rattle.tpm_auth.specs.Tickets.{verified_ticket}
 use Rattle.tpol_name.specs.Areas.{object_name}
-use Rattle.tpm_world.specs.World.{WorldState, world_of}
+use Rattle.tpm_world.specs.World.{WorldState}
 use Rattle.tpm_engine.specs.declared.event.Event.{Event}
-use Rattle.tpm_engine.specs.declared.stop.Stop.{Stop}
-use Rattle.tpm_engine.specs.Answers.{first_stop, own_rule, stopped, succeeding}
+use Rattle.tpm_engine.specs.Answers.{first_stop, stopped, succeeding}
 use Rattle.tpm_engine.specs.Calls.{Call, event_by}
-use Rattle.tpm_engine.specs.Deeds.{Deed, Idle, Passes, Shifts, Resets, Extends, Writes, Increments, Starts, Ends as EndsDeed, Restarts, Saves, Loads, Shows, command_deed, deed_of, plain_deed, started_by, use_of}
-use Rattle.tpm_engine.specs.Events.{Answered, event_of}
-use Rattle.tpm_engine.specs.Facts.{Moment, Shown, shown_by}
-use Rattle.tpm_engine.specs.PolicyCommands.{policy_rule}
+use Rattle.tpm_engine.specs.Deeds.{Deed, Idle, Passes, Shifts, Resets, Extends, Writes, Increments, Starts, Ends as EndsDeed, Restarts, Saves, Loads, Shows, deed_of, plain_deed}
+use Rattle.tpm_engine.specs.Events.{event_of}
+use Rattle.tpm_engine.specs.Facts.{Moment, Shown}
 use Rattle.tpm_engine.specs.Tables.{TableState}
 use Rattle.tpm_engine.specs.Views.{facts_of, indices_after, indices_of, is_held, moment_of, next_number, view_of, world_at}
 use Rattle.tpol_laws.specs.Acts.{Act, Course, Other, Run, Turn, after_act, after_acts, answer_in, begun, event_in, turned}
-use Rattle.tpol_laws.specs.Others.{AreOthersApart, AreSecretsOnWritten, AsksWritten, LeavesAlone, LeavesSession, SendsOnWritten, TurnsOnWritten, place_of, session_of}
+use Rattle.tpol_laws.specs.Others.{AreOthersApart, AreSecretsOnWritten, AsksWritten, LeavesAlone, SendsOnWritten, TurnsOnWritten, place_of}
 use Rattle.tpol_laws.specs.Runs.{IsRun}
-use Rattle.tpol_laws.proofs.After.{HasShown, HasStarted, Stays, has-shown, has-started, stays, touches, touches_by_use}
+use Rattle.tpol_laws.proofs.After.{HasShown, Stays, has-shown, has-started, stays, touches, touches_by_use}
 use Rattle.tpol_laws.proofs.Answered.{done-deed, done-use, on-answer, own-passed, password-use, read-back, refusal-read, stop-code}
 use Rattle.tpol_laws.proofs.Calm.{others-stay}
-use Rattle.tpol_laws.proofs.Codes.{Coded, HasCode, IsCode, first-coded, policy-own-coded, start-coded, verify-coded}
+use Rattle.tpol_laws.proofs.Codes.{HasCode, IsCode, first-coded, policy-own-coded, start-coded, verify-coded}
 use Rattle.tpol_laws.proofs.Finds.{all-at, both as and-both, tests}
-use Rattle.tpol_laws.proofs.Fit.{IsHandle, fits-start, fits-verify, object-handle}
-use Rattle.tpol_laws.proofs.Named.{FoundObject, area, areas-written, object-found}
-use Rattle.tpol_laws.proofs.Own.{IsOf, IsOwn, Passed, Ruled, ShowsMove, TicketIsFit, own-is-policy, own-move, rule-passed, ruled}
-use Rattle.tpol_laws.proofs.Starts.{Start, started}
+use Rattle.tpol_laws.proofs.Fit.{fits-start, fits-verify, object-handle}
+use Rattle.tpol_laws.proofs.Named.{area, areas-written, object-found}
+use Rattle.tpol_laws.proofs.Own.{IsOf, IsOwn, TicketIsFit, own-is-policy, own-move, rule-passed, ruled}
+use Rattle.tpol_laws.proofs.Starts.{started}
 
 -- ---- the machine's world
 
@@ -204,7 +200,7 @@ module _ (run : Run) (is : IsRun run) (past : List Event) (own : ℕ) (nonce : D
       let passed = rule-passed (view_of run.setup past) command made.policy rule in
       let shows = made.shows passed.state passed.holds in
       let deed = done-deed (view_of run.setup past) (next_number past) run.client run.locality (spelling command) command reads
-          ∙ ap (λ (o : Option Shown). option_map_or (λ (shown : Shown). Shows shown.0 shown.1) o (plain_deed command (succeeding (view_of run.setup past) (next_number past) command).reply)) shows.is in
+      ∙ ap (λ (o : Option Shown). option_map_or (λ (shown : Shown). Shows shown.0 shown.1) o (plain_deed command (succeeding (view_of run.setup past) (next_number past) command).reply)) shows.is in
       let uses = done-use (view_of run.setup past) (next_number past) run.client run.locality (spelling command) command reads ∙ password-use (area_of command) made.area in
       shown-on run past _ own ticket done act shows.fact at on (has-shown run.setup past _ own shows.fact deed uses)
       (shows.same (moment_of run.setup past own) refl)
@@ -269,8 +265,8 @@ module _ (run : Run) (is : IsRun run) (past : List Event) (own : ℕ) (nonce : D
       let it = verifies (view_of run.setup past) (next_number past) handle digest signature rule in
       let event = event_of run.client run.locality (spelling command) (succeeding (view_of run.setup past) (next_number past) command) in
       let stay = stays run.setup past event own
-          (ap (λ d. touches d own) (done-deed (view_of run.setup past) (next_number past) run.client run.locality (spelling command) command reads))
-          (ap (λ u. touches_by_use u own) (done-use (view_of run.setup past) (next_number past) run.client run.locality (spelling command) command reads)) in
+      (ap (λ d. touches d own) (done-deed (view_of run.setup past) (next_number past) run.client run.locality (spelling command) command reads))
+      (ap (λ u. touches_by_use u own) (done-use (view_of run.setup past) (next_number past) run.client run.locality (spelling command) command reads)) in
       subst (λ (read : Option (Reply × Option ReplyAuth)). IsOn run (event ∷ past) (goes_on (record { handle = own; nonce = nonce }) sent done (move_heard None (Approve key policy_ref approved signature) (done + 1) (answer_of read)))) (sym it.reads)
       (stays-on run past event own None (Some it.ticket) done it.fits on stay)
 
@@ -367,8 +363,8 @@ module _ (run : Run) (is : IsRun run) (past : List Event) where
       let event = event_of run.client run.locality (spelling (start_command seed)) (succeeding (view_of run.setup past) (next_number past) (start_command seed)) in
       let within : start.slot < 64 = start.is.within in
       let has = has-started run.setup past event (handle_of_slot start.slot)
-          (done-deed (view_of run.setup past) (next_number past) run.client run.locality (spelling (start_command seed)) (start_command seed) reads ∙ start.is.deed)
-          (done-use (view_of run.setup past) (next_number past) run.client run.locality (spelling (start_command seed)) (start_command seed) reads) in
+      (done-deed (view_of run.setup past) (next_number past) run.client run.locality (spelling (start_command seed)) (start_command seed) reads ∙ start.is.deed)
+      (done-use (view_of run.setup past) (next_number past) run.client run.locality (spelling (start_command seed)) (start_command seed) reads) in
       subst (λ (read : Option (Reply × Option ReplyAuth)). IsOn run (event ∷ past) (start_heard (answer_of read))) (sym start.is.reads)
       (record {
         slot = (omega arith, omega (arith, within));
