@@ -3,7 +3,7 @@
 use Rattle.std.proofs.Common.{◌≡◌, ℕ, ◌+◌, ◌<◌, ◌≤◌, true, false, List, [], ◌∷◌, ◌++◌, length, map, not, take, refl, ap, sym, subst, ◌∙◌, add-one, arith}
 use Rattle.std.specs.Prelude.{Option, Some, None, is_some, option_map, slice_get, if◌then◌else◌, ⊤}
 use Rattle.std.specs.Int.{to_be_bytes, w64}
-use Rattle.std.specs.List.{list_all}
+use Rattle.std.specs.List.{list_all, fold}
 use Rattle.std.proofs.lemmas.List.Elements.{All-from_recursion}
 use Rattle.std.specs.Option.{option_map_or}
 use Rattle.std.proofs.Math.Seq.{take-suc}
@@ -14,11 +14,10 @@ use Rattle.tpol_base.specs.declared.digest.Digest32.{Digest32}
 use Rattle.tpol_base.specs.declared.name.Name.{Name}
 use Rattle.tpol_base.specs.CommandCode.{number_of_code}
 use Rattle.tpol_base.specs.declared.command_code.CommandCode.TheVariants as codes
-use Rattle.tpol_digest.specs.Digest.{after_update, digest_after, digest_of_moves, zero_digest}
+use Rattle.tpol_digest.specs.Digest.{after_update, digest_after, digest_from, digest_of_moves, zero_digest}
 use Rattle.tpol_digest.specs.Laws.{MoveHasBounds}
 use Rattle.tpol_digest.specs.Sound.{moves_of_facts}
 use Rattle.tpol_digest.specs.Update.{update_of}
-use Rattle.tpol_digest.proofs.Meeting.{digest_from-append}
 use Rattle.tpol_driver.specs.declared.end.End.{End}
 use Rattle.tpol_driver.specs.declared.end.End.TheVariants as ends
 use Rattle.tpol_driver.specs.Answers.{answer_of, answer_of_reply}
@@ -109,7 +108,7 @@ pub record IsOnPath (run : Run) (past : List Event) (own : ℕ) (ticket : Option
   pub slot : IsSlotHandle own
   pub fits : TicketIsFit ticket
   pub held : is_held past own ≡ true
-  pub digest : digest_of_moves (moves_of_facts (facts_of run.setup past own)) ≡ digest_of_moves (take done run.plan.path.moves)
+  pub hashes : map update_of (moves_of_facts (facts_of run.setup past own)) ≡ map update_of (take done run.plan.path.moves)
 
 abbrev pub IsOn : Run → List Event → Standing → Type 0
 IsOn run past Starting = ⊤
@@ -124,13 +123,13 @@ stays-on run past event own before after done fits on stay = record {
   slot = on.slot;
   fits = fits;
   held = stay.held ∙ on.held;
-  digest = ap (λ facts. digest_of_moves (moves_of_facts facts)) stay.facts ∙ on.digest;
+  hashes = ap (λ facts. map update_of (moves_of_facts facts)) stay.facts ∙ on.hashes;
 }
 
 -- ---- one more move
 
-digest-more : (facts : List Fact) (fact : Fact) → digest_of_moves (moves_of_facts (facts ++ fact ∷ [])) ≡ digest_after fact.act (digest_of_moves (moves_of_facts facts))
-digest-more facts fact = ap digest_of_moves (map-append (λ (f : Fact). f.act) facts (fact ∷ [])) ∙ digest_from-append zero_digest (moves_of_facts facts) (fact.act ∷ [])
+facts-more : (facts : List Fact) (fact : Fact) → map update_of (moves_of_facts (facts ++ fact ∷ [])) ≡ map update_of (moves_of_facts facts) ++ update_of fact.act ∷ []
+facts-more facts fact = ap (map update_of) (map-append (λ (f : Fact). f.act) facts (fact ∷ [])) ∙ map-append update_of (moves_of_facts facts) (fact.act ∷ [])
 
 take-more : (moves : List Move) (done : ℕ) (act : Move) → slice_get moves done ≡ Some act → take (done + 1) moves ≡ take done moves ++ act ∷ []
 take-more moves done act is =
@@ -138,8 +137,8 @@ take-more moves done act is =
     ∙ take-suc moves done act (slice_get_within moves done act is)
     ∙ ap (λ a. take done moves ++ a ∷ []) (get_or_from_slice_get moves done act act is)
 
-moves-more : (moves : List Move) (done : ℕ) (act : Move) → slice_get moves done ≡ Some act → digest_of_moves (take (done + 1) moves) ≡ digest_after act (digest_of_moves (take done moves))
-moves-more moves done act is = ap digest_of_moves (take-more moves done act is) ∙ digest_from-append zero_digest (take done moves) (act ∷ [])
+moves-more : (moves : List Move) (done : ℕ) (act : Move) → slice_get moves done ≡ Some act → map update_of (take (done + 1) moves) ≡ map update_of (take done moves) ++ update_of act ∷ []
+moves-more moves done act is = ap (map update_of) (take-more moves done act is) ∙ map-append update_of (take done moves) (act ∷ [])
 
 shown-on : (run : Run) (past : List Event) (event : Event) (own : ℕ) (ticket : Option Ticket) (done : ℕ) (act : Move) (fact : Moment → Fact) → slice_get run.plan.path.moves done ≡ Some act
     → IsOnPath run past own ticket done → HasShown run.setup past event own fact → update_of (fact (moment_of run.setup past own)).act ≡ update_of act
@@ -151,10 +150,10 @@ shown-on run past event own ticket done act fact at on shown same =
       slot = on.slot;
       fits = tt;
       held = shown.held ∙ on.held;
-      digest = ap (λ fs. digest_of_moves (moves_of_facts fs)) shown.facts
-          ∙ digest-more facts new
-          ∙ ap (λ u. after_update u (digest_of_moves (moves_of_facts facts))) same
-          ∙ ap (digest_after act) on.digest
+      hashes = ap (λ fs. map update_of (moves_of_facts fs)) shown.facts
+          ∙ facts-more facts new
+          ∙ ap (λ u. map update_of (moves_of_facts facts) ++ u ∷ []) same
+          ∙ ap (λ us. us ++ update_of act ∷ []) on.hashes
           ∙ sym (moves-more run.plan.path.moves done act at);
     }
 
@@ -370,7 +369,7 @@ module _ (run : Run) (is : IsRun run) (past : List Event) where
         slot = (omega arith, omega (arith, within));
         fits = tt;
         held = has.held;
-        digest = ap (λ facts. digest_of_moves (moves_of_facts facts)) has.facts;
+        hashes = ap (λ facts. map update_of (moves_of_facts facts)) has.facts;
       })
 
   start-turn : (seed : Digest32)
@@ -411,18 +410,33 @@ acts-on run is [] course on apart asks = on
 acts-on run is (act ∷ acts) course on apart asks = acts-on run is acts (after_act run course act) (act-on run is course act on apart.0 asks.0) apart.1 asks.1
 
 -- what holds where the run is on its path
-place-digest : (run : Run) (past : List Event) (standing : Standing) (own done : ℕ) → IsOn run past standing → place_of standing ≡ Some (own, done)
-    → digest_of_moves (moves_of_facts (facts_of run.setup past own)) ≡ digest_of_moves (take done run.plan.path.moves)
-place-digest run past Starting own done on at = absurd (none-some (own, done) at)
-place-digest run past (Moving session sent ticket now) own done on at =
+place-hashes : (run : Run) (past : List Event) (standing : Standing) (own done : ℕ) → IsOn run past standing → place_of standing ≡ Some (own, done)
+    → map update_of (moves_of_facts (facts_of run.setup past own)) ≡ map update_of (take done run.plan.path.moves)
+place-hashes run past Starting own done on at = absurd (none-some (own, done) at)
+place-hashes run past (Moving session sent ticket now) own done on at =
     let same : (session.handle, now) ≡ (own, done) = same_Some _ _ at in
-    subst (λ (place : ℕ × ℕ). digest_of_moves (moves_of_facts (facts_of run.setup past place.0)) ≡ digest_of_moves (take place.1 run.plan.path.moves)) same on.digest
-place-digest run past (Closing session end) own done on at = absurd (none-some (own, done) at)
-place-digest run past (Over end) own done on at = absurd (none-some (own, done) at)
+    subst (λ (place : ℕ × ℕ). map update_of (moves_of_facts (facts_of run.setup past place.0)) ≡ map update_of (take place.1 run.plan.path.moves)) same on.hashes
+place-hashes run past (Closing session end) own done on at = absurd (none-some (own, done) at)
+place-hashes run past (Over end) own done on at = absurd (none-some (own, done) at)
+
+pub path-hashes : (run : Run) (past : List Event) (acts : List Act) (session done : ℕ)
+    → IsRun run → AreOthersApart run acts (begun past) → AreSecretsOnWritten run acts (begun past)
+    → place_of (after_acts run acts (begun past)).standing ≡ Some (session, done)
+    → map update_of (moves_of_facts (facts_of run.setup (after_acts run acts (begun past)).past session)) ≡ map update_of (take done run.plan.path.moves)
+path-hashes run past acts session done is apart asks at =
+    place-hashes run (after_acts run acts (begun past)).past (after_acts run acts (begun past)).standing session done (acts-on run is acts (begun past) tt apart asks) at
+
+-- the digest is made of what the moves hash
+digest-of-hashes : (d : Digest32) (moves : List Move) → digest_from d moves ≡ fold (λ before u. after_update u before) d (map update_of moves)
+digest-of-hashes d [] = refl
+digest-of-hashes d (act ∷ moves) = digest-of-hashes (digest_after act d) moves
+
+same-hashes : (one other : List Move) → map update_of one ≡ map update_of other → digest_of_moves one ≡ digest_of_moves other
+same-hashes one other same = digest-of-hashes zero_digest one ∙ ap (fold (λ before u. after_update u before) zero_digest) same ∙ sym (digest-of-hashes zero_digest other)
 
 pub path-digest : (run : Run) (past : List Event) (acts : List Act) (session done : ℕ)
     → IsRun run → AreOthersApart run acts (begun past) → AreSecretsOnWritten run acts (begun past)
     → place_of (after_acts run acts (begun past)).standing ≡ Some (session, done)
     → digest_of_moves (moves_of_facts (facts_of run.setup (after_acts run acts (begun past)).past session)) ≡ digest_of_moves (take done run.plan.path.moves)
 path-digest run past acts session done is apart asks at =
-    place-digest run (after_acts run acts (begun past)).past (after_acts run acts (begun past)).standing session done (acts-on run is acts (begun past) tt apart asks) at
+    same-hashes (moves_of_facts (facts_of run.setup (after_acts run acts (begun past)).past session)) (take done run.plan.path.moves) (path-hashes run past acts session done is apart asks at)

@@ -1,5 +1,5 @@
 -- A run among others: what may happen while it goes on, and what becomes of it.
-use Rattle.std.specs.Prelude.{ℕ, List, [], ◌∷◌}
+use Rattle.std.specs.Prelude.{ℕ, ◌+◌, List, [], ◌∷◌}
 use Rattle.tpol_driver.specs.declared.plan.Plan.{Plan}
 use Rattle.tpol_driver.specs.Driving.{Drive, Ends, Sends, Standing, Starting, hears, sends}
 use Rattle.tpol_name.specs.declared.setup.Setup.{Setup}
@@ -58,3 +58,9 @@ after_act run course (Other call) = record { past = event_by run.setup course.pa
 unfoldable pub after_acts : Run → List Act → Course → Course
 after_acts run [] course = course
 after_acts run (act ∷ acts) course = after_acts run acts (after_act run course act)
+
+-- how many of these are the run's own
+abbrev pub turns_in : List Act → ℕ
+turns_in [] = 0
+turns_in (Turn ∷ acts) = turns_in acts + 1
+turns_in (Other call ∷ acts) = turns_in acts

@@ -1,24 +1,37 @@
 //! What the definitions promise together: functions without a body, whose clauses are the laws.
 
-ghost use Rattle.std.specs.Prelude.{◌≡◌, ℕ, List, Some, length, take};
+ghost use Rattle.std.specs.Prelude.{◌≡◌, ◌≤◌, ◌+◌, ◌*◌, ℕ, List, Some, length, map, take, true};
 ghost use Rattle.std.specs.List.{Contains};
 ghost use Rattle.tpol_digest.specs.Digest.{digest_of_moves, policy_digest};
 ghost use Rattle.tpol_digest.specs.Paths.{paths_of};
 ghost use Rattle.tpol_digest.specs.Sound.{moves_of_facts};
+ghost use Rattle.tpol_digest.specs.Update.{update_of};
+ghost use Rattle.tpol_driver.specs.States.{is_over};
 ghost use Rattle.tpol_tree.specs.declared.closed.Closed.{Closed};
 ghost use Rattle.tpol_tree.specs.declared.path.ApprovedDoc.{ApprovedDoc};
 ghost use Rattle.tpm_engine.specs.declared.event.Event.{Event as EventOf};
 ghost use Rattle.tpm_engine.specs.Views.{facts_of};
-ghost use Rattle.tpol_laws.specs.Acts.{Act, Run, after_acts, begun};
+ghost use Rattle.tpol_laws.specs.Acts.{Act, Run, after_acts, begun, turns_in};
 ghost use Rattle.tpol_laws.specs.Others.{AreOthersApart, AreSecretsOnWritten, place_of};
 ghost use Rattle.tpol_laws.specs.Runs.{IsRun};
 
+/// A run is over after as many turns as it has commands at most, whatever others do: two for each move, and the
+/// start, the goal and the end of its session.
+pub fn a_run_ends()
+    ensures { (run : Run) (past : List EventOf) (acts : List Act)
+        → 2 * length run.plan.path.moves + 4 ≤ turns_in acts → is_over (after_acts run acts (begun past)).standing ≡ true }
+{}
+
 /// While the commands of a run succeed, no event of anybody else names its session, no Reset comes, and each
 /// index on which one of its PolicySecret commands is executed is written at that moment, the facts of its
-/// session have the digest of the moves that are done. So before the goal they have the digest of the path,
-/// which is the compiled digest of the policy. Where a command of the run does not succeed, the run does not
-/// stand on its path any more.
+/// session hash one by one what the moves hash that are done, so they have the digest of these. Before the goal
+/// that is the digest of the path, which is the compiled digest of the policy. Where a command of the run does
+/// not succeed, the run does not stand on its path any more.
 pub fn session_digest_is_compiled()
+    ensures hashes { (run : Run) (past : List EventOf) (acts : List Act) (session done : ℕ)
+        → IsRun run → AreOthersApart run acts (begun past) → AreSecretsOnWritten run acts (begun past)
+        → place_of (after_acts run acts (begun past)).standing ≡ Some (session, done)
+        → map update_of (moves_of_facts (facts_of run.setup (after_acts run acts (begun past)).past session)) ≡ map update_of (take done run.plan.path.moves) }
     ensures path { (run : Run) (past : List EventOf) (acts : List Act) (session done : ℕ)
         → IsRun run → AreOthersApart run acts (begun past) → AreSecretsOnWritten run acts (begun past)
         → place_of (after_acts run acts (begun past)).standing ≡ Some (session, done)

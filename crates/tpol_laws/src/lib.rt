@@ -7,6 +7,8 @@
 //! `hears` of tpol_driver, which the states ensure), the paths of a policy and digests (tpol_digest). A law's
 //! premises are met by clauses of those who begin a run:
 //!
+//! `a_run_ends`: none.
+//!
 //! `session_digest_is_compiled`
 //! - `IsRun.setup`, `IsRun.grants`: the clauses of `read_scene` on its setup and on its clients' grants.
 //! - `IsRun.directory`: a plan's directory is that of the scene's setup, which `directory` ensures.
@@ -23,4 +25,4 @@
 
 mod laws;
 
-pub use laws::session_digest_is_compiled;
+pub use laws::{a_run_ends, session_digest_is_compiled};

@@ -6,11 +6,12 @@ use Rattle.tpol_digest.specs.Paths.{paths_of}
 use Rattle.tpol_digest.proofs.Meeting.{paths_of_meet}
 use Rattle.std.specs.Prelude.{length}
 use Rattle.tpol_tree.specs.declared.path.Path.{Path}
-use Rattle.tpol_laws.proofs.Step.{path-digest}
+use Rattle.tpol_laws.proofs.Step.{path-digest, path-hashes}
 use Rattle.tpol_laws.proofs.laws.session_digest_is_compiled.Goals as goal
 
 pub returns : goal.returns
 returns c = record {
+  hashes = path-hashes;
   path = path-digest;
   compiled = λ run past acts session policy approvals is contains apart asks stands.
       path-digest run past acts session (length run.plan.path.moves) is apart asks stands
