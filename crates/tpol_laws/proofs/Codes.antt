@@ -258,16 +258,16 @@ first-coded tables locality command own =
 -- ---- own rules
 
 -- rules in a row
-two : (a b : Bool) (ca cb : ℕ) → is_code ca ≡ true → is_code cb ≡ true → HasCode (or_else (unless a ca) (unless b cb))
-two a b ca cb ta tb = and-then (unless a ca) (unless b cb) (one a ca ta) (one b cb tb)
+two : (a b : Bool) (first second : ℕ) → is_code first ≡ true → is_code second ≡ true → HasCode (or_else (unless a first) (unless b second))
+two a b first second ta tb = and-then (unless a first) (unless b second) (one a first ta) (one b second tb)
 
-three : (a b c : Bool) (ca cb cc' : ℕ) → is_code ca ≡ true → is_code cb ≡ true → is_code cc' ≡ true → HasCode (or_else (unless a ca) (or_else (unless b cb) (unless c cc')))
-three a b c ca cb cc' ta tb tc = and-then (unless a ca) (or_else (unless b cb) (unless c cc')) (one a ca ta) (two b c cb cc' tb tc)
+three : (a b c : Bool) (first second third : ℕ) → is_code first ≡ true → is_code second ≡ true → is_code third ≡ true → HasCode (or_else (unless a first) (or_else (unless b second) (unless c third)))
+three a b c first second third ta tb tc = and-then (unless a first) (or_else (unless b second) (unless c third)) (one a first ta) (two b c second third tb tc)
 
-four : (a b c d : Bool) (ca cb cc' cd : ℕ) → is_code ca ≡ true → is_code cb ≡ true → is_code cc' ≡ true → is_code cd ≡ true
-    → HasCode (or_else (unless a ca) (or_else (unless b cb) (or_else (unless c cc') (unless d cd))))
-four a b c d ca cb cc' cd ta tb tc td =
-    and-then (unless a ca) (or_else (unless b cb) (or_else (unless c cc') (unless d cd))) (one a ca ta) (three b c d cb cc' cd tb tc td)
+four : (a b c d : Bool) (first second third fourth : ℕ) → is_code first ≡ true → is_code second ≡ true → is_code third ≡ true → is_code fourth ≡ true
+    → HasCode (or_else (unless a first) (or_else (unless b second) (or_else (unless c third) (unless d fourth))))
+four a b c d first second third fourth ta tb tc td =
+    and-then (unless a first) (or_else (unless b second) (or_else (unless c third) (unless d fourth))) (one a first ta) (three b c d second third fourth tb tc td)
 
 secret-coded : (session : SessionState) (time : ℕ) (nonce : List ℕ) (cp_hash : Option Digest32) (expiration : ℤ) → HasCode (policy_secret_rule session time nonce cp_hash expiration)
 secret-coded session time nonce cp_hash expiration =

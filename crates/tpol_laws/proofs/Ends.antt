@@ -1,5 +1,5 @@
 -- A run ends, whatever others do: each of its turns leaves fewer commands than were left before.
-use Rattle.std.proofs.Common.{◌≡◌, ℕ, suc, ◌+◌, ◌*◌, ◌≤◌, true, List, [], ◌∷◌, ◌++◌, length, refl, ap, sym, subst, ◌∙◌, arith}
+use Rattle.std.proofs.Common.{◌≡◌, ℕ, ◌+◌, ◌*◌, ◌≤◌, true, List, [], ◌∷◌, ◌++◌, length, refl, ap, sym, ◌∙◌, arith}
 use Rattle.std.proofs.lemmas.Grind.{fold-append}
 use Rattle.std.proofs.lemmas.List.{length-append}
 use Rattle.tpol_driver.proofs.Ending.{over_at_last}
@@ -7,11 +7,11 @@ use Rattle.tpol_driver.specs.declared.end.End.{End}
 use Rattle.tpol_driver.specs.declared.plan.Plan.{Plan}
 use Rattle.std.specs.Prelude.{slice_get}
 use Rattle.tpol_driver.specs.Commands.{start_command}
-use Rattle.tpol_driver.specs.Driving.{Closing, Drive, Ends, Moving, Over, Sends, Standing, Starting, hears, next_command, sends, stands_after}
+use Rattle.tpol_driver.specs.Driving.{Closing, Moving, Over, Standing, Starting, hears, next_command, stands_after}
 use Rattle.tpol_driver.specs.States.{is_over}
 use Rattle.tpol_wire.specs.declared.command.Command.TheVariants as commands
 use Rattle.tpm_engine.specs.declared.event.Event.{Event}
-use Rattle.tpol_laws.specs.Acts.{Act, Course, Other, Run, Turn, after_act, after_acts, answer_in, begun, turned, turns_in}
+use Rattle.tpol_laws.specs.Acts.{Act, Other, Run, Turn, after_acts, answer_in, begun, turns_in}
 
 -- a run that is over stays over
 over-stays : (run : Run) (acts : List Act) (past : List Event) (end : End) → is_over (after_acts run acts (record { past = past; standing = Over end })).standing ≡ true
@@ -31,8 +31,8 @@ ends-from : (run : Run) (acts : List Act) (past : List Event) (standing : Standi
     → 2 * length run.plan.path.moves + 4 ≤ length replies + turns_in acts
     → is_over (after_acts run acts (record { past = past; standing = standing })).standing ≡ true
 unfolding after_acts
-ends-from run [] past standing replies is enough = ap is_over (sym is) ∙ over_at_last run.plan replies (omega (arith, enough))
-ends-from run (Other call ∷ acts) past standing replies is enough = ends-from run acts _ standing replies is enough
+ends-from run [] past at replies is enough = ap is_over (sym is) ∙ over_at_last run.plan replies (omega (arith, enough))
+ends-from run (Other call ∷ acts) past at replies is enough = ends-from run acts _ at replies is enough
 ends-from run (Turn ∷ acts) past (Over end) replies is enough = over-stays run acts past end
 ends-from run (Turn ∷ acts) past Starting replies is enough =
     let reply = (answer_in run past (start_command run.plan.nonce_seed)).reply in
