@@ -5,6 +5,7 @@ mod Codes
 mod Ends
 mod Finds
 mod Fit
+mod Heard
 mod Named
 mod Own
 mod Starts

@@ -98,7 +98,7 @@ unfolding indices_of
 areas-same setup [] = refl
 areas-same setup (event ∷ past) = deed-areas (deed_of event) (indices_of setup past) ∙ areas-same setup past
 
-is-of : (setup : Setup) (past : List Event) → IsOf setup (view_of setup past).world
+pub is-of : (setup : Setup) (past : List Event) → IsOf setup (view_of setup past).world
 unfolding view_of world_at
 is-of setup past = record { objects = refl; areas = areas-same setup past }
 
@@ -165,12 +165,11 @@ denied-on run past own nonce sent done at ticket act number code is =
     subst (λ (read : Option (Reply × Option ReplyAuth)). IsOn run past (goes_on (record { handle = own; nonce = nonce }) sent done (move_heard ticket act at (answer_of read)))) (sym (refusal-read number code is)) tt
 
 -- a reply that is no refusal accepts a move
-some-ticket : Ticket
+abbrev pub some-ticket : Ticket
 some-ticket = record { tag = 0; hierarchy = 0; digest = [] }
 
-accepted-reply : (run : Run) (past : List Event) (own : ℕ) (nonce : Digest32) (sent done at : ℕ) (ticket : Option Ticket) (act : Move) (reply : Reply) (auth : Option ReplyAuth) → is_verification ticket act ≡ false → IsOnPath run past own None (done + 1)
+pub accepted-reply : (run : Run) (past : List Event) (own : ℕ) (nonce : Digest32) (sent done at : ℕ) (ticket : Option Ticket) (act : Move) (reply : Reply) (auth : Option ReplyAuth) → is_verification ticket act ≡ false → IsOnPath run past own None (done + 1)
     → IsOn run past (goes_on (record { handle = own; nonce = nonce }) sent done (move_heard ticket act at (answer_of_reply reply auth)))
-unfolding some-ticket
 accepted-reply run past own nonce sent done at ticket act (replies.Refused rc) auth other on = tt
 accepted-reply run past own nonce sent done at ticket act reply auth other on =
     subst (λ b. IsOn run past (goes_on (record { handle = own; nonce = nonce }) sent done (if b then verified at reply else move_heard (Some some-ticket) (Or []) at (answer_of_reply replies.FlushContext None)))) (sym other) on
@@ -234,7 +233,7 @@ pub record Verifies (reply : List ℕ) : Type 0 where
   pub fits : TicketFits ticket
   pub reads : reply_reading (number_of_code codes.VerifySignature) reply ≡ Some (replies.VerifySignature ticket, None)
 
-verifies : (tables : TableState) (number key : ℕ) (digest signature : Digest32) → verification.rule tables.world key digest signature ≡ None
+pub verifies : (tables : TableState) (number key : ℕ) (digest signature : Digest32) → verification.rule tables.world key digest signature ≡ None
     → Verifies (succeeding tables number (commands.VerifySignature key digest signature)).reply
 verifies tables number key digest signature rule =
     let it = ruled _ (object_of key tables.world.objects) _ rule in
@@ -284,14 +283,14 @@ module _ (run : Run) (is : IsRun run) (past : List Event) (own : ℕ) (nonce : D
       (λ first. verify-done key policy_ref approved signature handle digest on fits first)
 
   -- the key that a directory has
-  verify-fits : (name : Name) (digest signature : Digest32) (o : Option DirEntry) → object_of_name (directory_of run.setup) name ≡ o → is_some o ≡ true
+  pub verify-fits : (name : Name) (digest signature : Digest32) (o : Option DirEntry) → object_of_name (directory_of run.setup) name ≡ o → is_some o ≡ true
       → FitsCommand (commands.VerifySignature (or_null (option_map (λ (entry : DirEntry). entry.handle) o)) digest signature)
   verify-fits name digest signature None e known = absurd (false≢true known)
   verify-fits name digest signature (Some entry) e known = fits-verify entry.handle digest signature (object-handle run.setup name entry.handle (object-found run.setup is.setup name entry e))
 
 -- ---- a turn of a move
 
-asks-view : (setup : Setup) (past : List Event) (command : Command) → AsksWritten (indices_of setup past) command → AsksWritten (view_of setup past).world.indices command
+pub asks-view : (setup : Setup) (past : List Event) (command : Command) → AsksWritten (indices_of setup past) command → AsksWritten (view_of setup past).world.indices command
 unfolding view_of world_at
 asks-view setup past command asks = asks
 
@@ -333,7 +332,7 @@ module _ (run : Run) (is : IsRun run) (past : List Event) (own : ℕ) (nonce : D
       (answer_in run past (command_of_move d run.plan.grants (record { handle = own; nonce = nonce }) ticket act)).reply))))) same
       (move-step ticket act at on bounds)
 
-  known-at : (act : Move) → slice_get run.plan.path.moves done ≡ Some act → is_known_move run.plan.directory run.plan.grants act ≡ true
+  pub known-at : (act : Move) → slice_get run.plan.path.moves done ≡ Some act → is_known_move run.plan.directory run.plan.grants act ≡ true
   known-at act at =
       let both = and-both (not run.plan.path.outside) (list_all (is_known_move run.plan.directory run.plan.grants) run.plan.path.moves) is.complete in
       all-at (λ (a : Move). is_known_move run.plan.directory run.plan.grants a ≡ true) run.plan.path.moves done act

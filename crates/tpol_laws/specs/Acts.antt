@@ -1,5 +1,5 @@
 -- A run among others: what may happen while it goes on, and what becomes of it.
-use Rattle.std.specs.Prelude.{ℕ, ◌+◌, List, [], ◌∷◌}
+use Rattle.std.specs.Prelude.{ℕ, ◌+◌, Bool, false, List, [], ◌∷◌}
 use Rattle.tpol_driver.specs.declared.plan.Plan.{Plan}
 use Rattle.tpol_driver.specs.Driving.{Drive, Ends, Sends, Standing, Starting, hears, sends}
 use Rattle.tpol_name.specs.declared.setup.Setup.{Setup}
@@ -7,7 +7,7 @@ use Rattle.tpol_wire.specs.declared.command.Command.{Command}
 use Rattle.tpol_wire.specs.Commands.{spelling}
 use Rattle.tpm_engine.specs.declared.event.Event.{Event}
 use Rattle.tpm_engine.specs.Calls.{Call, event_by}
-use Rattle.tpm_engine.specs.Events.{Answered, event_of}
+use Rattle.tpm_engine.specs.Events.{Answered, event_of, is_success}
 use Rattle.tpm_engine.specs.Legal.{answer_to}
 
 -- a run: what the machine started from, the client that sends the run's commands, from which locality, and what
@@ -49,6 +49,11 @@ turned run course (Sends command) = record {
   standing = hears run.plan course.standing (answer_in run course.past command).reply;
 }
 turned run course (Ends end) = course
+
+-- whether the machine carries out what is sent
+abbrev pub succeeds : Run → Course → Drive → Bool
+succeeds run course (Sends command) = is_success (answer_in run course.past command).outcome
+succeeds run course (Ends end) = false
 
 abbrev pub after_act : Run → Course → Act → Course
 after_act run course Turn = turned run course (sends run.plan course.standing)

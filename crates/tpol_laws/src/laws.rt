@@ -1,18 +1,19 @@
 //! What the definitions promise together: functions without a body, whose clauses are the laws.
 
-ghost use Rattle.std.specs.Prelude.{◌≡◌, ◌≤◌, ◌+◌, ◌*◌, ℕ, List, Some, length, map, take, true};
+ghost use Rattle.std.specs.Prelude.{◌≡◌, ◌≤◌, ◌<◌, ◌+◌, ◌*◌, ℕ, List, Some, is_some, length, map, take, true};
 ghost use Rattle.std.specs.List.{Contains};
 ghost use Rattle.tpol_digest.specs.Digest.{digest_of_moves, policy_digest};
 ghost use Rattle.tpol_digest.specs.Paths.{paths_of};
 ghost use Rattle.tpol_digest.specs.Sound.{moves_of_facts};
 ghost use Rattle.tpol_digest.specs.Update.{update_of};
+ghost use Rattle.tpol_driver.specs.Driving.{sends};
 ghost use Rattle.tpol_driver.specs.States.{is_over};
 ghost use Rattle.tpol_tree.specs.declared.closed.Closed.{Closed};
 ghost use Rattle.tpol_tree.specs.declared.path.ApprovedDoc.{ApprovedDoc};
 ghost use Rattle.tpm_engine.specs.declared.event.Event.{Event as EventOf};
-ghost use Rattle.tpm_engine.specs.Views.{facts_of};
-ghost use Rattle.tpol_laws.specs.Acts.{Act, Run, after_acts, begun, turns_in};
-ghost use Rattle.tpol_laws.specs.Others.{AreOthersApart, AreSecretsOnWritten, place_of};
+ghost use Rattle.tpm_engine.specs.Views.{facts_of, indices_of};
+ghost use Rattle.tpol_laws.specs.Acts.{Act, Run, Turn, after_act, after_acts, begun, succeeds, turns_in};
+ghost use Rattle.tpol_laws.specs.Others.{AreOthersApart, AreSecretsOnWritten, SendsOnWritten, place_of};
 ghost use Rattle.tpol_laws.specs.Runs.{IsRun};
 
 /// A run is over after as many turns as it has commands at most, whatever others do: two for each move, and the
@@ -20,6 +21,17 @@ ghost use Rattle.tpol_laws.specs.Runs.{IsRun};
 pub fn a_run_ends()
     ensures { (run : Run) (past : List EventOf) (acts : List Act)
         → 2 * length run.plan.path.moves + 4 ≤ turns_in acts → is_over (after_acts run acts (begun past)).standing ≡ true }
+{}
+
+/// A run on its path goes on with it where the machine carries out the command of the next move: the reply is
+/// heard as what it is. So a run whose commands up to the goal all succeed stands before its goal.
+pub fn a_run_goes_on()
+    ensures { (run : Run) (past : List EventOf) (acts : List Act) (session done : ℕ)
+        → IsRun run → AreOthersApart run acts (begun past) → AreSecretsOnWritten run acts (begun past)
+        → place_of (after_acts run acts (begun past)).standing ≡ Some (session, done) → done < length run.plan.path.moves
+        → SendsOnWritten (indices_of run.setup (after_acts run acts (begun past)).past) (sends run.plan (after_acts run acts (begun past)).standing)
+        → succeeds run (after_acts run acts (begun past)) (sends run.plan (after_acts run acts (begun past)).standing) ≡ true
+        → is_some (place_of (after_act run (after_acts run acts (begun past)) Turn).standing) ≡ true }
 {}
 
 /// While the commands of a run succeed, no event of anybody else names its session, no Reset comes, and each

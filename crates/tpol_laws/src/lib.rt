@@ -25,4 +25,4 @@
 
 mod laws;
 
-pub use laws::{a_run_ends, session_digest_is_compiled};
+pub use laws::{a_run_ends, a_run_goes_on, session_digest_is_compiled};
