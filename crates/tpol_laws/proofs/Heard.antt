@@ -13,8 +13,8 @@ use Rattle.tpol_base.specs.Constants.{st_auth_secret, st_auth_signed}
 use Rattle.tpol_base.specs.Handle.{rs_pw}
 use Rattle.tpol_digest.specs.Laws.{MoveHasBounds}
 use Rattle.tpol_driver.specs.Answers.{answer_of, answer_of_reply}
-use Rattle.tpol_driver.specs.Commands.{command_of_move, key_handle}
-use Rattle.tpol_driver.specs.Driving.{Closing, Moving, Over, Standing, Starting, goes_on, heard_on_path, is_verification, move_heard, next_command, sends, verified}
+use Rattle.tpol_driver.specs.Commands.{command_of_move, key_handle, start_command}
+use Rattle.tpol_driver.specs.Driving.{Closing, Moving, Over, Standing, Starting, goes_on, heard_on_path, is_verification, move_heard, next_command, sends, start_heard, verified}
 use Rattle.tpol_driver.specs.Plans.{is_known_move}
 use Rattle.tpol_goal.specs.Entities.{object_of_name}
 use Rattle.tpol_hash.specs.Sha256.{sha256_digest}
@@ -47,10 +47,12 @@ use Rattle.tpm_engine.specs.PolicyCommands.{policy_start, ticket_digest, ticket_
 use Rattle.tpm_engine.specs.Tables.{TableState}
 use Rattle.tpm_engine.specs.Views.{indices_of, next_number, view_of}
 use Rattle.tpol_laws.specs.Acts.{Act, Course, Run, after_acts, answer_in, begun, succeeds, turned}
-use Rattle.tpol_laws.specs.Others.{AreOthersApart, AreSecretsOnWritten, AsksWritten, SendsOnWritten, place_of}
+use Rattle.tpol_laws.specs.Others.{AreOthersApart, AreSecretsOnWritten, AsksWritten, HasGoneOn, SendsOnWritten, place_of}
 use Rattle.tpol_laws.specs.Runs.{IsRun}
 use Rattle.tpol_laws.proofs.Answered.{IsByPassword, on-answer, own-passed, read-back, stop-fails}
 use Rattle.tpol_laws.proofs.Finds.{all-at}
+use Rattle.tpol_laws.proofs.Fit.{fits-start}
+use Rattle.tpol_laws.proofs.Starts.{started}
 use Rattle.tpol_laws.proofs.Own.{IsOwn, own-move}
 use Rattle.tpol_laws.proofs.Step.{IsOn, IsOnPath, acts-on, asks-view, is-of, known-at, some-ticket, verifies, verify-fits}
 
@@ -178,36 +180,36 @@ heard-place own nonce sent done at number ticket act bytes is other =
 module _ (run : Run) (is : IsRun run) (past : List Event) (own : ℕ) (nonce : Digest32) (sent done : ℕ) where
   own-heard : (ticket : Option Ticket) (act : Move) (command : Command) → is_verification ticket act ≡ false → IsOwn (view_of run.setup past).world own act command
       → is_success (answer_in run past command).outcome ≡ true
-      → is_some (place_of (goes_on (record { handle = own; nonce = nonce }) sent done (move_heard ticket act (done + 1) (answer_of (reply_reading (number_of_code (code_of_command command)) (answer_in run past command).reply))))) ≡ true
+      → HasGoneOn own done (place_of (goes_on (record { handle = own; nonce = nonce }) sent done (move_heard ticket act (done + 1) (answer_of (reply_reading (number_of_code (code_of_command command)) (answer_in run past command).reply)))))
   own-heard ticket act command other made =
       on-answer (λ a. is_success a.outcome ≡ true
-      → is_some (place_of (goes_on (record { handle = own; nonce = nonce }) sent done (move_heard ticket act (done + 1) (answer_of (reply_reading (number_of_code (code_of_command command)) a.reply))))) ≡ true)
+      → HasGoneOn own done (place_of (goes_on (record { handle = own; nonce = nonce }) sent done (move_heard ticket act (done + 1) (answer_of (reply_reading (number_of_code (code_of_command command)) a.reply))))))
       (view_of run.setup past) (next_number past) run.locality (spelling command) command (read-back command made.fits)
       (λ stop stops success. absurd (false≢true (sym (stop-fails (view_of run.setup past) run.locality command stop stops) ∙ success)))
-      (λ first success. ap is_some (heard-place own nonce sent done (done + 1) (number_of_code (code_of_command command)) ticket act _
+      (λ first success. inr (heard-place own nonce sent done (done + 1) (number_of_code (code_of_command command)) ticket act _
       (policy-heard (view_of run.setup past) (next_number past) command made.policy made.area) other))
 
   verify-heard : (key : Name) (policy_ref : List ℕ) (approved signature : Digest32) (handle : ℕ) (digest : Digest32) → FitsCommand (commands.VerifySignature handle digest signature)
       → is_success (answer_in run past (commands.VerifySignature handle digest signature)).outcome ≡ true
-      → is_some (place_of (goes_on (record { handle = own; nonce = nonce }) sent done (move_heard None (Approve key policy_ref approved signature) (done + 1)
-      (answer_of (reply_reading (number_of_code codes.VerifySignature) (answer_in run past (commands.VerifySignature handle digest signature)).reply))))) ≡ true
+      → HasGoneOn own done (place_of (goes_on (record { handle = own; nonce = nonce }) sent done (move_heard None (Approve key policy_ref approved signature) (done + 1)
+      (answer_of (reply_reading (number_of_code codes.VerifySignature) (answer_in run past (commands.VerifySignature handle digest signature)).reply)))))
   verify-heard key policy_ref approved signature handle digest fits =
       let command : Command = commands.VerifySignature handle digest signature in
       on-answer (λ a. is_success a.outcome ≡ true
-      → is_some (place_of (goes_on (record { handle = own; nonce = nonce }) sent done (move_heard None (Approve key policy_ref approved signature) (done + 1) (answer_of (reply_reading (number_of_code codes.VerifySignature) a.reply))))) ≡ true)
+      → HasGoneOn own done (place_of (goes_on (record { handle = own; nonce = nonce }) sent done (move_heard None (Approve key policy_ref approved signature) (done + 1) (answer_of (reply_reading (number_of_code codes.VerifySignature) a.reply))))))
       (view_of run.setup past) (next_number past) run.locality (spelling command) command (read-back (commands.VerifySignature handle digest signature) fits)
       (λ stop stops success. absurd (false≢true (sym (stop-fails (view_of run.setup past) run.locality command stop stops) ∙ success)))
       (λ first success.
       let it = verifies (view_of run.setup past) (next_number past) handle digest signature (own-passed (view_of run.setup past) run.locality (commands.VerifySignature handle digest signature) first) in
-      ap (λ (read : Option (Reply × Option ReplyAuth)). is_some (place_of (goes_on (record { handle = own; nonce = nonce }) sent done (move_heard None (Approve key policy_ref approved signature) (done + 1) (answer_of read))))) it.reads)
+      inl (ap (λ (read : Option (Reply × Option ReplyAuth)). place_of (goes_on (record { handle = own; nonce = nonce }) sent done (move_heard None (Approve key policy_ref approved signature) (done + 1) (answer_of read)))) it.reads))
 
   -- what the turn of a move comes to
   abbrev Goes : List DirEntry → Option Ticket → Move → Type 0
   Goes directory ticket act =
       is_success (answer_in run past (command_of_move directory run.plan.grants (record { handle = own; nonce = nonce }) ticket act)).outcome ≡ true
-      → is_some (place_of (goes_on (record { handle = own; nonce = nonce }) sent done (move_heard ticket act (done + 1)
+      → HasGoneOn own done (place_of (goes_on (record { handle = own; nonce = nonce }) sent done (move_heard ticket act (done + 1)
       (answer_of (reply_reading (number_of_code (code_of_command (command_of_move directory run.plan.grants (record { handle = own; nonce = nonce }) ticket act)))
-      (answer_in run past (command_of_move directory run.plan.grants (record { handle = own; nonce = nonce }) ticket act)).reply))))) ≡ true
+      (answer_in run past (command_of_move directory run.plan.grants (record { handle = own; nonce = nonce }) ticket act)).reply)))))
 
   own-goes : (ticket : Option Ticket) (act : Move) → IsOnPath run past own ticket done → MoveHasBounds act → is_known_move (directory_of run.setup) run.plan.grants act ≡ true → is_verification ticket act ≡ false
       → AsksWritten (indices_of run.setup past) (command_of_move (directory_of run.setup) run.plan.grants (record { handle = own; nonce = nonce }) ticket act) → Goes (directory_of run.setup) ticket act
@@ -228,8 +230,8 @@ module _ (run : Run) (is : IsRun run) (past : List Event) (own : ℕ) (nonce : D
   path-goes : (ticket : Option Ticket) (o : Option Move) → slice_get run.plan.path.moves done ≡ o → done < length run.plan.path.moves → IsOnPath run past own ticket done
       → AsksWritten (indices_of run.setup past) (next_command run.plan (record { handle = own; nonce = nonce }) sent ticket o)
       → is_success (answer_in run past (next_command run.plan (record { handle = own; nonce = nonce }) sent ticket o)).outcome ≡ true
-      → is_some (place_of (heard_on_path run.plan (record { handle = own; nonce = nonce }) sent ticket done o (answer_of (reply_reading (number_of_code (code_of_command (next_command run.plan (record { handle = own; nonce = nonce }) sent ticket o)))
-      (answer_in run past (next_command run.plan (record { handle = own; nonce = nonce }) sent ticket o)).reply)))) ≡ true
+      → HasGoneOn own done (place_of (heard_on_path run.plan (record { handle = own; nonce = nonce }) sent ticket done o (answer_of (reply_reading (number_of_code (code_of_command (next_command run.plan (record { handle = own; nonce = nonce }) sent ticket o)))
+      (answer_in run past (next_command run.plan (record { handle = own; nonce = nonce }) sent ticket o)).reply))))
   path-goes ticket None at within on asks success = absurd (left (slice_get_cases run.plan.path.moves done).1)
     where
       left : ((x : Move) × (done < length run.plan.path.moves) × (slice_get run.plan.path.moves done ≡ Some x) × (get_or run.plan.path.moves done x ≡ x)) ⊎ ((length run.plan.path.moves ≤ done) × (slice_get run.plan.path.moves done ≡ None)) → ⊥
@@ -243,12 +245,13 @@ module _ (run : Run) (is : IsRun run) (past : List Event) (own : ℕ) (nonce : D
 
 goes-at : (run : Run) → IsRun run → (past : List Event) (standing : Standing) (own done : ℕ) → IsOn run past standing → place_of standing ≡ Some (own, done) → done < length run.plan.path.moves
     → SendsOnWritten (indices_of run.setup past) (sends run.plan standing) → succeeds run (record { past = past; standing = standing }) (sends run.plan standing) ≡ true
-    → is_some (place_of (turned run (record { past = past; standing = standing }) (sends run.plan standing)).standing) ≡ true
+    → HasGoneOn own done (place_of (turned run (record { past = past; standing = standing }) (sends run.plan standing)).standing)
 goes-at run is past Starting own done on at within asks success = absurd (none-some (own, done) at)
 goes-at run is past (Moving session sent ticket now) own done on at within asks success =
     let same : (session.handle, now) ≡ (own, done) = same_Some _ _ at in
-    path-goes run is past session.handle session.nonce sent now ticket (slice_get run.plan.path.moves now) refl
-    (subst (λ (n : ℕ). n < length run.plan.path.moves) (sym (ap (λ (place : ℕ × ℕ). place.1) same)) within) on asks success
+    subst (λ (place : ℕ × ℕ). HasGoneOn place.0 place.1 (place_of (turned run (record { past = past; standing = Moving session sent ticket now }) (sends run.plan (Moving session sent ticket now))).standing)) same
+    (path-goes run is past session.handle session.nonce sent now ticket (slice_get run.plan.path.moves now) refl
+    (subst (λ (n : ℕ). n < length run.plan.path.moves) (sym (ap (λ (place : ℕ × ℕ). place.1) same)) within) on asks success)
 goes-at run is past (Closing session end) own done on at within asks success = absurd (none-some (own, done) at)
 goes-at run is past (Over end) own done on at within asks success = absurd (none-some (own, done) at)
 
@@ -256,6 +259,22 @@ pub success-goes-on : (run : Run) (past : List Event) (acts : List Act) (session
     → place_of (after_acts run acts (begun past)).standing ≡ Some (session, done) → done < length run.plan.path.moves
     → SendsOnWritten (indices_of run.setup (after_acts run acts (begun past)).past) (sends run.plan (after_acts run acts (begun past)).standing)
     → succeeds run (after_acts run acts (begun past)) (sends run.plan (after_acts run acts (begun past)).standing) ≡ true
-    → is_some (place_of (turned run (after_acts run acts (begun past)) (sends run.plan (after_acts run acts (begun past)).standing)).standing) ≡ true
+    → HasGoneOn session done (place_of (turned run (after_acts run acts (begun past)) (sends run.plan (after_acts run acts (begun past)).standing)).standing)
 success-goes-on run past acts session done is apart secrets at within asks success =
     goes-at run is (after_acts run acts (begun past)).past (after_acts run acts (begun past)).standing session done (acts-on run is acts (begun past) tt apart secrets) at within asks success
+
+-- ---- the start
+
+start-goes : (run : Run) (past : List Event) (seed : Digest32) → is_success (answer_in run past (start_command seed)).outcome ≡ true
+    → option_map (λ (place : ℕ × ℕ). place.1) (place_of (start_heard (answer_of (reply_reading (number_of_code codes.StartAuthSession) (answer_in run past (start_command seed)).reply)))) ≡ Some 0
+start-goes run past seed =
+    on-answer (λ a. is_success a.outcome ≡ true → option_map (λ (place : ℕ × ℕ). place.1) (place_of (start_heard (answer_of (reply_reading (number_of_code codes.StartAuthSession) a.reply)))) ≡ Some 0)
+    (view_of run.setup past) (next_number past) run.locality (spelling (start_command seed)) (start_command seed) (read-back (start_command seed) (fits-start seed))
+    (λ stop stops success. absurd (false≢true (sym (stop-fails (view_of run.setup past) run.locality (start_command seed) stop stops) ∙ success)))
+    (λ first success.
+    let start = started (view_of run.setup past) (next_number past) (own-passed (view_of run.setup past) run.locality (start_command seed) first) in
+    ap (λ (read : Option (Reply × Option ReplyAuth)). option_map (λ (place : ℕ × ℕ). place.1) (place_of (start_heard (answer_of read)))) start.is.reads)
+
+pub success-starts : (run : Run) (past : List Event) → succeeds run (begun past) (sends run.plan Starting) ≡ true
+    → option_map (λ (place : ℕ × ℕ). place.1) (place_of (turned run (begun past) (sends run.plan Starting)).standing) ≡ Some 0
+success-starts run past success = start-goes run past run.plan.nonce_seed success

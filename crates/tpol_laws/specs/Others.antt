@@ -1,5 +1,5 @@
 -- What the others leave alone, and the indices that a run's PolicySecret finds.
-use Rattle.std.specs.Prelude.{◌≡◌, ℕ, ◌==◌, ◌||◌, Bool, true, false, List, [], ◌∷◌, Option, Some, None, IfSome, Result, Ok, Err, nat_eq, ⊤}
+use Rattle.std.specs.Prelude.{◌≡◌, ◌⊎◌, ◌+◌, ℕ, ◌==◌, ◌||◌, Bool, true, false, List, [], ◌∷◌, Option, Some, None, IfSome, Result, Ok, Err, nat_eq, ⊤}
 use Rattle.std.specs.List.{list_any}
 use Rattle.std.specs.Option.{option_map_or}
 use Rattle.tpol_driver.specs.Driving.{Closing, Drive, Ends, Moving, Over, Sends, Standing, Starting, sends}
@@ -51,6 +51,10 @@ place_of Starting = None
 place_of (Moving session sent ticket done) = Some (session.handle, done)
 place_of (Closing session end) = None
 place_of (Over end) = None
+
+-- where it was, with an approval verified, or one move further
+abbrev pub HasGoneOn : ℕ → ℕ → Option (ℕ × ℕ) → Type 0
+HasGoneOn session done place = (place ≡ Some (session, done)) ⊎ (place ≡ Some (session, done + 1))
 
 abbrev pub LeavesSession : Call → ℕ → Type 0
 LeavesSession (Execute client locality buffer) session = names_in (reading buffer) session ≡ false

@@ -1,19 +1,19 @@
 //! What the definitions promise together: functions without a body, whose clauses are the laws.
 
-ghost use Rattle.std.specs.Prelude.{◌≡◌, ◌≤◌, ◌<◌, ◌+◌, ◌*◌, ℕ, List, Some, is_some, length, map, take, true};
+ghost use Rattle.std.specs.Prelude.{◌≡◌, ◌≤◌, ◌<◌, ◌+◌, ◌*◌, ℕ, List, Some, length, map, option_map, take, true};
 ghost use Rattle.std.specs.List.{Contains};
 ghost use Rattle.tpol_digest.specs.Digest.{digest_of_moves, policy_digest};
 ghost use Rattle.tpol_digest.specs.Paths.{paths_of};
 ghost use Rattle.tpol_digest.specs.Sound.{moves_of_facts};
 ghost use Rattle.tpol_digest.specs.Update.{update_of};
-ghost use Rattle.tpol_driver.specs.Driving.{sends};
+ghost use Rattle.tpol_driver.specs.Driving.{Starting, sends};
 ghost use Rattle.tpol_driver.specs.States.{is_over};
 ghost use Rattle.tpol_tree.specs.declared.closed.Closed.{Closed};
 ghost use Rattle.tpol_tree.specs.declared.path.ApprovedDoc.{ApprovedDoc};
 ghost use Rattle.tpm_engine.specs.declared.event.Event.{Event as EventOf};
 ghost use Rattle.tpm_engine.specs.Views.{facts_of, indices_of};
 ghost use Rattle.tpol_laws.specs.Acts.{Act, Run, Turn, after_act, after_acts, begun, succeeds, turns_in};
-ghost use Rattle.tpol_laws.specs.Others.{AreOthersApart, AreSecretsOnWritten, SendsOnWritten, place_of};
+ghost use Rattle.tpol_laws.specs.Others.{AreOthersApart, AreSecretsOnWritten, HasGoneOn, SendsOnWritten, place_of};
 ghost use Rattle.tpol_laws.specs.Runs.{IsRun};
 
 /// A run is over after as many turns as it has commands at most, whatever others do: two for each move, and the
@@ -23,15 +23,19 @@ pub fn a_run_ends()
         → 2 * length run.plan.path.moves + 4 ≤ turns_in acts → is_over (after_acts run acts (begun past)).standing ≡ true }
 {}
 
-/// A run on its path goes on with it where the machine carries out the command of the next move: the reply is
-/// heard as what it is. So a run whose commands up to the goal all succeed stands before its goal.
+/// A run goes on where the machine carries out its command: a run whose session is started stands before its
+/// first move, and one on its path is one move further, or has verified the approval that it makes next. So a
+/// run whose commands up to the goal all succeed comes to stand before its goal.
 pub fn a_run_goes_on()
-    ensures { (run : Run) (past : List EventOf) (acts : List Act) (session done : ℕ)
+    ensures starts { (run : Run) (past : List EventOf)
+        → succeeds run (begun past) (sends run.plan Starting) ≡ true
+        → option_map (λ place. place.1) (place_of (after_act run (begun past) Turn).standing) ≡ Some 0 }
+    ensures goes_on { (run : Run) (past : List EventOf) (acts : List Act) (session done : ℕ)
         → IsRun run → AreOthersApart run acts (begun past) → AreSecretsOnWritten run acts (begun past)
         → place_of (after_acts run acts (begun past)).standing ≡ Some (session, done) → done < length run.plan.path.moves
         → SendsOnWritten (indices_of run.setup (after_acts run acts (begun past)).past) (sends run.plan (after_acts run acts (begun past)).standing)
         → succeeds run (after_acts run acts (begun past)) (sends run.plan (after_acts run acts (begun past)).standing) ≡ true
-        → is_some (place_of (after_act run (after_acts run acts (begun past)) Turn).standing) ≡ true }
+        → HasGoneOn session done (place_of (after_act run (after_acts run acts (begun past)) Turn).standing) }
 {}
 
 /// While the commands of a run succeed, no event of anybody else names its session, no Reset comes, and each
