@@ -1,6 +1,6 @@
 -- A policy command or a VerifySignature that succeeds is heard as accepted, so the run goes on.
-use Rattle.std.proofs.Common.{◌≡◌, ◌≤◌, ◌<◌, ◌⊎◌, inl, inr, ℕ, ◌+◌, ◌%◌, ◌/◌, ◌^◌, ◌==◌, ◌&&◌, Bool, true, false, List, [], ◌∷◌, ◌++◌, length, nat_eq, refl, ap, sym, subst, ◌∙◌, arith}
-use Rattle.std.specs.Prelude.{get_or, Option, Some, None, IsTrue, is_some, option_map, slice_get, if◌then◌else◌, ⊤}
+use Rattle.std.proofs.Common.{◌≡◌, ◌≤◌, ◌<◌, ◌⊎◌, inl, inr, ℕ, ◌+◌, ◌%◌, ◌/◌, ◌^◌, true, false, List, [], ◌++◌, length, nat_eq, refl, ap, sym, subst, ◌∙◌, arith}
+use Rattle.std.specs.Prelude.{get_or, Option, Some, None, option_map, slice_get, if◌then◌else◌, ⊤}
 use Rattle.std.specs.Int.{to_be_bytes, w64}
 use Rattle.std.specs.Option.{option_and_then}
 use Rattle.std.proofs.lemmas.Bool.{eq-eqb, false≢true}
@@ -31,7 +31,7 @@ use Rattle.tpol_wire.specs.declared.reply.Reply.TheVariants as replies
 use Rattle.tpol_wire.specs.declared.ticket.Ticket.{Ticket}
 use Rattle.tpol_wire.specs.Authorizations.{ReplyAuthFits}
 use Rattle.tpol_wire.specs.Commands.{FitsCommand, ValuesFit, code_of_command, spell_values, spelling, tag}
-use Rattle.tpol_wire.specs.Kinds.{Fits, TimedTicket, goes_with, sized, spell, ticket_bytes, timeout_bytes}
+use Rattle.tpol_wire.specs.Kinds.{Fits, TimedTicket, sized, spell, ticket_bytes, timeout_bytes}
 use Rattle.tpol_wire.specs.Replies.{FitsReply, PartsAnswer, parts_of, reply_body, reply_layout, spell_reply}
 use Rattle.tpol_wire.specs.ReplyReading.{reply_reading}
 use Rattle.tpol_wire.proofs.ReplyLaws.{reply_read}
@@ -40,13 +40,13 @@ use Rattle.tpm_world.specs.Entities.{name_at}
 use Rattle.tpm_world.specs.Handles.{area_of, is_policy_command}
 use Rattle.tpm_world.specs.World.{WorldState}
 use Rattle.tpm_engine.specs.declared.event.Event.{Event}
-use Rattle.tpm_engine.specs.Answers.{first_stop, succeeding}
+use Rattle.tpm_engine.specs.Answers.{succeeding}
 use Rattle.tpm_engine.specs.Authorization.{authorized_entity, password_area, reply_area, session_area}
 use Rattle.tpm_engine.specs.Events.{is_success}
 use Rattle.tpm_engine.specs.PolicyCommands.{policy_start, ticket_digest, ticket_of, timeout_of}
 use Rattle.tpm_engine.specs.Tables.{TableState}
 use Rattle.tpm_engine.specs.Views.{indices_of, next_number, view_of}
-use Rattle.tpol_laws.specs.Acts.{Act, Course, Run, after_acts, answer_in, begun, succeeds, turned}
+use Rattle.tpol_laws.specs.Acts.{Act, Run, after_acts, answer_in, begun, succeeds, turned}
 use Rattle.tpol_laws.specs.Others.{AreOthersApart, AreSecretsOnWritten, AsksWritten, HasGoneOn, SendsOnWritten, place_of}
 use Rattle.tpol_laws.specs.Runs.{IsRun}
 use Rattle.tpol_laws.proofs.Answered.{IsByPassword, on-answer, own-passed, read-back, stop-fails}

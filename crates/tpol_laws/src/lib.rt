@@ -9,7 +9,7 @@
 //!
 //! `a_run_ends`: none.
 //!
-//! `session_digest_is_compiled`
+//! `a_run_goes_on`, `session_digest_is_compiled`
 //! - `IsRun.setup`, `IsRun.grants`: the clauses of `read_scene` on its setup and on its clients' grants.
 //! - `IsRun.directory`: a plan's directory is that of the scene's setup, which `directory` ensures.
 //! - `IsRun.moves`: `paths_have_bounds`, from the bounds that `fill` keeps of what `read_policy` read.
@@ -20,7 +20,8 @@
 //!   Without it the law is false: PolicySecret hashes the Name that the index has now, and a policy names the
 //!   index once it is written.
 //!
-//! That the commands of the run succeed is no premise of its own: a run stands on its path as long as they do.
+//! That the commands of the run succeed is no premise of the second: a run stands on its path as long as they
+//! do, which is the first.
 #![tactic(auto)]
 
 mod laws;
