@@ -2,6 +2,7 @@ mod After
 mod Answered
 mod Calm
 mod Codes
+mod Complete
 mod Ends
 mod Finds
 mod Fit

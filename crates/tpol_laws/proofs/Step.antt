@@ -93,7 +93,7 @@ deed-areas (Saves session) indices = refl
 deed-areas (Loads session) indices = refl
 deed-areas (Shows session fact) indices = refl
 
-areas-same : (setup : Setup) (past : List Event) → map area (indices_of setup past) ≡ map area setup.indices
+pub areas-same : (setup : Setup) (past : List Event) → map area (indices_of setup past) ≡ map area setup.indices
 unfolding indices_of
 areas-same setup [] = refl
 areas-same setup (event ∷ past) = deed-areas (deed_of event) (indices_of setup past) ∙ areas-same setup past

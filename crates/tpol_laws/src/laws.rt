@@ -1,20 +1,35 @@
 //! What the definitions promise together: functions without a body, whose clauses are the laws.
 
-ghost use Rattle.std.specs.Prelude.{◌≡◌, ◌≤◌, ◌<◌, ◌+◌, ◌*◌, ℕ, List, Some, length, map, option_map, take, true};
+ghost use Rattle.std.specs.Prelude.{◌≡◌, ◌≤◌, ◌<◌, ◌+◌, ◌*◌, ℕ, List, None, Some, length, map, option_map, take, true};
 ghost use Rattle.std.specs.List.{Contains};
+ghost use Rattle.tpol_choose.specs.Blocks.{first_block};
 ghost use Rattle.tpol_digest.specs.Digest.{digest_of_moves, policy_digest};
 ghost use Rattle.tpol_digest.specs.Paths.{paths_of};
 ghost use Rattle.tpol_digest.specs.Sound.{moves_of_facts};
 ghost use Rattle.tpol_digest.specs.Update.{update_of};
+ghost use Rattle.tpol_driver.specs.declared.plan.Plan.{Plan};
 ghost use Rattle.tpol_driver.specs.Driving.{Starting, sends};
+ghost use Rattle.tpol_driver.specs.Plans.{is_complete};
 ghost use Rattle.tpol_driver.specs.States.{is_over};
+ghost use Rattle.tpol_name.specs.declared.setup.Setup.{Setup as SetupOf};
+ghost use Rattle.tpol_name.specs.Directories.{directory_of};
+ghost use Rattle.tpol_name.specs.Setups.{IsSetup};
 ghost use Rattle.tpol_tree.specs.declared.closed.Closed.{Closed};
 ghost use Rattle.tpol_tree.specs.declared.path.ApprovedDoc.{ApprovedDoc};
 ghost use Rattle.tpm_engine.specs.declared.event.Event.{Event as EventOf};
+ghost use Rattle.tpm_engine.specs.Sights.{sight_after};
 ghost use Rattle.tpm_engine.specs.Views.{facts_of, indices_of};
 ghost use Rattle.tpol_laws.specs.Acts.{Act, Run, Turn, after_act, after_acts, begun, succeeds, turns_in};
 ghost use Rattle.tpol_laws.specs.Others.{AreOthersApart, AreSecretsOnWritten, HasGoneOn, SendsOnWritten, place_of};
 ghost use Rattle.tpol_laws.specs.Runs.{IsRun};
+
+/// A path that nothing stops on the machine as it is now is one whose commands can all be made: it is not outside,
+/// each Name on it is in the directory with its kind, and each key that signs is granted.
+pub fn a_path_that_can_is_complete()
+    ensures { (setup : SetupOf) (past : List EventOf) (plan : Plan) (locality : ℕ)
+        → IsSetup setup → plan.directory ≡ directory_of setup
+        → first_block plan.path (sight_after setup past) plan.grants plan.goal locality ≡ None → is_complete plan ≡ true }
+{}
 
 /// A run is over after as many turns as it has commands at most, whatever others do: two for each move, and the
 /// start, the goal and the end of its session.

@@ -7,14 +7,18 @@
 //! `hears` of tpol_driver, which the states ensure), the paths of a policy and digests (tpol_digest). A law's
 //! premises are met by clauses of those who begin a run:
 //!
+//! `a_path_that_can_is_complete`
+//! - `IsSetup`: the clause `setup` of `read_scene`. The directory is that of `directory`, its clause `lines`. The
+//!   sight is that of `Machine::sight`, its clause `view`.
+//!
 //! `a_run_ends`: none.
 //!
 //! `a_run_goes_on`, `session_digest_is_compiled`
-//! - `IsRun.setup`, `IsRun.grants`: the clauses of `read_scene` on its setup and on its clients' grants.
-//! - `IsRun.directory`: a plan's directory is that of the scene's setup, which `directory` ensures.
-//! - `IsRun.moves`: `paths_have_bounds`, from the bounds that `fill` keeps of what `read_policy` read.
-//! - `IsRun.complete`: `Plan::complete`, which `Planned::new` asks for; a path that can has no `NoEntity` and no
-//!   `NoKey`, and is not outside.
+//! - `IsRun.setup`, `IsRun.grants`: the clauses `setup` and `clients` of `read_scene`.
+//! - `IsRun.directory`: a plan's directory is that of the scene's setup, by the clause `lines` of `directory`.
+//! - `IsRun.moves`: `paths_have_bounds` of tpol_digest, over the clauses `bounded` of `read_policy` and of `fill`.
+//! - `IsRun.complete`: `a_path_that_can_is_complete`, for a path that `choose` answers (its clause `chosen`); for
+//!   any other plan it is what `Plan::complete` answers.
 //! - `AreOthersApart`: nobody else names the run's session between, and no TPM Reset comes.
 //! - `AreSecretsOnWritten`: each index on which a PolicySecret of the run is executed is written at that moment.
 //!   Without it the law is false: PolicySecret hashes the Name that the index has now, and a policy names the
@@ -26,4 +30,4 @@
 
 mod laws;
 
-pub use laws::{a_run_ends, a_run_goes_on, session_digest_is_compiled};
+pub use laws::{a_path_that_can_is_complete, a_run_ends, a_run_goes_on, session_digest_is_compiled};
