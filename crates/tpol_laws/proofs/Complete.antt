@@ -1,7 +1,7 @@
 -- A path that nothing stops is complete: each Name on it is in the directory, and each key that signs is granted.
-use Rattle.std.proofs.Common.{◌≡◌, ℕ, ◌+◌, ◌&&◌, ◌||◌, not, Bool, true, false, List, [], ◌∷◌, map, refl, ap, sym, subst, ◌∙◌, arith}
-use Rattle.std.specs.Prelude.{ℤ, Option, Some, None, find, is_some, option_map, ⊤}
-use Rattle.std.specs.List.{AllByRecursion, list_all}
+use Rattle.std.proofs.Common.{◌≡◌, ℕ, ◌+◌, ◌&&◌, ◌||◌, not, true, List, [], ◌∷◌, map, refl, ap, sym, subst, ◌∙◌, arith}
+use Rattle.std.specs.Prelude.{ℤ, Option, Some, None, find, is_some, option_map}
+use Rattle.std.specs.List.{list_all}
 use Rattle.std.specs.Option.{option_or}
 use Rattle.std.proofs.lemmas.Option.{none-some}
 use Rattle.tpol_base.specs.declared.command_code.CommandCode.{CommandCode}
@@ -18,8 +18,7 @@ use Rattle.tpol_choose.specs.Facts.{fresh_session, session_after}
 use Rattle.tpol_choose.specs.Moves.{approve_block, assertion_block, index_block, move_block, secret_block, signed_block, signing_block}
 use Rattle.tpol_driver.specs.declared.plan.Plan.{Plan}
 use Rattle.tpol_driver.specs.Plans.{is_complete, is_granted_key, is_known_assertion, is_known_move}
-use Rattle.tpol_goal.specs.declared.grants.Grants.{Grants}
-use Rattle.tpol_goal.specs.Entities.{entity_in_sight, entity_of_name, hierarchy_of_name, index_in_sight, index_of_name, object_in_sight, object_of_name}
+use Rattle.tpol_goal.specs.Entities.{entity_of_name, hierarchy_of_name, index_in_sight, index_of_name, object_in_sight, object_of_name}
 use Rattle.tpol_goal.specs.Grants.{granted}
 use Rattle.tpol_goal.proofs.Directories.{entity_of_lines, index_of_lines, object_of_lines}
 use Rattle.tpol_name.specs.declared.areas.NvPublic.{NvPublic}

@@ -30,4 +30,6 @@
 
 mod laws;
 
-pub use laws::{a_path_that_can_is_complete, a_run_ends, a_run_goes_on, session_digest_is_compiled};
+pub use laws::{
+    a_path_that_can_is_complete, a_run_ends, a_run_goes_on, session_digest_is_compiled,
+};
