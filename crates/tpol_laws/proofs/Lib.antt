@@ -1,0 +1,13 @@
+mod After
+mod Answered
+mod Calm
+mod Codes
+mod Complete
+mod Ends
+mod Finds
+mod Fit
+mod Heard
+mod Named
+mod Own
+mod Starts
+mod Step

@@ -1,0 +1,74 @@
+//! What the definitions promise together: functions without a body, whose clauses are the laws.
+
+ghost use Rattle.std.specs.Prelude.{◌≡◌, ◌≤◌, ◌<◌, ◌+◌, ◌*◌, ℕ, List, None, Some, length, map, option_map, take, true};
+ghost use Rattle.std.specs.List.{Contains};
+ghost use Rattle.tpol_choose.specs.Blocks.{first_block};
+ghost use Rattle.tpol_digest.specs.Digest.{digest_of_moves, policy_digest};
+ghost use Rattle.tpol_digest.specs.Paths.{paths_of};
+ghost use Rattle.tpol_digest.specs.Sound.{moves_of_facts};
+ghost use Rattle.tpol_digest.specs.Update.{update_of};
+ghost use Rattle.tpol_driver.specs.declared.plan.Plan.{Plan};
+ghost use Rattle.tpol_driver.specs.Driving.{Starting, sends};
+ghost use Rattle.tpol_driver.specs.Plans.{is_complete};
+ghost use Rattle.tpol_driver.specs.States.{is_over};
+ghost use Rattle.tpol_name.specs.declared.setup.Setup.{Setup as SetupOf};
+ghost use Rattle.tpol_name.specs.Directories.{directory_of};
+ghost use Rattle.tpol_name.specs.Setups.{IsSetup};
+ghost use Rattle.tpol_tree.specs.declared.closed.Closed.{Closed};
+ghost use Rattle.tpol_tree.specs.declared.path.ApprovedDoc.{ApprovedDoc};
+ghost use Rattle.tpm_engine.specs.declared.event.Event.{Event as EventOf};
+ghost use Rattle.tpm_engine.specs.Sights.{sight_after};
+ghost use Rattle.tpm_engine.specs.Views.{facts_of, indices_of};
+ghost use Rattle.tpol_laws.specs.Acts.{Act, Run, Turn, after_act, after_acts, begun, succeeds, turns_in};
+ghost use Rattle.tpol_laws.specs.Others.{AreOthersApart, AreSecretsOnWritten, HasGoneOn, SendsOnWritten, place_of};
+ghost use Rattle.tpol_laws.specs.Runs.{IsRun};
+
+/// A path that nothing stops on the machine as it is now is one whose commands can all be made: it is not outside,
+/// each Name on it is in the directory with its kind, and each key that signs is granted.
+pub fn a_path_that_can_is_complete()
+    ensures { (setup : SetupOf) (past : List EventOf) (plan : Plan) (locality : ℕ)
+        → IsSetup setup → plan.directory ≡ directory_of setup
+        → first_block plan.path (sight_after setup past) plan.grants plan.goal locality ≡ None → is_complete plan ≡ true }
+{}
+
+/// A run is over after as many turns as it has commands at most, whatever others do: two for each move, and the
+/// start, the goal and the end of its session.
+pub fn a_run_ends()
+    ensures { (run : Run) (past : List EventOf) (acts : List Act)
+        → 2 * length run.plan.path.moves + 4 ≤ turns_in acts → is_over (after_acts run acts (begun past)).standing ≡ true }
+{}
+
+/// A run goes on where the machine carries out its command: a run whose session is started stands before its
+/// first move, and one on its path is one move further, or has verified the approval that it makes next. So a
+/// run whose commands up to the goal all succeed comes to stand before its goal.
+pub fn a_run_goes_on()
+    ensures starts { (run : Run) (past : List EventOf)
+        → succeeds run (begun past) (sends run.plan Starting) ≡ true
+        → option_map (λ place. place.1) (place_of (after_act run (begun past) Turn).standing) ≡ Some 0 }
+    ensures goes_on { (run : Run) (past : List EventOf) (acts : List Act) (session done : ℕ)
+        → IsRun run → AreOthersApart run acts (begun past) → AreSecretsOnWritten run acts (begun past)
+        → place_of (after_acts run acts (begun past)).standing ≡ Some (session, done) → done < length run.plan.path.moves
+        → SendsOnWritten (indices_of run.setup (after_acts run acts (begun past)).past) (sends run.plan (after_acts run acts (begun past)).standing)
+        → succeeds run (after_acts run acts (begun past)) (sends run.plan (after_acts run acts (begun past)).standing) ≡ true
+        → HasGoneOn session done (place_of (after_act run (after_acts run acts (begun past)) Turn).standing) }
+{}
+
+/// While the commands of a run succeed, no event of anybody else names its session, no Reset comes, and each
+/// index on which one of its PolicySecret commands is executed is written at that moment, the facts of its
+/// session hash one by one what the moves hash that are done, so they have the digest of these. Before the goal
+/// that is the digest of the path, which is the compiled digest of the policy. Where a command of the run does
+/// not succeed, the run does not stand on its path any more.
+pub fn session_digest_is_compiled()
+    ensures hashes { (run : Run) (past : List EventOf) (acts : List Act) (session done : ℕ)
+        → IsRun run → AreOthersApart run acts (begun past) → AreSecretsOnWritten run acts (begun past)
+        → place_of (after_acts run acts (begun past)).standing ≡ Some (session, done)
+        → map update_of (moves_of_facts (facts_of run.setup (after_acts run acts (begun past)).past session)) ≡ map update_of (take done run.plan.path.moves) }
+    ensures path { (run : Run) (past : List EventOf) (acts : List Act) (session done : ℕ)
+        → IsRun run → AreOthersApart run acts (begun past) → AreSecretsOnWritten run acts (begun past)
+        → place_of (after_acts run acts (begun past)).standing ≡ Some (session, done)
+        → digest_of_moves (moves_of_facts (facts_of run.setup (after_acts run acts (begun past)).past session)) ≡ digest_of_moves (take done run.plan.path.moves) }
+    ensures compiled { (run : Run) (past : List EventOf) (acts : List Act) (session : ℕ) (policy : Closed) (approvals : List ApprovedDoc)
+        → IsRun run → Contains (paths_of policy approvals) run.plan.path → AreOthersApart run acts (begun past) → AreSecretsOnWritten run acts (begun past)
+        → place_of (after_acts run acts (begun past)).standing ≡ Some (session, length run.plan.path.moves)
+        → digest_of_moves (moves_of_facts (facts_of run.setup (after_acts run acts (begun past)).past session)) ≡ policy_digest policy }
+{}

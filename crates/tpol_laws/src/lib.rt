@@ -1,0 +1,35 @@
+//! What holds of whole runs: laws over the definitions of the machine, of the driver and of digests, which no
+//! single call can say.
+//!
+//! Each law is a function without a body, whose clauses are the law. The definitions that a law names are those
+//! of the contracts of calls that the program makes: what the machine answers and what a journal tells
+//! (`answer_to`, `facts_of` of tpm_engine, which `Machine::execute` ensures), what a run sends and hears (`sends`,
+//! `hears` of tpol_driver, which the states ensure), the paths of a policy and digests (tpol_digest). A law's
+//! premises are met by clauses of those who begin a run:
+//!
+//! `a_path_that_can_is_complete`
+//! - `IsSetup`: the clause `setup` of `read_scene`. The directory is that of `directory`, its clause `lines`. The
+//!   sight is that of `Machine::sight`, its clause `view`.
+//!
+//! `a_run_ends`: none.
+//!
+//! `a_run_goes_on`, `session_digest_is_compiled`
+//! - `IsRun.setup`, `IsRun.grants`: the clauses `setup` and `clients` of `read_scene`.
+//! - `IsRun.directory`: a plan's directory is that of the scene's setup, by the clause `lines` of `directory`.
+//! - `IsRun.moves`: `paths_have_bounds` of tpol_digest, over the clauses `bounded` of `read_policy` and of `fill`.
+//! - `IsRun.complete`: `a_path_that_can_is_complete`, for a path that `choose` answers (its clause `chosen`); for
+//!   any other plan it is what `Plan::complete` answers.
+//! - `AreOthersApart`: nobody else names the run's session between, and no TPM Reset comes.
+//! - `AreSecretsOnWritten`: each index on which a PolicySecret of the run is executed is written at that moment.
+//!   Without it the law is false: PolicySecret hashes the Name that the index has now, and a policy names the
+//!   index once it is written.
+//!
+//! That the commands of the run succeed is no premise of the second: a run stands on its path as long as they
+//! do, which is the first.
+#![tactic(auto)]
+
+mod laws;
+
+pub use laws::{
+    a_path_that_can_is_complete, a_run_ends, a_run_goes_on, session_digest_is_compiled,
+};
