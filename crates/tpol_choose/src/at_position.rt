@@ -64,7 +64,7 @@ pub fn block_at(
 }
 
 // The same by the index of the path, from 0.
-pub fn block_at_index(walk: &Walk<'_>, policy: &Closed, index: u64) -> Result<(), Block>
+fn block_at_index(walk: &Walk<'_>, policy: &Closed, index: u64) -> Result<(), Block>
     requires branches { HasBranchCounts policy.now.elements }
     requires approved { All (λ document. HasBranchCounts document.closed.elements) walk.now.approvals.now }
     requires sight { IsSight walk.now.client.sight.now }

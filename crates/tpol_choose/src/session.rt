@@ -129,7 +129,7 @@ fn secret_digest(before: Digest32, name: &Name, policy_ref: &[u8]) -> Digest32
 }
 
 // The digest after PolicyOR with these digests.
-fn or_digest(digests: &[Digest32]) -> Digest32
+pub fn or_digest(digests: &[Digest32]) -> Digest32
     ensures { result ≡ or_digest digests.now }
 {
     let mut hasher = start(&zero(), CommandCode::PolicyOr);
