@@ -1,5 +1,5 @@
 -- What stands in the way at the end of a track.
-use Rattle.std.proofs.Common.{◌≡◌, ℕ, ◌+◌, ◌-◌, ◌^◌, ◌≤◌, min, List, [], ◌∷◌, fold, length, Option, Some, None, Result, Ok, Err, refl, sym, ap, ◌∙◌, arith}
+use Rattle.std.proofs.Common.{◌≡◌, ◌+◌, ◌-◌, ◌^◌, ◌≤◌, List, [], ◌∷◌, fold, length, Option, Some, None, Result, Ok, Err, refl, ap, ◌∙◌, arith}
 use Rattle.std.specs.Prelude.{is_none, is_ok}
 use Rattle.tpm_rules.specs.Rule.{Breaks, or_else}
 use Rattle.tpol_tree.specs.declared.closed.ClosedElement.{ClosedElement}

@@ -1,10 +1,10 @@
 -- A search through lists of ways that are made of parts.
-use Rattle.std.proofs.Common.{◌≡◌, ◌≢◌, ℕ, zero, suc, ◌+◌, ◌-◌, ◌*◌, ◌<◌, ◌≤◌, ◌++◌, min, Bool, true, false, List, [], ◌∷◌, map, fold, length, take, drop, get_or, Option, Some, None, refl, sym, ap, ◌∙◌, subst, drop-cons, add-one, arith}
-use Rattle.std.specs.Prelude.{◌||◌, All, is_none, is_some, if◌then◌else◌}
-use Rattle.std.specs.List.{AllByRecursion, flat_map}
+use Rattle.std.proofs.Common.{◌≡◌, ◌≢◌, ℕ, ◌+◌, ◌-◌, ◌*◌, ◌<◌, ◌≤◌, ◌++◌, min, Bool, true, false, List, [], ◌∷◌, map, fold, length, drop, get_or, Option, Some, None, refl, sym, ap, ◌∙◌, drop-cons, add-one, arith}
+use Rattle.std.specs.Prelude.{◌||◌, ◌==◌, All, is_none, is_some, not, if◌then◌else◌}
+use Rattle.std.specs.List.{AllByRecursion}
 use Rattle.std.proofs.lemmas.List.{drop_all}
 use Rattle.std.proofs.lemmas.List.Elements.{recursion_from_All}
-use Rattle.tpm_rules.specs.Rule.{or_else}
+use Rattle.tpm_rules.specs.Rule.{or_else, unless}
 use Rattle.tpol_base.specs.declared.digest.Digest32.{Digest32}
 use Rattle.tpol_digest.specs.Digest.{zero_digest}
 use Rattle.tpol_digest.specs.Extent.{FullExtent, document_extent, extent_at}
@@ -29,13 +29,15 @@ use Rattle.tpol_tree.specs.declared.path.PathStep.TheVariants.{Document}
 use Rattle.tpol_choose.specs.declared.ahead.Ahead.{Ahead}
 use Rattle.tpol_choose.specs.declared.ahead.Ahead.TheVariants.{Nothing, After'}
 use Rattle.tpol_choose.specs.declared.block.Block.{Block}
+use Rattle.tpol_choose.specs.declared.block.Why.TheVariants.{NoSession}
 use Rattle.tpol_choose.specs.declared.searching.Search.{Search}
 use Rattle.tpol_choose.specs.declared.searching.Search.TheVariants.{Found, Passed}
 use Rattle.tpol_choose.specs.Acts.{move_of}
 use Rattle.tpol_choose.specs.Ahead.{HasBranchCountsAhead, ways_ahead}
-use Rattle.tpol_choose.specs.Blocks.{block_on, whole_block}
+use Rattle.tpol_choose.specs.Blocks.{block_of, block_on, moves_block, whole_block}
 use Rattle.tpol_choose.specs.Clients.{Client}
 use Rattle.tpol_choose.specs.Counts.{IsCount}
+use Rattle.tpol_choose.specs.Facts.{fresh_session}
 use Rattle.tpol_choose.specs.Searches.{IsCounted, go_on, passed_more, search_ahead, search_end, search_ways}
 use Rattle.tpol_choose.specs.Tracks.{TrackState, block_at_end, fresh_track, is_lost, track_after, track_along}
 use Rattle.tpol_choose.proofs.Counted.{count_both}
@@ -240,6 +242,15 @@ entered client behind documents levels element document act d track n found leve
 abbrev pub position_of : Search → Option ℕ
 position_of (Found index) = Some (index + 1)
 position_of (Passed passed) = None
+
+-- where no session is free, no path is open
+pub without_session : (client : Client) → client.sight.free_sessions ≡ 0 → (path : Path) → is_none (block_on client path) ≡ false
+without_session client none path = by path.outside
+  where
+    by : (outside : Bool) → is_none (or_else (whole_block client.sight outside) (moves_block client 1 (fresh_session client.sight) path.moves)) ≡ false
+    by true = refl
+    by false =
+        ap (λ n. is_none (or_else (block_of 0 (unless (not (n == 0)) NoSession)) (moves_block client 1 (fresh_session client.sight) path.moves))) none
 
 module _ (client : Client) where
   pub first_found : (n : ℕ) (ways : List Path) → n + length ways ≤ 65537 → AllByRecursion (λ way. length way.moves ≤ 512) ways → position_of (search_ways client (search_end client) (fresh_track client) n ways) ≡ first_path (λ way. is_none (block_on client way)) (n + 1) ways

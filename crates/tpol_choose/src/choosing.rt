@@ -33,6 +33,9 @@ pub fn choose(
     requires sight { IsSight sight.now }
     ensures chosen { result ≡ chosen_path (paths_of policy.now approvals.now) sight.now grants.now goal.now locality }
 {
+    if sight.free_sessions == 0 {
+        return None;
+    }
     let walk = Walk {
         alloc,
         client: Client {

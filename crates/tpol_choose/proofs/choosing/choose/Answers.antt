@@ -1,14 +1,22 @@
-use Rattle.std.proofs.Common.{◌≡◌, ℕ, ◌+◌, ◌≤◌, length, sym, ap, ◌∙◌, arith}
+use Rattle.std.proofs.Common.{◌≡◌, ◌+◌, ◌≤◌, length, sym, ap, ◌∙◌, arith}
 use Rattle.std.specs.Prelude.{is_none}
 use Rattle.std.proofs.lemmas.List.Elements.{recursion_from_All}
 use Rattle.tpol_choose.specs.Blocks.{block_on, chosen_path, client_of, first_block}
 use Rattle.tpol_choose.specs.Searches.{search_end, search_ways}
 use Rattle.tpol_choose.specs.Tracks.{fresh_track}
-use Rattle.tpol_choose.proofs.SearchLaws.{first_found, position_of}
+use Rattle.tpol_choose.proofs.SearchLaws.{first_found, position_of, without_session}
 use Rattle.tpol_choose.proofs.choosing.choose.Goals as goal
+use Rattle.tpol_digest.proofs.Walks.{first_path-none}
 use Rattle.tpol_digest.specs.Paths.{paths_of}
 use Rattle.tpol_digest.specs.Walks.{first_path}
 use Rattle.tpol_tree.specs.declared.path.Path.{Path}
+
+pub returns-then-sight-eq0 : goal.returns-then-sight-eq0
+unfolding chosen_path first_block
+returns-then-sight-eq0 c =
+    let paths = paths_of c.args.policy.now c.args.approvals.now in
+    let client = client_of c.args.sight.now c.args.grants.now c.args.goal.now c.args.locality in
+    record { chosen = sym (first_path-none (λ path. is_none (block_on client path)) (without_session client c.if-sight-eq0.true) 1 paths) }
 
 pub returns-in-Found : goal.returns-in-Found
 unfolding chosen_path first_block

@@ -1,30 +1,24 @@
-use Rattle.std.proofs.Common.{◌≡◌, ◌≢◌, ◌+◌, ◌-◌, ◌*◌, ◌<◌, ◌≤◌, ◌++◌, [], ◌∷◌, length, map, drop, subst, sym, ap, ◌∙◌, refl, Option, Some, None, inl, inr, arith}
-use Rattle.tpol_base.specs.declared.digest.Digest32.{Digest32}
+use Rattle.std.proofs.Common.{◌≡◌, ◌≢◌, ◌+◌, ◌*◌, ◌<◌, ◌++◌, length, map, subst, sym, ap, ◌∙◌, refl, inl, inr, arith}
 use Rattle.tpol_tree.specs.declared.closed.ClosedBranch.{ClosedBranch}
 use Rattle.tpol_tree.specs.declared.closed.ClosedElement.TheVariants as closed
-use Rattle.tpol_tree.specs.declared.closed.ClosedElements.{ClosedElements}
-use Rattle.tpol_tree.specs.declared.path.Move.{Move}
 use Rattle.tpol_tree.specs.declared.path.Move.TheVariants.{Assert, Or}
-use Rattle.tpol_tree.specs.declared.path.PathStep.TheVariants.{Branch, Document}
-use Rattle.tpol_tree.specs.Closed.{HasBranchCounts, ElementHasBranchCounts, BranchesHaveBranchCounts, branch_count}
-use Rattle.tpol_digest.specs.Digest.{branch_digests, digest_at_element, or_digest, zero_digest}
+use Rattle.tpol_tree.specs.declared.path.PathStep.TheVariants.{Branch}
+use Rattle.tpol_tree.specs.Closed.{HasBranchCounts, ElementHasBranchCounts, BranchesHaveBranchCounts}
+use Rattle.tpol_digest.specs.Digest.{branch_digests, digest_at_element, or_digest}
 use Rattle.tpol_digest.specs.Extent.{document_extent, extent_at}
-use Rattle.tpol_digest.specs.Paths.{approved_paths, document_paths, empty_path, followed_by, outside_paths, path_of_move, paths_by_approval}
+use Rattle.tpol_digest.specs.Paths.{approved_paths, document_paths, empty_path, followed_by, outside_paths, paths_by_approval}
 use Rattle.tpol_digest.specs.Positions.{path_of_step, element_list_ways, element_ways, branch_ways, approval_ways}
-use Rattle.tpol_digest.proofs.Documents.{approved_none, document_paths-some}
+use Rattle.tpol_digest.proofs.Documents.{approved_none}
 use Rattle.tpol_digest.proofs.Positions.{branches_closed, part}
 use Rattle.tpol_digest.proofs.Weights.{weight, weight_of_element, weight_of_branches, greatest, weight-lt-greatest}
-use Rattle.tpol_choose.specs.declared.ahead.Ahead.{Ahead}
-use Rattle.tpol_choose.specs.declared.searching.Search.{Search}
-use Rattle.tpol_choose.specs.declared.searching.Search.TheVariants.{Found, Passed}
 use Rattle.tpol_choose.specs.Acts.{move_of}
-use Rattle.tpol_choose.specs.Ahead.{HasBranchCountsAhead, ways_ahead}
+use Rattle.tpol_choose.specs.Ahead.{ways_ahead}
 use Rattle.tpol_choose.specs.Lent.{client_of_lent}
 use Rattle.tpol_choose.specs.Searches.{search_ahead, search_rest, search_ways}
-use Rattle.tpol_choose.specs.Tracks.{TrackState, is_lost, track_after}
+use Rattle.tpol_choose.specs.Tracks.{track_after}
 use Rattle.tpol_choose.proofs.Going.{along_nothing}
-use Rattle.tpol_choose.proofs.Loads.{share, load, share_some, entered_lighter}
-use Rattle.tpol_choose.proofs.SearchLaws.{ahead_lost, elements_lost, entered, found_first, left, next_left, none_left, outside_lost, passed_first, ways_between, ways_by_move, ways_by_step, ways_one, ways_one_move, ways_product}
+use Rattle.tpol_choose.proofs.Loads.{share, share_some, entered_lighter}
+use Rattle.tpol_choose.proofs.SearchLaws.{ahead_lost, elements_lost, entered, found_first, left, next_left, none_left, outside_lost, passed_first, ways_by_move, ways_by_step, ways_one, ways_one_move, ways_product}
 use Rattle.tpol_choose.proofs.searching.+searching.Goals as goal
 use Rattle.tpol_choose.proofs.searching.+searching.Goals.{search_documents-in-Some+in-Passed, search_documents-in_default}
 
