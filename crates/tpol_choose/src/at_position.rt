@@ -21,7 +21,8 @@ use crate::approving::{approval, outside_approval};
 use crate::branch_digests::BranchDigests;
 use crate::client::Client;
 use crate::counting::{count_element, count_elements};
-use crate::session::{or_digest, zero};
+use crate::or_move::OrMove;
+use crate::session::zero;
 use crate::track::Track;
 use crate::walk::Walk;
 use std::alloc::Global;
@@ -152,9 +153,10 @@ fn go_element(
         ClosedElement::Or(branches) => {
             let digests = BranchDigests::of(branches, before);
             let inner = go_branches(walk, track, branches, before, index);
+            let or = OrMove::new(digests.as_slice());
             Behind {
-                track: inner.after(walk.alloc, &walk.client, &Act::Or(digests.as_slice())),
-                digest: or_digest(digests.as_slice()),
+                track: inner.after(walk.alloc, &walk.client, &Act::Or(or)),
+                digest: or.after,
             }
         }
         ClosedElement::Authorize { .. } | ClosedElement::AuthorizeNv { .. } => Behind {

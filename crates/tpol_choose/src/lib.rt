@@ -27,6 +27,7 @@ mod indices;
 mod keys;
 mod moves;
 mod one_path;
+mod or_move;
 mod searching;
 mod session;
 mod track;

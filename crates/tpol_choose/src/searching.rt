@@ -18,7 +18,8 @@ use crate::ahead::{Ahead, count_ahead};
 use crate::approving::approval;
 use crate::branch_digests::BranchDigests;
 use crate::counting::{COUNTED, count_elements};
-use crate::session::{or_digest, zero};
+use crate::or_move::OrMove;
+use crate::session::zero;
 use crate::track::Track;
 use crate::walk::Walk;
 use tpol_base::Digest32;
@@ -106,10 +107,11 @@ fn search_element<'a>(
         }
         ClosedElement::Or(branches) => {
             let digests = BranchDigests::of(branches, before);
+            let or = OrMove::new(digests.as_slice());
             let behind = Ahead::After {
-                act: Act::Or(digests.as_slice()),
+                act: Act::Or(or),
                 rest: &*rest,
-                before: or_digest(digests.as_slice()),
+                before: or.after,
                 levels: walk.levels,
                 ahead: &*ahead,
             };

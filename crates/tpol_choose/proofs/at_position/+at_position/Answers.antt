@@ -145,7 +145,7 @@ go_element-go_branches-inner-requires t c =
 
 pub go_element-returns-in-Or-clause-digest : goal.go_element-returns-in-Or-clause-digest
 go_element-returns-in-Or-clause-digest t c =
-    rw c.in-Or.is (c.or_digest.ensures ∙ ap or_digest (c.as_slice-in-Or.ensures ∙ c.of-digests.ensures))
+    rw c.in-Or.is (c.new-or.result.known ∙ ap or_digest (c.new-or.ensures ∙ c.as_slice.ensures ∙ c.of-digests.ensures))
 
 pub go_element-returns-in-Or-clause-track : goal.go_element-returns-in-Or-clause-track
 go_element-returns-in-Or-clause-track t c =
@@ -156,7 +156,7 @@ go_element-returns-in-Or-clause-track t c =
     let d = c.args.before in
     let act = Or (branch_digests branches d) in
     let end = c.after-in-Or.result in
-    rw c.in-Or.is (λ state h. subst (λ l. Goes client state l c.args.index end) (branches_closed documents levels branches 1 act d) (go_by_move client state c.go_branches-inner.result end act (branch_ways documents levels branches 1 d) c.args.index (c.go_branches-inner.ensures state 1 h) (λ s is. subst (λ ds. IsTrack end (track_after client s (Or ds))) (c.as_slice.ensures ∙ c.of-digests.ensures) (c.after-in-Or.ensures s is))))
+    rw c.in-Or.is (λ state h. subst (λ l. Goes client state l c.args.index end) (branches_closed documents levels branches 1 act d) (go_by_move client state c.go_branches-inner.result end act (branch_ways documents levels branches 1 d) c.args.index (c.go_branches-inner.ensures state 1 h) (λ s is. subst (λ ds. IsTrack end (track_after client s (Or ds))) (c.new-or.ensures ∙ c.as_slice.ensures ∙ c.of-digests.ensures) (c.after-in-Or.ensures s is))))
 
 -- ---- branches
 

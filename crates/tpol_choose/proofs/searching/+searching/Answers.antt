@@ -84,8 +84,8 @@ search_element-returns-in-Or t c =
     let ways = branch_ways documents levels branches 1 d in
     rw c.in-Or.is (λ state h.
     c.search_branches.ensures state 1 h
-    ∙ ap (λ ds. search_ways client (λ s m. search_rest client documents levels rest c.or_digest.result ahead (track_after client s (Or ds)) m) state passed ways) (c.as_slice.ensures ∙ c.of-digests.ensures)
-    ∙ ap (λ e. search_ways client (λ s m. search_rest client documents levels rest e ahead (track_after client s (Or digests)) m) state passed ways) (c.or_digest.ensures ∙ ap or_digest (c.as_slice-in-Or.ensures ∙ c.of-digests.ensures))
+    ∙ ap (λ ds. search_ways client (λ s m. search_rest client documents levels rest c.new-or.result.after ahead (track_after client s (Or ds)) m) state passed ways) (c.new-or.ensures ∙ c.as_slice.ensures ∙ c.of-digests.ensures)
+    ∙ ap (λ e. search_ways client (λ s m. search_rest client documents levels rest e ahead (track_after client s (Or digests)) m) state passed ways) (c.new-or.result.known ∙ ap or_digest (c.new-or.ensures ∙ c.as_slice.ensures ∙ c.of-digests.ensures))
     ∙ sym (ways_by_move client (search_rest client documents levels rest (or_digest digests) ahead) state passed (Or digests) ways)
     ∙ ap (search_ways client (search_rest client documents levels rest (or_digest digests) ahead) state passed) (branches_closed documents levels branches 1 (Or digests) d))
 
