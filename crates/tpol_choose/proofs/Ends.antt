@@ -1,6 +1,7 @@
 -- What stands in the way at the end of a track.
-use Rattle.std.proofs.Common.{◌≡◌, ℕ, ◌+◌, ◌-◌, ◌^◌, ◌≤◌, min, List, [], ◌∷◌, fold, length, Option, Some, None, refl, sym, ap, ◌∙◌, arith}
-use Rattle.tpm_rules.specs.Rule.{or_else}
+use Rattle.std.proofs.Common.{◌≡◌, ◌+◌, ◌-◌, ◌^◌, ◌≤◌, List, [], ◌∷◌, fold, length, Option, Some, None, Result, Ok, Err, refl, ap, ◌∙◌, arith}
+use Rattle.std.specs.Prelude.{is_none, is_ok}
+use Rattle.tpm_rules.specs.Rule.{Breaks, or_else}
 use Rattle.tpol_tree.specs.declared.closed.ClosedElement.{ClosedElement}
 use Rattle.tpol_tree.specs.declared.closed.ClosedElement.TheVariants.{Assert, Or, Authorize, AuthorizeNv}
 use Rattle.tpol_tree.specs.declared.path.Move.{Move}
@@ -12,6 +13,13 @@ use Rattle.tpol_choose.specs.Goals.{goal_block}
 use Rattle.tpol_choose.specs.Moves.{move_block}
 use Rattle.tpol_choose.specs.Outside.{outside_move}
 use Rattle.tpol_choose.specs.Tracks.{TrackState, block_at_end, counted, fresh_track, track_after, track_along}
+
+-- the call answers by the rule
+pub answers : {T E : Type 0} (result : Result T E) (rule : Option E) → Breaks result rule → is_ok result ≡ is_none rule
+answers (Ok x) None h = refl
+answers (Ok x) (Some e) h = cc
+answers (Err e) None h = cc
+answers (Err e) (Some f) h = refl
 
 or_else_assoc : {A : Type 0} (a b c : Option A) → or_else (or_else a b) c ≡ or_else a (or_else b c)
 or_else_assoc (Some x) b c = refl

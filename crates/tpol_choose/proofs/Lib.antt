@@ -2,10 +2,11 @@ pub mod Bound
 pub mod Counted
 pub mod Counts
 pub mod Ends
-pub mod First
 pub mod Found
 pub mod Going
 pub mod Judging
+pub mod Loads
 pub mod Nothing
 pub mod OnWay
 pub mod Parameters
+pub mod SearchLaws

@@ -1,4 +1,5 @@
 pub mod Acts
+pub mod Ahead
 pub mod Binding
 pub mod Blocks
 pub mod Clients
@@ -11,4 +12,5 @@ pub mod Keys
 pub mod Lent
 pub mod Moves
 pub mod Outside
+pub mod Searches
 pub mod Tracks

@@ -1,5 +1,5 @@
 -- How far a path was gone, and what stood in its way.
-use Rattle.std.specs.Prelude.{◌≡◌, ℕ, ◌+◌, ◌-◌, ◌^◌, min, Bool, true, false, ◌||◌, List, fold, Option, Some, None}
+use Rattle.std.specs.Prelude.{◌≡◌, ℕ, ◌+◌, ◌-◌, ◌^◌, min, Bool, true, false, ◌||◌, List, fold, Option, Some, None, is_some}
 use Rattle.std.specs.List.{slice_get}
 use Rattle.tpm_bindings.specs.State.{SessionState}
 use Rattle.tpm_rules.specs.Rule.{or_else}
@@ -47,6 +47,10 @@ track_along client track path =
 -- by a policy that no listed document has
 abbrev pub gone_outside : TrackState → TrackState
 gone_outside track = record track { outside = true }
+
+-- something stands in the way already
+abbrev pub is_lost : TrackState → Bool
+is_lost track = track.outside || is_some track.block
 
 -- what stands in the way of the whole path, at its end
 abbrev pub block_at_end : Client → TrackState → Option Block

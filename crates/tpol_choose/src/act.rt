@@ -3,6 +3,7 @@
 ghost use Rattle.std.specs.Prelude.{◌≡◌};
 ghost use Rattle.tpol_choose.specs.Acts.{move_of};
 
+use crate::or_move::OrMove;
 use tpol_base::{Blob, Digest32, Name};
 use tpol_tree::{Assertion, Move};
 
@@ -10,7 +11,7 @@ use tpol_tree::{Assertion, Move};
 #[derive(Clone, Copy)]
 pub enum Act<'a> {
     Assert(&'a Assertion),
-    Or(&'a [Digest32]),
+    Or(OrMove<'a>),
     Approve {
         key: &'a Name,
         policy_ref: &'a Blob,
@@ -29,7 +30,7 @@ impl<'a> Act<'a> {
     {
         match act {
             Move::Assert(assertion) => Act::Assert(assertion),
-            Move::Or(digests) => Act::Or(digests.as_slice()),
+            Move::Or(digests) => Act::Or(OrMove::new(digests.as_slice())),
             Move::Approve {
                 key,
                 policy_ref,

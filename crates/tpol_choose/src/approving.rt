@@ -11,7 +11,7 @@ use tpol_base::{Blob, Digest32, Name};
 use tpol_tree::{ApprovedBy, ApprovedDoc, ClosedElement};
 
 // The move that uses a document's approval for the element, if the element asks for it.
-pub fn approval<'a>(element: &'a ClosedElement, document: &'a ApprovedDoc) -> Option<Act<'a>>
+pub fn approval<'a>(element: &'a ClosedElement, document: &ApprovedDoc) -> Option<Act<'a>>
     ensures { option_map move_of result ≡ spec.approval_of element.now document.now }
 {
     match element {

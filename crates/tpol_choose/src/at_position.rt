@@ -6,6 +6,7 @@ ghost use Rattle.tpm_rules.specs.Rule.{Breaks};
 ghost use Rattle.tpol_choose.specs.Blocks.{first_block};
 ghost use Rattle.tpol_choose.specs.Lent.{client_of_lent};
 ghost use Rattle.tpol_choose.specs.Tracks.{Goes, IsTrack, TrackState};
+ghost use Rattle.tpol_digest.specs.Digest.{digest_at_element};
 ghost use Rattle.tpol_digest.specs.Limits.{AreWithinLimits};
 ghost use Rattle.tpol_digest.specs.Paths as paths;
 ghost use Rattle.tpol_digest.specs.Paths.{paths_of};
@@ -20,6 +21,7 @@ use crate::approving::{approval, outside_approval};
 use crate::branch_digests::BranchDigests;
 use crate::client::Client;
 use crate::counting::{count_element, count_elements};
+use crate::or_move::OrMove;
 use crate::session::zero;
 use crate::track::Track;
 use crate::walk::Walk;
@@ -64,7 +66,7 @@ pub fn block_at(
 }
 
 // The same by the index of the path, from 0.
-pub fn block_at_index(walk: &Walk<'_>, policy: &Closed, index: u64) -> Result<(), Block>
+fn block_at_index(walk: &Walk<'_>, policy: &Closed, index: u64) -> Result<(), Block>
     requires branches { HasBranchCounts policy.now.elements }
     requires approved { All (λ document. HasBranchCounts document.closed.elements) walk.now.approvals.now }
     requires sight { IsSight walk.now.client.sight.now }
@@ -106,13 +108,26 @@ fn go_elements(
             let choices = count_element(walk.approvals, walk.levels, element);
             let behind = count / choices;
             let middle = go_element(walk, track, element, before, index / behind);
-            let after = digest_after_element(element, before);
-            go_elements(walk, middle, rest, after, index % behind, behind)
+            go_elements(
+                walk,
+                middle.track,
+                rest,
+                middle.digest,
+                index % behind,
+                behind,
+            )
         }
     }
 }
 
-// The same of one element.
+// The track behind one element, and the policy's digest there.
+#[derive(Clone, Copy)]
+struct Behind {
+    track: Track,
+    digest: Digest32,
+}
+
+// The same of one element, and the digest behind it.
 #[cycle(at_position)]
 fn go_element(
     walk: &Walk<'_>,
@@ -120,27 +135,34 @@ fn go_element(
     element: &ClosedElement,
     before: Digest32,
     index: u64,
-) -> Track
+) -> Behind
     requires branches { ElementHasBranchCounts element.now }
     requires approved { All (λ document. HasBranchCounts document.closed.elements) walk.now.approvals.now }
     requires sight { IsSight walk.now.client.sight.now }
     requires few { length (at.element_ways walk.now.approvals.now walk.now.levels element.now before) ≤ 65536 }
     requires inside { index < length (at.element_ways walk.now.approvals.now walk.now.levels element.now before) }
-    ensures { (state : TrackState) → IsTrack track state → Goes (client_of_lent walk.now.client) state
-        (at.element_ways walk.now.approvals.now walk.now.levels element.now before) index result }
+    ensures track { (state : TrackState) → IsTrack track state → Goes (client_of_lent walk.now.client) state
+        (at.element_ways walk.now.approvals.now walk.now.levels element.now before) index result.track }
+    ensures digest { result.digest ≡ digest_at_element element.now before }
 {
     match element {
-        ClosedElement::Assert(assertion) => {
-            track.after(walk.alloc, &walk.client, &Act::Assert(assertion))
-        }
+        ClosedElement::Assert(assertion) => Behind {
+            track: track.after(walk.alloc, &walk.client, &Act::Assert(assertion)),
+            digest: digest_after_element(element, before),
+        },
         ClosedElement::Or(branches) => {
             let digests = BranchDigests::of(branches, before);
             let inner = go_branches(walk, track, branches, before, index);
-            inner.after(walk.alloc, &walk.client, &Act::Or(digests.as_slice()))
+            let or = OrMove::new(digests.as_slice());
+            Behind {
+                track: inner.after(walk.alloc, &walk.client, &Act::Or(or)),
+                digest: or.after,
+            }
         }
-        ClosedElement::Authorize { .. } | ClosedElement::AuthorizeNv { .. } => {
-            go_approval(walk, track, element, index)
-        }
+        ClosedElement::Authorize { .. } | ClosedElement::AuthorizeNv { .. } => Behind {
+            track: go_approval(walk, track, element, index),
+            digest: digest_after_element(element, before),
+        },
     }
 }
 

@@ -7,9 +7,8 @@ ghost use Rattle.tpol_digest.specs.Paths.{paths_of};
 ghost use Rattle.tpol_digest.specs.WellFormed.{HaveBranchCounts};
 ghost use Rattle.tpol_name.specs.Setups.{IsSight};
 
-use crate::at_position::block_at_index;
 use crate::client::Client;
-use crate::counting::count_elements;
+use crate::searching::{Search, search_policy};
 use crate::walk::Walk;
 use std::alloc::Global;
 use tpol_digest::MAX_LEVELS;
@@ -34,6 +33,9 @@ pub fn choose(
     requires sight { IsSight sight.now }
     ensures chosen { result ≡ chosen_path (paths_of policy.now approvals.now) sight.now grants.now goal.now locality }
 {
+    if sight.free_sessions == 0 {
+        return None;
+    }
     let walk = Walk {
         alloc,
         client: Client {
@@ -45,11 +47,8 @@ pub fn choose(
         approvals: approvals.as_slice(),
         levels: MAX_LEVELS,
     };
-    let count = count_elements(walk.approvals, walk.levels, &policy.elements);
-    for index in 0..count {
-        if block_at_index(&walk, policy, index).is_ok() {
-            return Some(index as u32 + 1);
-        }
+    match search_policy(&walk, policy) {
+        Search::Found(index) => Some(index as u32 + 1),
+        Search::Passed(_) => None,
     }
-    None
 }

@@ -9,7 +9,7 @@ use tpol_digest::accepts;
 use tpol_tree::{ApprovedDoc, ClosedBranches, ClosedElement, ClosedElements};
 
 // One more than the greatest number of ways that are walked; no count goes past it.
-const COUNTED: u64 = 65_537;
+pub const COUNTED: u64 = 65_537;
 
 // The number of ways through elements, where documents may be entered `levels` deep.
 #[cycle(counting)]

@@ -8,6 +8,7 @@
 #![tactic(auto)]
 
 mod act;
+mod ahead;
 mod answer;
 mod approving;
 mod at_position;
@@ -26,6 +27,8 @@ mod indices;
 mod keys;
 mod moves;
 mod one_path;
+mod or_move;
+mod searching;
 mod session;
 mod track;
 mod walk;

@@ -38,7 +38,7 @@ pub fn check_move(client: &Client<'_>, session: &Standing, act: &Act<'_>) -> Res
 {
     match *act {
         Act::Assert(assertion) => check_assertion(client, session, assertion),
-        Act::Or(digests) => answered(policy_or_rule(session, digests)),
+        Act::Or(or) => answered(policy_or_rule(session, or.digests)),
         Act::Approve {
             key,
             policy_ref,

@@ -113,7 +113,7 @@ fn make_move(
 {
     let lent = Act::of(act);
     at(number, check_move(client, session, &lent))?;
-    let bindings = bindings_after_move(session, act);
+    let bindings = bindings_after_move(session, act, &lent);
     Ok(session_after(client.sight, session, &lent, bindings))
 }
 

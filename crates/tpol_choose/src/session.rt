@@ -72,7 +72,7 @@ fn digest_after(sight: &Sight, before: Digest32, act: &Act<'_>) -> Digest32
 {
     match *act {
         Act::Assert(assertion) => digest_after_assertion(sight, before, assertion),
-        Act::Or(digests) => or_digest(digests),
+        Act::Or(or) => or.after,
         Act::Approve {
             key,
             policy_ref,
@@ -129,7 +129,7 @@ fn secret_digest(before: Digest32, name: &Name, policy_ref: &[u8]) -> Digest32
 }
 
 // The digest after PolicyOR with these digests.
-fn or_digest(digests: &[Digest32]) -> Digest32
+pub fn or_digest(digests: &[Digest32]) -> Digest32
     ensures { result ≡ or_digest digests.now }
 {
     let mut hasher = start(&zero(), CommandCode::PolicyOr);
@@ -183,13 +183,13 @@ pub fn deadline_after(session: &Standing, act: &Act<'_>) -> Option<u64>
 }
 
 // What the facts bind together with that of one more move of a path.
-pub fn bindings_after_move(session: &Standing, act: &Move) -> Bindings
+pub fn bindings_after_move(session: &Standing, act: &Move, lent: &Act<'_>) -> Bindings
     requires start { session.now.start ≤ 2 ^ 63 }
+    requires lent { move_of lent.now ≡ act.now }
     ensures { (state : SessionState) (sight : OneSight) → session.now ≡ standing_of state
         → result ≡ merged (spec.session_after sight state act.now).facts }
 {
-    let lent = Act::of(act);
     let mut bindings = session.bindings;
-    bindings.merge(act, cp_hash_of(&lent), deadline_after(session, &lent));
+    bindings.merge(act, cp_hash_of(lent), deadline_after(session, lent));
     bindings
 }

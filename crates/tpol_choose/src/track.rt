@@ -86,6 +86,13 @@ impl Track {
         }
     }
 
+    // Whether something stands in the way of each path that goes on from here.
+    pub fn is_lost(&self) -> bool
+        ensures { (track : TrackState) → IsTrack self.now track → result ≡ spec.is_lost track }
+    {
+        self.outside || self.block.is_some()
+    }
+
     // What stands in the way of the whole path, at its end.
     pub fn end(&self, client: &Client<'_>) -> Result<(), Block>
         requires sight { IsSight client.now.sight.now }

@@ -1,11 +1,11 @@
-use Rattle.std.proofs.Common.{◌≡◌, ◌≢◌, ◌+◌, ◌-◌, ◌*◌, ◌/◌, ◌%◌, ◌<◌, ◌≤◌, ◌++◌, [], ◌∷◌, length, map, take, subst, sym, ap, ◌∙◌, length-append, refl, arith}
+use Rattle.std.proofs.Common.{◌≡◌, ◌≢◌, ◌+◌, ◌-◌, ◌/◌, ◌%◌, ◌<◌, ◌≤◌, length, map, subst, sym, ap, ◌∙◌, length-append, arith}
 use Rattle.std.specs.Prelude.{is_some}
 use Rattle.std.proofs.lemmas.List.{length-map}
 use Rattle.tpol_tree.specs.declared.closed.ClosedBranch.{ClosedBranch}
 use Rattle.tpol_tree.specs.declared.path.Move.TheVariants.{Assert, Or}
 use Rattle.tpol_tree.specs.declared.path.PathStep.TheVariants.{Branch, Document}
-use Rattle.tpol_tree.specs.Closed.{HasBranchCounts, ElementHasBranchCounts, BranchesHaveBranchCounts, branch_count}
-use Rattle.tpol_digest.specs.Digest.{branch_digests, digest_at_element}
+use Rattle.tpol_tree.specs.Closed.{HasBranchCounts, ElementHasBranchCounts, BranchesHaveBranchCounts}
+use Rattle.tpol_digest.specs.Digest.{branch_digests, digest_at_element, or_digest}
 use Rattle.tpol_digest.specs.Paths.{empty_path, followed_by, path_of_move, paths_by_approval, approved_paths, outside_paths, document_paths}
 use Rattle.tpol_digest.specs.Positions.{path_of_step, element_list_ways, element_ways, branch_ways, approval_ways}
 use Rattle.tpol_digest.proofs.Weights.{weight, weight_of_element, weight_of_branches, greatest, weight-lt-greatest, level_less}
@@ -69,16 +69,16 @@ go_elements-go_elements-requires t c =
     let counts = rw c.in-More.is at c.requires.branches in
     let counted = rw c.in-More.is at c.requires.counted in
     let p = parts documents c.requires.approved levels c.count_element-choices.result c.in-More.element.value c.deref.result.now c.in-More.rest.value c.args.before c.args.count c.args.index c.deref.ensures counts.0 counts.1 counted c.requires.few c.requires.inside c.count_element-choices.ensures in
-    let after_is = c.digest_after_element-after.ensures ∙ ap (λ e. digest_at_element e c.args.before) c.deref-in-More-2.ensures in (
-      omega (arith, rw c.in-More.is at c.decreases, ap weight c.deref-in-More-3.ensures),
+    let after_is = c.go_element-middle.ensures.digest ∙ ap (λ e. digest_at_element e c.args.before) c.deref-in-More.ensures in (
+      omega (arith, rw c.in-More.is at c.decreases, ap weight c.deref-in-More-2.ensures),
       (
-        subst HasBranchCounts (sym c.deref-in-More-3.ensures) counts.1,
+        subst HasBranchCounts (sym c.deref-in-More-2.ensures) counts.1,
         (
           c.requires.approved,
           (
             c.requires.sight,
             (
-              p.behind ∙ ap (λ d. length (element_list_ways documents levels c.in-More.rest.value d)) (sym after_is) ∙ ap (λ e. length (element_list_ways documents levels e c.digest_after_element-after.result)) (sym c.deref-in-More-3.ensures),
+              p.behind ∙ ap (λ d. length (element_list_ways documents levels c.in-More.rest.value d)) (sym after_is) ∙ ap (λ e. length (element_list_ways documents levels e c.go_element-middle.result.digest)) (sym c.deref-in-More-2.ensures),
               (p.rest_few, p.rest_inside),
             ),
           ),
@@ -104,16 +104,16 @@ go_elements-returns-in-More t c =
     let counted = rw c.in-More.is at c.requires.counted in
     let p = parts documents c.requires.approved levels c.count_element-choices.result element c.deref.result.now rest d c.args.count c.args.index c.deref.ensures counts.0 counts.1 counted c.requires.few c.requires.inside c.count_element-choices.ensures in
     let behind = c.args.count / c.count_element-choices.result in
-    let middle = c.go_element-middle.result in
+    let middle = c.go_element-middle.result.track in
     let end = c.go_elements.result in
-    let after_is = c.digest_after_element-after.ensures ∙ ap (λ e. digest_at_element e d) c.deref-in-More-2.ensures in
-    let same = ap (λ e. element_list_ways documents levels e c.digest_after_element-after.result) c.deref-in-More-3.ensures ∙ ap (element_list_ways documents levels rest) after_is in
-    rw c.in-More.is (λ state h. go_through client state middle end (element_ways documents levels element d) (element_list_ways documents levels rest (digest_at_element element d)) (c.args.index / behind) (c.args.index % behind) c.args.index (subst (λ e. Goes client state (element_ways documents levels e d) (c.args.index / behind) middle) c.deref-in-More.ensures (c.go_element-middle.ensures state h)) (λ s is. subst (λ l. Goes client s l (c.args.index % behind) end) same (c.go_elements.ensures s is)) p.whole)
+    let after_is = c.go_element-middle.ensures.digest ∙ ap (λ e. digest_at_element e d) c.deref-in-More.ensures in
+    let same = ap (λ e. element_list_ways documents levels e c.go_element-middle.result.digest) c.deref-in-More-2.ensures ∙ ap (element_list_ways documents levels rest) after_is in
+    rw c.in-More.is (λ state h. go_through client state middle end (element_ways documents levels element d) (element_list_ways documents levels rest (digest_at_element element d)) (c.args.index / behind) (c.args.index % behind) c.args.index (subst (λ e. Goes client state (element_ways documents levels e d) (c.args.index / behind) middle) c.deref-in-More.ensures (c.go_element-middle.ensures.track state h)) (λ s is. subst (λ l. Goes client s l (c.args.index % behind) end) same (c.go_elements.ensures s is)) p.whole)
 
 -- ---- one element
 
-pub go_element-returns-in-Assert : goal.go_element-returns-in-Assert
-go_element-returns-in-Assert t c =
+pub go_element-returns-in-Assert-clause-track : goal.go_element-returns-in-Assert-clause-track
+go_element-returns-in-Assert-clause-track t c =
     let client = client_of_lent c.args.walk.now.client in
     let act = Assert c.in-Assert.assertion in
     let inside = rw c.in-Assert.is at c.requires.inside in
@@ -143,8 +143,12 @@ go_element-go_branches-inner-requires t c =
       ),
     )
 
-pub go_element-returns-in-Or : goal.go_element-returns-in-Or
-go_element-returns-in-Or t c =
+pub go_element-returns-in-Or-clause-digest : goal.go_element-returns-in-Or-clause-digest
+go_element-returns-in-Or-clause-digest t c =
+    rw c.in-Or.is (c.new-or.result.known ∙ ap or_digest (c.new-or.ensures ∙ c.as_slice.ensures ∙ c.of-digests.ensures))
+
+pub go_element-returns-in-Or-clause-track : goal.go_element-returns-in-Or-clause-track
+go_element-returns-in-Or-clause-track t c =
     let client = client_of_lent c.args.walk.now.client in
     let documents = c.args.walk.now.approvals.now in
     let levels = c.args.walk.now.levels in
@@ -152,7 +156,7 @@ go_element-returns-in-Or t c =
     let d = c.args.before in
     let act = Or (branch_digests branches d) in
     let end = c.after-in-Or.result in
-    rw c.in-Or.is (λ state h. subst (λ l. Goes client state l c.args.index end) (branches_closed documents levels branches 1 act d) (go_by_move client state c.go_branches-inner.result end act (branch_ways documents levels branches 1 d) c.args.index (c.go_branches-inner.ensures state 1 h) (λ s is. subst (λ ds. IsTrack end (track_after client s (Or ds))) (c.as_slice.ensures ∙ c.of-digests.ensures) (c.after-in-Or.ensures s is))))
+    rw c.in-Or.is (λ state h. subst (λ l. Goes client state l c.args.index end) (branches_closed documents levels branches 1 act d) (go_by_move client state c.go_branches-inner.result end act (branch_ways documents levels branches 1 d) c.args.index (c.go_branches-inner.ensures state 1 h) (λ s is. subst (λ ds. IsTrack end (track_after client s (Or ds))) (c.new-or.ensures ∙ c.as_slice.ensures ∙ c.of-digests.ensures) (c.after-in-Or.ensures s is))))
 
 -- ---- branches
 

@@ -1,7 +1,7 @@
 use Rattle.tpol_choose.proofs.session.digest_after.Goals as goal
 
 pub returns-in-Or : goal.returns-in-Or
-returns-in-Or c = rw c.in-Or.is (λ state. c.or_digest.ensures)
+returns-in-Or c = rw c.in-Or.is (λ state. c.in-Or.or.known)
 
 pub returns-in-Approve : goal.returns-in-Approve
 returns-in-Approve c = rw c.in-Approve.is (λ state. c.approve_digest.ensures.digest)

@@ -1,0 +1,279 @@
+-- A search through lists of ways that are made of parts.
+use Rattle.std.proofs.Common.{◌≡◌, ◌≢◌, ℕ, ◌+◌, ◌-◌, ◌*◌, ◌<◌, ◌≤◌, ◌++◌, min, Bool, true, false, List, [], ◌∷◌, map, fold, length, drop, get_or, Option, Some, None, refl, sym, ap, ◌∙◌, drop-cons, add-one, arith}
+use Rattle.std.specs.Prelude.{◌||◌, ◌==◌, All, is_none, is_some, not, if◌then◌else◌}
+use Rattle.std.specs.List.{AllByRecursion}
+use Rattle.std.proofs.lemmas.List.{drop_all}
+use Rattle.std.proofs.lemmas.List.Elements.{recursion_from_All}
+use Rattle.tpm_rules.specs.Rule.{or_else, unless}
+use Rattle.tpol_base.specs.declared.digest.Digest32.{Digest32}
+use Rattle.tpol_digest.specs.Digest.{zero_digest}
+use Rattle.tpol_digest.specs.Extent.{FullExtent, document_extent, extent_at}
+use Rattle.tpol_digest.specs.Paths.{approval_of, approved_paths, between, document_paths, followed_by, outside_path, outside_paths, path_of_move, paths_by_approval, product}
+use Rattle.tpol_digest.specs.Positions.{element_list_ways, path_of_step}
+use Rattle.tpol_digest.specs.Walks.{first_path}
+use Rattle.tpol_digest.proofs.Documents.{document_paths-some}
+use Rattle.tpol_digest.proofs.Extents.{extent_at-positive}
+use Rattle.tpol_digest.proofs.Measures.{document_agrees, extent_at-measures}
+use Rattle.tpol_digest.proofs.Positions.{part, some_way}
+use Rattle.tpol_name.specs.declared.sight.Sight.{Sight}
+use Rattle.tpol_tree.specs.Closed.{HasBranchCounts}
+use Rattle.tpol_tree.specs.declared.closed.ClosedElement.{ClosedElement}
+use Rattle.tpol_tree.specs.declared.closed.ClosedElement.TheVariants.{Assert, Or, Authorize, AuthorizeNv}
+use Rattle.tpol_tree.specs.declared.closed.ClosedElements.{ClosedElements}
+use Rattle.tpol_tree.specs.declared.path.ApprovedDoc.{ApprovedDoc}
+use Rattle.tpol_tree.specs.declared.path.Move.{Move}
+use Rattle.tpol_tree.specs.declared.path.Move.TheVariants.{Approve, ApproveNv}
+use Rattle.tpol_tree.specs.declared.path.Path.{Path}
+use Rattle.tpol_tree.specs.declared.path.PathStep.{PathStep}
+use Rattle.tpol_tree.specs.declared.path.PathStep.TheVariants.{Document}
+use Rattle.tpol_choose.specs.declared.ahead.Ahead.{Ahead}
+use Rattle.tpol_choose.specs.declared.ahead.Ahead.TheVariants.{Nothing, After'}
+use Rattle.tpol_choose.specs.declared.block.Block.{Block}
+use Rattle.tpol_choose.specs.declared.block.Why.TheVariants.{NoSession}
+use Rattle.tpol_choose.specs.declared.searching.Search.{Search}
+use Rattle.tpol_choose.specs.declared.searching.Search.TheVariants.{Found, Passed}
+use Rattle.tpol_choose.specs.Acts.{move_of}
+use Rattle.tpol_choose.specs.Ahead.{HasBranchCountsAhead, ways_ahead}
+use Rattle.tpol_choose.specs.Blocks.{block_of, block_on, moves_block, whole_block}
+use Rattle.tpol_choose.specs.Clients.{Client}
+use Rattle.tpol_choose.specs.Counts.{IsCount}
+use Rattle.tpol_choose.specs.Facts.{fresh_session}
+use Rattle.tpol_choose.specs.Searches.{IsCounted, go_on, passed_more, search_ahead, search_end, search_ways}
+use Rattle.tpol_choose.specs.Tracks.{TrackState, block_at_end, fresh_track, is_lost, track_after, track_along}
+use Rattle.tpol_choose.proofs.Counted.{count_both}
+use Rattle.tpol_choose.proofs.Ends.{path_ends}
+use Rattle.tpol_choose.proofs.Going.{along_both, along_between, along_closed, along_move}
+use Rattle.tpol_choose.proofs.Loads.{mul_some}
+
+go_on_nowhere : (s : Search) → go_on s (λ n. Passed n) ≡ s
+go_on_nowhere (Found index) = refl
+go_on_nowhere (Passed passed) = refl
+
+go_on_assoc : (s : Search) (f g : ℕ → Search) → go_on (go_on s f) g ≡ go_on s (λ n. go_on (f n) g)
+go_on_assoc (Found index) f g = refl
+go_on_assoc (Passed passed) f g = refl
+
+go_on_same : (s : Search) (f g : ℕ → Search) → ((n : ℕ) → f n ≡ g n) → go_on s f ≡ go_on s g
+go_on_same (Found index) f g h = refl
+go_on_same (Passed passed) f g h = h passed
+
+module _ (client : Client) (behind : TrackState → ℕ → Search) where
+  -- ---- ways one after another, and ways that are changed
+
+  pub ways_append : (track : TrackState) (n : ℕ) (xs ys : List Path) → search_ways client behind track n (xs ++ ys) ≡ go_on (search_ways client behind track n xs) (λ m. search_ways client behind track m ys)
+  ways_append track n [] ys = refl
+  ways_append track n (x ∷ xs) ys =
+      go_on_same (behind (track_along client track x) n) (λ m. search_ways client behind track m (xs ++ ys)) (λ m. go_on (search_ways client behind track m xs) (λ k. search_ways client behind track k ys)) (λ m. ways_append track m xs ys)
+      ∙ sym (go_on_assoc (behind (track_along client track x) n) (λ m. search_ways client behind track m xs) (λ m. search_ways client behind track m ys))
+
+  pub ways_one : (track : TrackState) (n : ℕ) (way : Path) → search_ways client behind track n (way ∷ []) ≡ behind (track_along client track way) n
+  ways_one track n way = go_on_nowhere (behind (track_along client track way) n)
+
+  pub ways_one_move : (track : TrackState) (n : ℕ) (act : Move) → search_ways client behind track n (path_of_move act ∷ []) ≡ behind (track_after client track act) n
+  ways_one_move track n act =
+      ways_one track n (path_of_move act) ∙ ap (λ t. behind t n) (sym (along_move client track act))
+
+  ways_followed : (track : TrackState) (n : ℕ) (a : Path) (ways : List Path) → search_ways client behind track n (map (followed_by a) ways) ≡ search_ways client behind (track_along client track a) n ways
+  ways_followed track n a [] = refl
+  ways_followed track n a (way ∷ ways) =
+      ap (λ t. go_on (behind t n) (λ m. search_ways client behind track m (map (followed_by a) ways))) (sym (along_both client track a way))
+      ∙ go_on_same (behind (track_along client (track_along client track a) way) n) (λ m. search_ways client behind track m (map (followed_by a) ways)) (λ m. search_ways client behind (track_along client track a) m ways) (λ m. ways_followed track m a ways)
+
+  pub ways_product : (track : TrackState) (n : ℕ) (xs ys : List Path) → search_ways client behind track n (product xs ys) ≡ search_ways client (λ t m. search_ways client behind t m ys) track n xs
+  ways_product track n [] ys = refl
+  ways_product track n (x ∷ xs) ys =
+      ways_append track n (map (followed_by x) ys) (product xs ys)
+      ∙ ap (λ s. go_on s (λ m. search_ways client behind track m (product xs ys))) (ways_followed track n x ys)
+      ∙ go_on_same (search_ways client behind (track_along client track x) n ys) (λ m. search_ways client behind track m (product xs ys)) (λ m. search_ways client (λ t k. search_ways client behind t k ys) track m xs) (λ m. ways_product track m xs ys)
+
+  pub ways_by_step : (track : TrackState) (n : ℕ) (step : PathStep) (ways : List Path) → search_ways client behind track n (map (followed_by (path_of_step step)) ways) ≡ search_ways client behind track n ways
+  ways_by_step track n step [] = refl
+  ways_by_step track n step (way ∷ ways) =
+      go_on_same (behind (track_along client track way) n) (λ m. search_ways client behind track m (map (followed_by (path_of_step step)) ways)) (λ m. search_ways client behind track m ways) (λ m. ways_by_step track m step ways)
+
+  pub ways_by_move : (track : TrackState) (n : ℕ) (act : Move) (ways : List Path) → search_ways client behind track n (map (λ way. followed_by way (path_of_move act)) ways) ≡ search_ways client (λ t m. behind (track_after client t act) m) track n ways
+  ways_by_move track n act [] = refl
+  ways_by_move track n act (way ∷ ways) =
+      ap (λ t. go_on (behind t n) (λ m. search_ways client behind track m (map (λ x. followed_by x (path_of_move act)) ways))) (sym (along_closed client track act way))
+      ∙ go_on_same (behind (track_after client (track_along client track way) act) n) (λ m. search_ways client behind track m (map (λ x. followed_by x (path_of_move act)) ways)) (λ m. search_ways client (λ t k. behind (track_after client t act) k) track m ways) (λ m. ways_by_move track m act ways)
+
+  pub ways_between : (track : TrackState) (n : ℕ) (step : PathStep) (act : Move) (ways : List Path) → search_ways client behind track n (map (between step act) ways) ≡ search_ways client (λ t m. behind (track_after client t act) m) track n ways
+  ways_between track n step act [] = refl
+  ways_between track n step act (way ∷ ways) =
+      ap (λ t. go_on (behind t n) (λ m. search_ways client behind track m (map (between step act) ways))) (sym (along_between client track step act way))
+      ∙ go_on_same (behind (track_after client (track_along client track way) act) n) (λ m. search_ways client behind track m (map (between step act) ways)) (λ m. search_ways client (λ t k. behind (track_after client t act) k) track m ways) (λ m. ways_between track m step act ways)
+
+  -- ---- a search among the first of two lists
+
+  pub found_first : (track : TrackState) (n index : ℕ) (xs ys : List Path) → search_ways client behind track n xs ≡ Found index → search_ways client behind track n (xs ++ ys) ≡ Found index
+  found_first track n index xs ys h =
+      ways_append track n xs ys ∙ ap (λ s. go_on s (λ m. search_ways client behind track m ys)) h
+
+  pub passed_first : (track : TrackState) (n more : ℕ) (xs ys : List Path) → search_ways client behind track n xs ≡ Passed more → search_ways client behind track n (xs ++ ys) ≡ search_ways client behind track more ys
+  passed_first track n more xs ys h =
+      ways_append track n xs ys ∙ ap (λ s. go_on s (λ m. search_ways client behind track m ys)) h
+
+-- ---- where something stands in the way already
+
+or_true : (b : Bool) → (b || true) ≡ true
+or_true true = refl
+or_true false = refl
+
+lost_by : (o : Bool) (b c : Option Block) → (o || is_some b) ≡ true → (is_some b ≡ true → is_some c ≡ true) → (p : Bool) → ((o || p) || is_some c) ≡ true
+lost_by true b c h f p = refl
+lost_by false b c h f true = refl
+lost_by false b c h f false = f h
+
+still_blocked : (b c : Option Block) → is_some b ≡ true → is_some (or_else b c) ≡ true
+still_blocked None c h = absurd cc
+still_blocked (Some block) c h = refl
+
+lost_moves : (client : Client) (track : TrackState) (moves : List Move) → is_some track.block ≡ true → is_some (fold (track_after client) track moves).block ≡ true
+lost_moves client track [] h = h
+lost_moves client track (act ∷ rest) h =
+    lost_moves client (track_after client track act) rest (still_blocked track.block _ h)
+
+lost_more : (o : Bool) (b c : Option Block) → (o || is_some b) ≡ true → (o || is_some (or_else b c)) ≡ true
+lost_more true b c h = refl
+lost_more false b c h = still_blocked b c h
+
+lost_after : (client : Client) (track : TrackState) (act : Move) → is_lost track ≡ true → is_lost (track_after client track act) ≡ true
+lost_after client track act h = lost_more track.outside track.block _ h
+
+pub lost_along : (client : Client) (track : TrackState) (way : Path) → is_lost track ≡ true → is_lost (track_along client track way) ≡ true
+lost_along client track way h =
+    lost_by track.outside track.block (fold (track_after client) track way.moves).block h (lost_moves client track way.moves) way.outside
+
+lost_at_end : (w b g : Option Block) → is_some b ≡ true → is_none (or_else w (or_else b g)) ≡ false
+lost_at_end (Some x) b g h = refl
+lost_at_end None (Some x) g h = refl
+lost_at_end None None g h = absurd cc
+
+lost_end : (sight : Sight) (o : Bool) (b g : Option Block) → (o || is_some b) ≡ true → is_none (or_else (whole_block sight o) (or_else b g)) ≡ false
+lost_end sight true b g h = refl
+lost_end sight false b g h = lost_at_end (whole_block sight false) b g h
+
+-- all ways are passed over, where those behind each are
+module _ (client : Client) (behind : TrackState → ℕ → Search) (c : ℕ) (passes : (t : TrackState) (m : ℕ) → is_lost t ≡ true → behind t m ≡ Passed (passed_more m c)) where
+  ways_lost : (track : TrackState) (n : ℕ) (ways : List Path) → is_lost track ≡ true → n ≤ 65537 → search_ways client behind track n ways ≡ Passed (passed_more n (length ways * c))
+  ways_lost track n [] h few = ap Passed (omega arith)
+  ways_lost track n (way ∷ ways) h few =
+      ap (λ s. go_on s (λ m. search_ways client behind track m ways)) (passes (track_along client track way) n (lost_along client track way h))
+      ∙ ways_lost track (passed_more n c) ways h (omega arith)
+      ∙ ap Passed (omega arith)
+
+  pub all_lost : (track : TrackState) (n : ℕ) (ways : List Path) → is_lost track ≡ true → 1 ≤ length ways → search_ways client behind track n ways ≡ Passed (passed_more n (length ways * c))
+  all_lost track n [] h some = absurd (omega arith)
+  all_lost track n (way ∷ ways) h some =
+      ap (λ s. go_on s (λ m. search_ways client behind track m ways)) (passes (track_along client track way) n (lost_along client track way h))
+      ∙ ways_lost track (passed_more n c) ways h (omega arith)
+      ∙ ap Passed (omega arith)
+
+module _ (client : Client) (documents : List ApprovedDoc) (approved : All (λ document. HasBranchCounts document.closed.elements) documents) where
+  ways_are : (levels : ℕ) (elements : ClosedElements) (d : Digest32) → HasBranchCounts elements → length (element_list_ways documents levels elements d) ≡ (extent_at (document_extent documents levels) documents elements).paths
+  ways_are levels elements d h =
+      (extent_at-measures _ _ documents (document_agrees documents (recursion_from_All (λ document. HasBranchCounts document.closed.elements) documents approved) levels) elements d h).count
+
+  -- the ways through elements and what comes behind them are passed over
+  pub elements_lost : (behind : TrackState → ℕ → Search) (c : ℕ) → ((t : TrackState) (m : ℕ) → is_lost t ≡ true → behind t m ≡ Passed (passed_more m c)) → (levels : ℕ) (elements : ClosedElements) (d : Digest32) (track : TrackState) (n : ℕ) → HasBranchCounts elements → is_lost track ≡ true → search_ways client behind track n (element_list_ways documents levels elements d) ≡ Passed (passed_more n ((extent_at (document_extent documents levels) documents elements).paths * c))
+  elements_lost behind c passes levels elements d track n h lost =
+      all_lost client behind c passes track n (element_list_ways documents levels elements d) lost (some_way documents approved levels elements d h)
+      ∙ ap (λ k. Passed (passed_more n (k * c))) (ways_are levels elements d h)
+
+  pub ahead_lost : (ahead : Ahead) → HasBranchCountsAhead ahead → (track : TrackState) (n : ℕ) → is_lost track ≡ true → search_ahead client documents ahead track n ≡ Passed (passed_more n (ways_ahead documents ahead))
+  ahead_lost Nothing h track n lost =
+      ap (λ b. if b then Found n else Passed (passed_more n 1)) (lost_end client.sight track.outside track.block _ lost)
+  ahead_lost (After' act rest before levels p ahead) h track n lost =
+      elements_lost (search_ahead client documents ahead) (ways_ahead documents ahead) (ahead_lost ahead h.1) levels rest.now before (track_after client track (move_of act)) n h.0 (lost_after client track (move_of act) lost)
+
+  rest_some : (ahead : Ahead) → HasBranchCountsAhead ahead → 1 ≤ ways_ahead documents ahead
+  rest_some Nothing h = omega arith
+  rest_some (After' act rest before levels p ahead) h =
+      mul_some (extent_at (document_extent documents levels) documents rest.now).paths (ways_ahead documents ahead) (extent_at-positive (document_extent documents levels) documents rest.now h.0) (rest_some ahead h.1)
+
+  -- what the counts of two parts, each to 65,537, make
+  pub counted_both : (first others : ℕ) (levels : ℕ) (elements : ClosedElements) (ahead : Ahead) → HasBranchCounts elements → HasBranchCountsAhead ahead → IsCount first (extent_at (document_extent documents levels) documents elements) → others ≡ min (ways_ahead documents ahead) 65537 → min (first * others) 65537 ≡ min ((extent_at (document_extent documents levels) documents elements).paths * ways_ahead documents ahead) 65537
+  counted_both first others levels elements ahead h k counted e =
+      let full = extent_at (document_extent documents levels) documents elements in
+      let behind : FullExtent = record { paths = ways_ahead documents ahead; moves = 0 } in
+      (count_both first others (min (first * others) 65537) full behind counted (record { paths = e }) (extent_at-positive (document_extent documents levels) documents elements h) (rest_some ahead k) refl).paths
+
+  outside_along : (track : TrackState) (act : Move) → is_lost (track_along client track (outside_path act)) ≡ true
+  outside_along track act =
+      ap (λ o. o || is_some (track_along client track (outside_path act)).block) (or_true track.outside)
+
+  -- the way by a policy that no listed document has is passed over
+  pub outside_lost : (behind : TrackState → ℕ → Search) (c : ℕ) → ((t : TrackState) (m : ℕ) → is_lost t ≡ true → behind t m ≡ Passed (passed_more m c)) → (element : ClosedElement) (track : TrackState) (n : ℕ) → length (outside_paths element) ≡ 1 → search_ways client behind track n (outside_paths element) ≡ Passed (passed_more n c)
+  outside_lost behind c passes (Authorize key policy_ref) track n h =
+      let act = Approve key policy_ref zero_digest zero_digest in
+      ways_one client behind track n (outside_path act) ∙ passes (track_along client track (outside_path act)) n (outside_along track act)
+  outside_lost behind c passes (AuthorizeNv index) track n h =
+      let act = ApproveNv index zero_digest in
+      ways_one client behind track n (outside_path act) ∙ passes (track_along client track (outside_path act)) n (outside_along track act)
+  outside_lost behind c passes (Assert assertion) track n h = absurd (omega arith)
+  outside_lost behind c passes (Or branches) track n h = absurd (omega arith)
+
+-- ---- the documents that are left
+
+module _ (documents : List ApprovedDoc) (levels : ℕ) (element : ClosedElement) where
+  abbrev pub left : ℕ → List Path
+  left i = approved_paths (document_paths documents levels) (drop i documents) element
+
+  pub next_left : (i : ℕ) (document : ApprovedDoc) → i < length documents → document ≡ get_or documents i document → left i ≡ part documents levels element document ++ left (i + 1)
+  next_left i document inside is =
+      ap (λ l. approved_paths (document_paths documents levels) l element) (drop-cons documents i document inside)
+      ∙ ap (λ n. part documents levels element (get_or documents i document) ++ left n) (sym (add-one i))
+      ∙ ap (λ x. part documents levels element x ++ left (i + 1)) (sym is)
+
+  pub none_left : (i : ℕ) → length documents ≤ i → left i ≡ []
+  none_left i h = ap (λ l. approved_paths (document_paths documents levels) l element) (drop_all i documents h)
+
+-- the ways of a document, each before the move that uses its approval
+pub entered : (client : Client) (behind : TrackState → ℕ → Search) (documents : List ApprovedDoc) (levels : ℕ) (element : ClosedElement) (document : ApprovedDoc) (act : Move) (d : Digest32) (track : TrackState) (n : ℕ) (found : Search) → levels ≢ 0 → Some act ≡ approval_of element document → d ≡ zero_digest → found ≡ search_ways client (λ t m. behind (track_after client t act) m) track n (element_list_ways documents (levels - 1) document.closed.elements d) → search_ways client behind track n (part documents levels element document) ≡ found
+entered client behind documents levels element document act d track n found level asks e is =
+    ap (λ o. search_ways client behind track n (paths_by_approval o document (document_paths documents levels document))) (sym asks)
+    ∙ ap (λ l. search_ways client behind track n (map (between (Document document.document) act) l)) (document_paths-some documents levels document level)
+    ∙ ways_between client behind track n (Document document.document) act (element_list_ways documents (levels - 1) document.closed.elements zero_digest)
+    ∙ sym (is ∙ ap (λ x. search_ways client (λ t m. behind (track_after client t act) m) track n (element_list_ways documents (levels - 1) document.closed.elements x)) e)
+
+-- ---- the first path
+
+-- the position of what is found, from 1
+abbrev pub position_of : Search → Option ℕ
+position_of (Found index) = Some (index + 1)
+position_of (Passed passed) = None
+
+-- where no session is free, no path is open
+pub without_session : (client : Client) → client.sight.free_sessions ≡ 0 → (path : Path) → is_none (block_on client path) ≡ false
+without_session client none path = by path.outside
+  where
+    by : (outside : Bool) → is_none (or_else (whole_block client.sight outside) (moves_block client 1 (fresh_session client.sight) path.moves)) ≡ false
+    by true = refl
+    by false =
+        ap (λ n. is_none (or_else (block_of 0 (unless (not (n == 0)) NoSession)) (moves_block client 1 (fresh_session client.sight) path.moves))) none
+
+module _ (client : Client) where
+  pub first_found : (n : ℕ) (ways : List Path) → n + length ways ≤ 65537 → AllByRecursion (λ way. length way.moves ≤ 512) ways → position_of (search_ways client (search_end client) (fresh_track client) n ways) ≡ first_path (λ way. is_none (block_on client way)) (n + 1) ways
+  first_found n [] few short = refl
+  first_found n (way ∷ ways) few short =
+      ap (λ o. position_of (go_on (if is_none o then Found n else Passed (passed_more n 1)) (λ m. search_ways client (search_end client) (fresh_track client) m ways))) (path_ends client way short.0)
+      ∙ by (is_none (block_on client way)) (first_found (n + 1) ways (omega arith) short.1)
+    where
+      by : (b : Bool) → position_of (search_ways client (search_end client) (fresh_track client) (n + 1) ways) ≡ first_path (λ x. is_none (block_on client x)) (n + 1 + 1) ways → position_of (go_on (if b then Found n else Passed (passed_more n 1)) (λ m. search_ways client (search_end client) (fresh_track client) m ways)) ≡ (if b then Some (n + 1) else first_path (λ x. is_none (block_on client x)) (n + 1 + 1) ways)
+      by true later = refl
+      by false later =
+          let e : passed_more n 1 ≡ n + 1 = omega arith in
+          ap (λ m. position_of (search_ways client (search_end client) (fresh_track client) m ways)) e ∙ later
+
+  pub found_within : (track : TrackState) (n index : ℕ) (ways : List Path) → n ≤ 65537 → search_ways client (search_end client) track n ways ≡ Found index → index ≤ 65537
+  found_within track n index [] few h = absurd cc
+  found_within track n index (way ∷ ways) few h =
+      by (is_none (block_at_end client (track_along client track way))) (found_within track (passed_more n 1) index ways (omega arith)) h
+    where
+      by : (b : Bool) → (search_ways client (search_end client) track (passed_more n 1) ways ≡ Found index → index ≤ 65537) → go_on (if b then Found n else Passed (passed_more n 1)) (λ m. search_ways client (search_end client) track m ways) ≡ Found index → index ≤ 65537
+      by true later e = let same : n ≡ index = cc in omega arith
+      by false later e = later e
+
+  pub is_counted : (track : TrackState) (n : ℕ) (ways : List Path) (found : Search) → n ≤ 65537 → found ≡ search_ways client (search_end client) track n ways → IsCounted found
+  is_counted track n ways (Found index) few e = found_within track n index ways few (sym e)
+  is_counted track n ways (Passed passed) few e = tt

@@ -1,0 +1,46 @@
+// What a walk through a policy has ahead of it.
+
+ghost use Rattle.std.specs.Prelude.{◌≡◌, All, min};
+ghost use Rattle.tpol_choose.specs.Ahead as spec;
+ghost use Rattle.tpol_tree.specs.Closed.{HasBranchCounts};
+
+use crate::act::Act;
+use crate::counting::{COUNTED, count_elements};
+use tpol_base::Digest32;
+use tpol_tree::{ApprovedDoc, ClosedElements};
+
+// What comes behind the branch, or the document, that is walked: the move that closes it, the rest of the list
+// that it stands in, with the digest before that rest, in which documents may be entered `levels` deep, and
+// what comes behind that.
+#[derive(Clone, Copy)]
+pub enum Ahead<'a> {
+    Nothing,
+    After {
+        act: Act<'a>,
+        rest: &'a ClosedElements,
+        before: Digest32,
+        levels: u8,
+        ahead: &'a Ahead<'a>,
+    },
+}
+
+// The number of ways through what comes behind.
+pub fn count_ahead(approvals: &[ApprovedDoc], ahead: &Ahead<'_>) -> u64
+    requires counts { spec.HasBranchCountsAhead ahead.now }
+    requires approved { All (λ document. HasBranchCounts document.closed.elements) approvals.now }
+    ensures { result ≡ min (spec.ways_ahead approvals.now ahead.now) 65537 }
+{
+    match ahead {
+        Ahead::Nothing => 1,
+        Ahead::After {
+            rest,
+            levels,
+            ahead,
+            ..
+        } => {
+            let first = count_elements(approvals, *levels, rest);
+            let others = count_ahead(approvals, ahead);
+            first.saturating_mul(others).min(COUNTED)
+        }
+    }
+}

@@ -1,0 +1,24 @@
+ghost use Rattle.std.specs.Prelude.{◌≡◌};
+ghost use Rattle.tpol_digest.specs.Digest as spec;
+
+use crate::session::or_digest;
+use tpol_base::Digest32;
+
+// PolicyOR with the digests of its branches, and the digest that it leads to, which is made once.
+#[derive(Clone, Copy)]
+pub struct OrMove<'a> {
+    pub digests: &'a [Digest32],
+    pub after: Digest32,
+    pub ghost known: { after ≡ spec.or_digest digests.now },
+}
+
+impl<'a> OrMove<'a> {
+    pub fn new(digests: &'a [Digest32]) -> OrMove<'a>
+        ensures { result.digests.now ≡ digests.now }
+    {
+        OrMove {
+            digests,
+            after: or_digest(digests),
+        }
+    }
+}

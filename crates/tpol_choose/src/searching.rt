@@ -1,0 +1,286 @@
+// The first way through a policy that can be gone, on one walk through it, depth first.
+
+ghost use Rattle.std.specs.Prelude.{◌≡◌, ◌*◌, All, ℕ, length};
+ghost use Rattle.tpol_choose.specs.Ahead.{HasBranchCountsAhead, ways_ahead};
+ghost use Rattle.tpol_choose.specs.Lent.{client_of_lent};
+ghost use Rattle.tpol_choose.specs.Searches as spec;
+ghost use Rattle.tpol_choose.specs.Tracks.{IsTrack, TrackState, fresh_track};
+ghost use Rattle.tpol_choose.specs.declared.searching.Search.TheVariants as found;
+ghost use Rattle.tpol_digest.specs.Digest.{digest_at_element};
+ghost use Rattle.tpol_digest.specs.Extent.{document_extent, extent_at};
+ghost use Rattle.tpol_digest.specs.Paths.{approved_paths, document_paths, outside_paths, paths_of};
+ghost use Rattle.tpol_digest.specs.Positions as at;
+ghost use Rattle.tpol_name.specs.Setups.{IsSight};
+ghost use Rattle.tpol_tree.specs.Closed.{HasBranchCounts, ElementHasBranchCounts, BranchesHaveBranchCounts};
+
+use crate::act::Act;
+use crate::ahead::{Ahead, count_ahead};
+use crate::approving::approval;
+use crate::branch_digests::BranchDigests;
+use crate::counting::{COUNTED, count_elements};
+use crate::or_move::OrMove;
+use crate::session::zero;
+use crate::track::Track;
+use crate::walk::Walk;
+use tpol_base::Digest32;
+use tpol_digest::digest_after_element;
+use tpol_tree::{Closed, ClosedBranches, ClosedElement, ClosedElements};
+
+// How far a search is: at the index, from 0, of a way that can be gone; or past so many ways, counted to
+// `COUNTED`, none of which can.
+#[derive(Clone, Copy)]
+pub enum Search {
+    Found(u64),
+    Passed(u64),
+}
+
+// Looks for the first way through a policy that can be gone.
+pub fn search_policy(walk: &Walk<'_>, policy: &Closed) -> Search
+    requires branches { HasBranchCounts policy.now.elements }
+    requires approved { All (λ document. HasBranchCounts document.closed.elements) walk.now.approvals.now }
+    requires sight { IsSight walk.now.client.sight.now }
+    requires levels { walk.now.levels ≡ 4 }
+    ensures found { result ≡ spec.search_ways (client_of_lent walk.now.client) (spec.search_end (client_of_lent walk.now.client))
+        (fresh_track (client_of_lent walk.now.client)) 0 (paths_of policy.now walk.now.approvals.now) }
+    ensures counted { spec.IsCounted result }
+{
+    let track = Track::new(&walk.client);
+    search_elements(walk, track, &policy.elements, zero(), &Ahead::Nothing, 0)
+}
+
+// Goes on with a search, from a track that has passed so many ways, through all ways through elements and
+// what comes behind them; `before` is the digest before the elements.
+#[cycle(searching)]
+fn search_elements<'a>(
+    walk: &Walk<'_>,
+    track: Track,
+    elements: &'a ClosedElements,
+    before: Digest32,
+    ahead: &'a Ahead<'a>,
+    passed: u64,
+) -> Search
+    requires branches { HasBranchCounts elements.now }
+    requires approved { All (λ document. HasBranchCounts document.closed.elements) walk.now.approvals.now }
+    requires sight { IsSight walk.now.client.sight.now }
+    requires ahead { HasBranchCountsAhead ahead.now }
+    ensures { (state : TrackState) → IsTrack track state
+        → result ≡ spec.search_ways (client_of_lent walk.now.client) (spec.search_ahead (client_of_lent walk.now.client) walk.now.approvals.now ahead.now)
+        state passed (at.element_list_ways walk.now.approvals.now walk.now.levels elements.now before) }
+{
+    if track.is_lost() {
+        return pass_over(walk, elements, ahead, passed);
+    }
+    match elements {
+        ClosedElements::End => search_ahead(walk, track, ahead, passed),
+        ClosedElements::More(element, rest) => {
+            search_element(walk, track, element, rest, before, ahead, passed)
+        }
+    }
+}
+
+// The same of one element, the rest of its list and what comes behind it.
+#[cycle(searching)]
+fn search_element<'a>(
+    walk: &Walk<'_>,
+    track: Track,
+    element: &'a ClosedElement,
+    rest: &'a ClosedElements,
+    before: Digest32,
+    ahead: &'a Ahead<'a>,
+    passed: u64,
+) -> Search
+    requires branches { ElementHasBranchCounts element.now }
+    requires rest { HasBranchCounts rest.now }
+    requires approved { All (λ document. HasBranchCounts document.closed.elements) walk.now.approvals.now }
+    requires sight { IsSight walk.now.client.sight.now }
+    requires ahead { HasBranchCountsAhead ahead.now }
+    ensures { (state : TrackState) → IsTrack track state
+        → result ≡ spec.search_ways (client_of_lent walk.now.client)
+        (spec.search_rest (client_of_lent walk.now.client) walk.now.approvals.now walk.now.levels rest.now (digest_at_element element.now before) ahead.now)
+        state passed (at.element_ways walk.now.approvals.now walk.now.levels element.now before) }
+{
+    match element {
+        ClosedElement::Assert(assertion) => {
+            let next = track.after(walk.alloc, &walk.client, &Act::Assert(assertion));
+            let after = digest_after_element(element, before);
+            search_elements(walk, next, rest, after, ahead, passed)
+        }
+        ClosedElement::Or(branches) => {
+            let digests = BranchDigests::of(branches, before);
+            let or = OrMove::new(digests.as_slice());
+            let behind = Ahead::After {
+                act: Act::Or(or),
+                rest: &*rest,
+                before: or.after,
+                levels: walk.levels,
+                ahead: &*ahead,
+            };
+            search_branches(walk, track, &*branches, before, &behind, passed)
+        }
+        ClosedElement::Authorize { .. } | ClosedElement::AuthorizeNv { .. } => {
+            let after = digest_after_element(element, before);
+            search_approvals(walk, track, element, rest, after, ahead, passed)
+        }
+    }
+}
+
+// The same of branches and what comes behind them. Their positions do not matter.
+#[cycle(searching)]
+fn search_branches<'a>(
+    walk: &Walk<'_>,
+    track: Track,
+    branches: &'a ClosedBranches,
+    before: Digest32,
+    ahead: &'a Ahead<'a>,
+    passed: u64,
+) -> Search
+    requires branches { BranchesHaveBranchCounts branches.now }
+    requires approved { All (λ document. HasBranchCounts document.closed.elements) walk.now.approvals.now }
+    requires sight { IsSight walk.now.client.sight.now }
+    requires ahead { HasBranchCountsAhead ahead.now }
+    ensures { (state : TrackState) (position : ℕ) → IsTrack track state
+        → result ≡ spec.search_ways (client_of_lent walk.now.client) (spec.search_ahead (client_of_lent walk.now.client) walk.now.approvals.now ahead.now)
+        state passed (at.branch_ways walk.now.approvals.now walk.now.levels branches.now position before) }
+{
+    match branches {
+        ClosedBranches::End => Search::Passed(passed),
+        ClosedBranches::More(branch, rest) => {
+            let elements = &branch.policy.elements;
+            match search_elements(walk, track, elements, before, ahead, passed) {
+                Search::Found(index) => Search::Found(index),
+                Search::Passed(more) => search_branches(walk, track, rest, before, ahead, more),
+            }
+        }
+    }
+}
+
+// The same of an element that asks for an approval, the rest of its list, before which stands the digest
+// `after`, and what comes behind it. The way by a policy that no listed document has can not be gone.
+#[cycle(searching)]
+fn search_approvals<'a>(
+    walk: &Walk<'_>,
+    track: Track,
+    element: &'a ClosedElement,
+    rest: &'a ClosedElements,
+    after: Digest32,
+    ahead: &'a Ahead<'a>,
+    passed: u64,
+) -> Search
+    requires asks { length (outside_paths element.now) ≡ 1 }
+    requires rest { HasBranchCounts rest.now }
+    requires approved { All (λ document. HasBranchCounts document.closed.elements) walk.now.approvals.now }
+    requires sight { IsSight walk.now.client.sight.now }
+    requires ahead { HasBranchCountsAhead ahead.now }
+    ensures { (state : TrackState) → IsTrack track state
+        → result ≡ spec.search_ways (client_of_lent walk.now.client)
+        (spec.search_rest (client_of_lent walk.now.client) walk.now.approvals.now walk.now.levels rest.now after ahead.now)
+        state passed (at.approval_ways walk.now.approvals.now walk.now.levels element.now) }
+{
+    match search_documents(walk, track, element, rest, after, ahead, passed) {
+        Search::Found(index) => Search::Found(index),
+        Search::Passed(more) => pass_over(walk, rest, ahead, more),
+    }
+}
+
+// The same of the documents that the element's approver approved.
+#[cycle(searching)]
+fn search_documents<'a>(
+    walk: &Walk<'_>,
+    track: Track,
+    element: &'a ClosedElement,
+    rest: &'a ClosedElements,
+    after: Digest32,
+    ahead: &'a Ahead<'a>,
+    passed: u64,
+) -> Search
+    requires rest { HasBranchCounts rest.now }
+    requires approved { All (λ document. HasBranchCounts document.closed.elements) walk.now.approvals.now }
+    requires sight { IsSight walk.now.client.sight.now }
+    requires ahead { HasBranchCountsAhead ahead.now }
+    ensures { (state : TrackState) → IsTrack track state
+        → result ≡ spec.search_ways (client_of_lent walk.now.client)
+        (spec.search_rest (client_of_lent walk.now.client) walk.now.approvals.now walk.now.levels rest.now after ahead.now)
+        state passed (approved_paths (document_paths walk.now.approvals.now walk.now.levels) walk.now.approvals.now element.now) }
+{
+    if walk.levels == 0 {
+        return Search::Passed(passed);
+    }
+    let inner = Walk {
+        levels: walk.levels - 1,
+        ..*walk
+    };
+    let mut so_far = passed;
+    for document in walk.approvals {
+        if let Some(act) = approval(element, document) {
+            let behind = Ahead::After {
+                act,
+                rest: &*rest,
+                before: after,
+                levels: walk.levels,
+                ahead: &*ahead,
+            };
+            let elements = &document.closed.elements;
+            match search_elements(&inner, track, &*elements, zero(), &behind, so_far) {
+                Search::Found(index) => return Search::Found(index),
+                Search::Passed(more) => so_far = more,
+            }
+        }
+    }
+    Search::Passed(so_far)
+}
+
+// The same of what comes behind a branch or a document.
+#[cycle(searching)]
+fn search_ahead<'a>(walk: &Walk<'_>, track: Track, ahead: &'a Ahead<'a>, passed: u64) -> Search
+    requires approved { All (λ document. HasBranchCounts document.closed.elements) walk.now.approvals.now }
+    requires sight { IsSight walk.now.client.sight.now }
+    requires ahead { HasBranchCountsAhead ahead.now }
+    ensures { (state : TrackState) → IsTrack track state
+        → result ≡ spec.search_ahead (client_of_lent walk.now.client) walk.now.approvals.now ahead.now state passed }
+{
+    match ahead {
+        Ahead::Nothing => search_end(walk, &track, passed),
+        Ahead::After {
+            act,
+            rest,
+            before,
+            levels,
+            ahead,
+        } => {
+            let next = track.after(walk.alloc, &walk.client, act);
+            let outer = Walk {
+                levels: *levels,
+                ..*walk
+            };
+            search_elements(&outer, next, rest, *before, ahead, passed)
+        }
+    }
+}
+
+// The same of the end of a way.
+fn search_end(walk: &Walk<'_>, track: &Track, passed: u64) -> Search
+    requires sight { IsSight walk.now.client.sight.now }
+    ensures { (state : TrackState) → IsTrack track.now state
+        → result ≡ spec.search_end (client_of_lent walk.now.client) state passed }
+{
+    if track.end(&walk.client).is_ok() {
+        Search::Found(passed)
+    } else {
+        Search::Passed(passed.saturating_add(1).min(COUNTED))
+    }
+}
+
+// Passes over all ways through elements and what comes behind them.
+fn pass_over(walk: &Walk<'_>, elements: &ClosedElements, ahead: &Ahead<'_>, passed: u64) -> Search
+    requires branches { HasBranchCounts elements.now }
+    requires approved { All (λ document. HasBranchCounts document.closed.elements) walk.now.approvals.now }
+    requires ahead { HasBranchCountsAhead ahead.now }
+    ensures { result ≡ found.Passed (spec.passed_more passed
+        ((extent_at (document_extent walk.now.approvals.now walk.now.levels) walk.now.approvals.now elements.now).paths
+        * ways_ahead walk.now.approvals.now ahead.now)) }
+{
+    let first = count_elements(walk.approvals, walk.levels, elements);
+    let behind = count_ahead(walk.approvals, ahead);
+    let ways = first.saturating_mul(behind);
+    Search::Passed(passed.saturating_add(ways).min(COUNTED))
+}
