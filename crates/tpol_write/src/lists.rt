@@ -3,6 +3,7 @@
 ghost use Rattle.std.specs.Prelude.{◌≡◌, IfOk, OnOk, map};
 ghost use Rattle.serde_json.specs.Data.{string, put as with_member};
 ghost use Rattle.serde_json.specs.View.{view, members_view};
+ghost use Rattle.tpol_base.specs.Pcr.{pcrs_of_mask};
 ghost use Rattle.tpol_write.specs.Objects.{list_of, natural};
 ghost use Rattle.tpol_write.specs.Wishes.{name_value, names_member, pcr_value, pcrs_member};
 
@@ -42,8 +43,7 @@ pub fn put_pcrs(object: &mut Object, alloc: Global, pcrs: &PcrWish) -> Result<()
             Ok(serde_json::put(object, alloc, "pcrs", list)?)
         }
         PcrWish::Current(mask) => {
-            let numbers = pcrs_of_mask(alloc, *mask)?;
-            let list = number_list(alloc, numbers.as_slice())?;
+            let list = mask_list(alloc, *mask)?;
             Ok(serde_json::put(object, alloc, "currentPCRs", list)?)
         }
     }
@@ -88,6 +88,14 @@ fn pcr_value(alloc: Global, pcr: u8, digest: &Digest32) -> Result<Value, NoMemor
     put_text(&mut object, alloc, "hashAlg", "SHA256")?;
     put_hex(&mut object, alloc, "digest", digest.bytes.as_slice())?;
     Ok(Value::Object(object))
+}
+
+// The PCRs of a mask, bit n for PCR n, in rising order.
+fn mask_list(alloc: Global, mask: u32) -> Result<Value, NoMemory>
+    ensures { IfOk result (λ value. view value ≡ list_of (map natural (pcrs_of_mask mask))) }
+{
+    let pcrs = pcrs_of_mask(alloc, mask)?;
+    number_list(alloc, pcrs.as_slice())
 }
 
 fn number_list(alloc: Global, numbers: &[u8]) -> Result<Value, NoMemory>
