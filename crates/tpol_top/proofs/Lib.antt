@@ -2,6 +2,7 @@ pub mod Answered
 pub mod Chosen
 pub mod EntitiesAdded
 pub mod EntityPolicies
+pub mod ExplainedErased
 pub mod FilledErased
 pub mod FilledNames
 pub mod GeneratedSetups
@@ -9,13 +10,16 @@ pub mod Imported
 pub mod LimitTests
 pub mod Losses
 pub mod NoRequest
+pub mod OpenedTold
 pub mod OpeningErased
 pub mod PathSteps
 pub mod PerformanceErased
 pub mod Prefixes
 pub mod ReadFirst
 pub mod SetupsKept
+pub mod SoundFacts
 pub mod Stored
 pub mod Timeless
+pub mod Told
 pub mod TurnSteps
 pub mod Walkable

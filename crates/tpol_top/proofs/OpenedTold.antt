@@ -1,12 +1,10 @@
 -- A command that a policy session opened is told: by the machine's laws, and by the line behind the command's.
-use Rattle.std.proofs.Common.{◌≡◌, ◌∙◌, ap, refl, sym, subst, ℕ, true, List, [], ◌∷◌, ◌++◌, append_assoc, Option, Some, None, IfSome, IsSome, Ok}
+use Rattle.std.proofs.Common.{◌≡◌, ◌∙◌, ap, refl, sym, subst, ℕ, true, List, [], ◌∷◌, ◌++◌, append_assoc, Option, Some, None, IfSome, IsSome}
 use Rattle.std.specs.Option.{option_and_then, option_map}
-use Rattle.std.specs.Prelude.{All}
-use Rattle.std.proofs.lemmas.Option.{same_Some}
 use Rattle.tpm_bindings.specs.State.{SessionState}
 use Rattle.tpm_engine.proofs.Headline.{asked-of, authorizes, passes-broken, serves}
 use Rattle.tpm_engine.proofs.Lookups.{live-view}
-use Rattle.tpm_engine.proofs.Opening.{opened-pcrs, opened-policy}
+use Rattle.tpm_engine.proofs.Opening.{opened-policy}
 use Rattle.tpm_engine.proofs.Stopping.{first-asked, found, judged}
 use Rattle.tpm_engine.specs.declared.event.Event.{Event}
 use Rattle.tpm_engine.specs.declared.opened.Opened.{Opened}
@@ -15,8 +13,8 @@ use Rattle.tpm_engine.specs.Authorization.{authorized_handle, broken_check}
 use Rattle.tpm_engine.specs.Events.{Answered, event_of}
 use Rattle.tpm_engine.specs.Legal.{IsLegal, answer_to, opened_to}
 use Rattle.tpm_engine.specs.Stops.{room_stop}
-use Rattle.tpm_engine.specs.Uses.{AreOfPcrs, AsksPolicySession, IsServed}
-use Rattle.tpm_engine.specs.Views.{facts_of, next_number, pcrs_of, session_state, view_of}
+use Rattle.tpm_engine.specs.Uses.{AsksPolicySession, IsServed}
+use Rattle.tpm_engine.specs.Views.{facts_of, next_number, session_state, view_of}
 use Rattle.tpm_rules.specs.declared.outcome.Outcome.TheVariants.{Served}
 use Rattle.tpm_rules.specs.Entity.{auth_policy_of}
 use Rattle.tpm_session.specs.Slots.{state_at}
@@ -32,18 +30,17 @@ use Rattle.tpol_lines.specs.OpeningLine.{opening_line}
 use Rattle.tpol_name.specs.declared.setup.Setup.{Setup}
 use Rattle.tpol_top.specs.declared.scenario.Scenario.{Scenario}
 use Rattle.tpol_top.specs.CommandsTold.{command_told, opening_told, policy_opened, with_opening}
-use Rattle.tpol_top.specs.Explained.{IsAtPcrs, IsJudged, IsOpened, IsPrintedBehind, IsTold}
+use Rattle.tpol_top.specs.Explained.{IsJudged, IsOpened, IsPrintedBehind, IsTold}
 use Rattle.tpol_top.specs.Performance.{PerformanceState, number_in}
 use Rattle.tpol_top.specs.Scenario.{HavePolicies, MeetsPolicy, policy_of_entity}
 use Rattle.tpol_top.proofs.EntityPolicies.{opened_meets}
 use Rattle.tpol_top.proofs.SoundFacts.{facts-sound}
 use Rattle.tpol_trace.proofs.Meaning.{opening_means}
 use Rattle.tpol_trace.specs.declared.answer.Opening.{Opening}
-use Rattle.tpol_trace.specs.Openings.{IsOpening, opening_of}
+use Rattle.tpol_trace.specs.Openings.{opening_of}
 use Rattle.tpol_tree.specs.declared.closed.Closed.{Closed}
 use Rattle.tpol_tree.specs.declared.facts.Fact.{Fact}
 use Rattle.tpol_tree.specs.declared.path.ApprovedDoc.{ApprovedDoc}
-use Rattle.tpol_tree.specs.declared.path.Path.{Path}
 use Rattle.tpol_wire.specs.declared.command.Command.{Command}
 
 -- ---- what is opened

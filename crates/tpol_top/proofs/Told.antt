@@ -1,6 +1,7 @@
 -- The lines of a scene tell each event of its journal.
 use Rattle.std.proofs.Common.{◌≡◌, ◌∙◌, ap, refl, sym, subst, ℕ, zero, suc, ◌+◌, ◌-◌, Bool, true, List, [], ◌∷◌, ◌++◌, append_assoc, slice_get, Option, Some, None, IfSome}
 use Rattle.std.specs.Prelude.{⊤}
+use Rattle.std.proofs.lemmas.List.{append-nil}
 use Rattle.tpm_engine.specs.declared.event.Event.{Event}
 use Rattle.tpm_engine.specs.declared.event.Event.TheVariants as events
 use Rattle.tpm_engine.specs.declared.opened.Opened.{Opened}
@@ -36,7 +37,6 @@ use Rattle.tpol_trace.specs.declared.answer.Opening.{Opening}
 use Rattle.tpol_trace.specs.Openings.{opening_of}
 use Rattle.tpol_tree.specs.declared.closed.Closed.{Closed}
 use Rattle.tpol_tree.specs.declared.facts.Fact.{Fact}
-use Rattle.tpol_tree.specs.declared.path.ApprovedDoc.{ApprovedDoc}
 use Rattle.tpol_tree.specs.declared.path.Path.{Path}
 use Rattle.tpol_tree.specs.declared.path.PathStep.{PathStep}
 use Rattle.tpol_wire.specs.declared.command.Command.{Command as CommandOf}
@@ -145,7 +145,7 @@ module _ (setup : Setup) (scenario : Scenario) (explains : scenario.explains ≡
     grown : q.lines ≡ p.lines ++ more
 
   no_further : (p : PerformanceState) → IsFurther p p
-  no_further p = record { setup_same = refl; past_same = refl; more = []; grown = sym (append_nil p.lines) }
+  no_further p = record { setup_same = refl; past_same = refl; more = []; grown = sym (append-nil p.lines) }
 
   line_further : (line : List ℕ) (p : PerformanceState) → IsFurther p (with_line line p)
   line_further line p = record { setup_same = refl; past_same = refl; more = line_of line ∷ []; grown = refl }

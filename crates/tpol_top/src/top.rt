@@ -2,10 +2,11 @@ ghost use Rattle.std.specs.Prelude.{◌≡◌, ◌≤◌, ◌⊎◌, Some, false
 ghost use Rattle.std.specs.String.{string_bytes};
 ghost use Rattle.tpol_base.specs.Causes.{Rose, Grows, GrowsInPart};
 ghost use Rattle.tpol_top.specs.Answer.{status_of, text_of};
+ghost use Rattle.tpol_top.specs.Explained.{IfExplain, IsExplainedScene, OfHeld};
 ghost use Rattle.tpol_top.specs.Reached.{IsReadableOf};
-ghost use Rattle.tpol_top.specs.Report.{LosesAtMost, OfReport, most_read};
+ghost use Rattle.tpol_top.specs.Report.{LosesAtMost, OfReport, most_read, report_of};
 ghost use Rattle.tpol_top.specs.Status.{IsWhole, IsSilent, IsPastReading};
-ghost use Rattle.tpol_top.specs.Words.{reads_source, uses_shelf};
+ghost use Rattle.tpol_top.specs.Words.{reads_source, request_of, uses_shelf};
 
 use crate::Status;
 use crate::halt::Halt;
@@ -34,6 +35,16 @@ pub fn policy_main<S: Source, K: Sink, H: Shelf>(
         (result ≡ status_of report.answer.verdict)
         × Grows (K.contents out.old) (K.contents out.new) (text_of report.answer.lines)
         × (H.documents shelf.new ≡ Some report.documents)) }
+
+    // A scene that `explain` came to the end of is explained by what was printed. Every command of its journal that
+    // asks for a policy session was authorized by it exactly where the session's policy commands in the journal give
+    // the entity's authPolicy and every deferred check holds, and was served exactly where its own rules hold too.
+    // Behind the line of each one that was served on an entity whose policy the scene names stands the line of the
+    // first written path of that policy which those policy commands match, or of two different strings of one SHA-256
+    // digest, or of one of digest zero.
+    ensures explained { result ≡ Status.Done → IfExplain (request_of (map string_bytes words.now.items))
+        (OfHeld (S.left source.old) (H.documents shelf.old) (λ input all.
+        IsExplainedScene input all (report_of (map string_bytes words.now.items) input all).answer.lines)) }
 
     // Where the sink failed, a first part of the report was written.
     ensures prefix { result ≡ Status.WriteFault
