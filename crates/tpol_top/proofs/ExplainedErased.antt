@@ -1,9 +1,12 @@
 -- A scene is explained by the lines of its performance, whichever memory its policies lie in.
 use Rattle.std.proofs.Common.{◌≡◌, ◌∙◌, ap, refl, sym, subst, ℕ, Bool, true, false, List, map, find, reverse, Option, Some, None, IfSome, IsSome, Ok, Err, Result}
+use Rattle.std.specs.List.{AllByRecursion}
 use Rattle.std.specs.Option.{option_map}
 use Rattle.tpol_base.specs.declared.document.Document.{Document}
+use Rattle.tpol_digest.proofs.Erasures.{paths_ignore_boxes}
 use Rattle.tpol_digest.specs.Digest.{policy_digest}
 use Rattle.tpol_name.specs.declared.setup.Setup.{Setup}
+use Rattle.tpol_name.specs.Setups.{IsSetup}
 use Rattle.tpol_scene.specs.declared.scene.Scene.{Scene}
 use Rattle.tpol_store.specs.Approvals.{approved_documents}
 use Rattle.tpol_store.specs.Stores.{NamedPolicy}
@@ -35,6 +38,7 @@ use Rattle.tpol_top.proofs.EntityPolicies.{found_erased}
 use Rattle.tpol_top.proofs.FilledErased.{policy_digest_erased}
 use Rattle.tpol_top.proofs.OpenedTold.{AreOpenable, IsOpenable}
 use Rattle.tpol_top.proofs.OpeningErased.{opening_of_erased}
+use Rattle.tpol_top.proofs.PathPcrs.{HasDigests, paths_have_digests}
 use Rattle.tpol_top.proofs.PerformanceErased.{performed_erased, reversed_erased}
 use Rattle.tpol_top.proofs.Told.{performed_explains}
 use Rattle.tpol_top.proofs.Walkable.{policy_walkable}
@@ -52,7 +56,10 @@ openable setup scenario is handle = by (policy_of_entity scenario.entities handl
     by None e = tt
     by (Some closed) e =
         let walkable = policy_walkable scenario.approvals scenario.entities handle closed is.entities e in
-        record { opens = λ facts sound digest. facts_open closed scenario.approvals facts walkable.well_formed sound digest }
+        record {
+          opens = λ facts sound digest. facts_open closed scenario.approvals facts walkable.well_formed sound digest;
+          digests = paths_have_digests closed scenario.approvals walkable.well_formed;
+        }
 
 -- ---- the same erased
 
@@ -79,13 +86,14 @@ openable_erased scenario h handle =
     by None can = tt
     by (Some c) can = record {
       opens = λ facts sound digest. subst (λ o. IsSome o) (sym (opening_of_erased c scenario.approvals facts)) (can.opens facts sound (digest ∙ policy_digest_erased c));
+      digests = subst (AllByRecursion HasDigests) (sym (paths_ignore_boxes c scenario.approvals)) can.digests;
     }
 
-explained_erased : (staged : StagedScene) → staged.scenario.explains ≡ true → IsScenarioOf staged.setup staged.scenario → IsExplained (erased_staged staged) (performed staged).lines
-explained_erased staged explains is =
+explained_erased : (staged : StagedScene) → staged.scenario.explains ≡ true → IsSetup staged.setup → IsScenarioOf staged.setup staged.scenario → IsExplained (erased_staged staged) (performed staged).lines
+explained_erased staged explains setup is =
     subst (λ (p : PerformanceState). IsExplained (erased_staged staged) p.lines) (performed_erased staged)
     (performed_explains (erased_staged staged) explains (have_erased staged.setup staged.scenario.entities is.policies)
-    (openable_erased staged.scenario (openable staged.setup staged.scenario is)))
+    (openable_erased staged.scenario (openable staged.setup staged.scenario is)) setup.pcrs)
 
 -- ---- what is staged for `explain` tells openings
 
@@ -115,13 +123,13 @@ explains_staged input all staged =
 
 -- of a scene that was staged
 pub staged_explained : (explains : Bool) (documents : Option (List Document)) (input : List ℕ) (staged : StagedScene) (answer : Answer)
-    → explains ≡ true → IfSome documents (λ all. Answers erased_staged (staged_step explains input all) (Ok staged)) → IsScenarioOf staged.setup staged.scenario → answer ≡ performance_answer staged
+    → explains ≡ true → IfSome documents (λ all. Answers erased_staged (staged_step explains input all) (Ok staged)) → IsSetup staged.setup → IsScenarioOf staged.setup staged.scenario → answer ≡ performance_answer staged
     → IfSome documents (λ all. IsExplainedScene input all answer.lines)
-staged_explained explains None input staged answer yes answers is same = tt
-staged_explained explains (Some all) input staged answer yes answers is same =
+staged_explained explains None input staged answer yes answers setup is same = tt
+staged_explained explains (Some all) input staged answer yes answers setup is same =
     let step : staged_step true input all ≡ Ok (erased_staged staged) = subst (λ b. staged_step b input all ≡ Ok (erased_staged staged)) yes answers in
     let told : IsExplained (erased_staged staged) answer.lines =
-    subst (λ (a : Answer). IsExplained (erased_staged staged) a.lines) (sym same) (explained_erased staged (explains_staged input all (erased_staged staged) step) is) in
+    subst (λ (a : Answer). IsExplained (erased_staged staged) a.lines) (sym same) (explained_erased staged (explains_staged input all (erased_staged staged) step) setup is) in
     λ other e. let one : erased_staged staged ≡ other = same_value (erased_staged staged) other (sym step ∙ e) in subst (λ (s : StagedScene). IsExplained s answer.lines) one told
   where
     same_value : (a b : StagedScene) → Ok a ≡ Ok b → a ≡ b

@@ -9,10 +9,13 @@ pub mod GeneratedSetups
 pub mod Imported
 pub mod LimitTests
 pub mod Losses
+pub mod Masks
 pub mod NoRequest
 pub mod OpenedTold
 pub mod OpeningErased
+pub mod PathPcrs
 pub mod PathSteps
+pub mod PcrsAtUse
 pub mod PerformanceErased
 pub mod Prefixes
 pub mod ReadFirst

@@ -1,10 +1,11 @@
 -- A command that a policy session opened is told: by the machine's laws, and by the line behind the command's.
-use Rattle.std.proofs.Common.{◌≡◌, ◌∙◌, ap, refl, sym, subst, ℕ, true, List, [], ◌∷◌, ◌++◌, append_assoc, Option, Some, None, IfSome, IsSome}
+use Rattle.std.proofs.Common.{◌≡◌, ◌∙◌, ap, refl, sym, subst, ℕ, true, List, [], ◌∷◌, ◌++◌, append_assoc, length, Option, Some, None, IfSome, IsSome}
+use Rattle.std.specs.List.{AllByRecursion}
 use Rattle.std.specs.Option.{option_and_then, option_map}
 use Rattle.tpm_bindings.specs.State.{SessionState}
 use Rattle.tpm_engine.proofs.Headline.{asked-of, authorizes, passes-broken, serves}
 use Rattle.tpm_engine.proofs.Lookups.{live-view}
-use Rattle.tpm_engine.proofs.Opening.{opened-policy}
+use Rattle.tpm_engine.proofs.Opening.{opened-pcrs, opened-policy}
 use Rattle.tpm_engine.proofs.Stopping.{first-asked, found, judged}
 use Rattle.tpm_engine.specs.declared.event.Event.{Event}
 use Rattle.tpm_engine.specs.declared.opened.Opened.{Opened}
@@ -14,7 +15,7 @@ use Rattle.tpm_engine.specs.Events.{Answered, event_of}
 use Rattle.tpm_engine.specs.Legal.{IsLegal, answer_to, opened_to}
 use Rattle.tpm_engine.specs.Stops.{room_stop}
 use Rattle.tpm_engine.specs.Uses.{AsksPolicySession, IsServed}
-use Rattle.tpm_engine.specs.Views.{facts_of, next_number, session_state, view_of}
+use Rattle.tpm_engine.specs.Views.{facts_of, next_number, pcrs_of, session_state, view_of}
 use Rattle.tpm_rules.specs.declared.outcome.Outcome.TheVariants.{Served}
 use Rattle.tpm_rules.specs.Entity.{auth_policy_of}
 use Rattle.tpm_session.specs.Slots.{state_at}
@@ -34,6 +35,8 @@ use Rattle.tpol_top.specs.Explained.{IsJudged, IsOpened, IsPrintedBehind, IsTold
 use Rattle.tpol_top.specs.Performance.{PerformanceState, number_in}
 use Rattle.tpol_top.specs.Scenario.{HavePolicies, MeetsPolicy, policy_of_entity}
 use Rattle.tpol_top.proofs.EntityPolicies.{opened_meets}
+use Rattle.tpol_top.proofs.PathPcrs.{HasDigests}
+use Rattle.tpol_top.proofs.PcrsAtUse.{pcrs-at-use, pcrs-length}
 use Rattle.tpol_top.proofs.SoundFacts.{facts-sound}
 use Rattle.tpol_trace.proofs.Meaning.{opening_means}
 use Rattle.tpol_trace.specs.declared.answer.Opening.{Opening}
@@ -45,17 +48,22 @@ use Rattle.tpol_wire.specs.declared.command.Command.{Command}
 
 -- ---- what is opened
 
--- facts that are sound and give the policy's digest open it, and the PCRs that they found are those of its paths
+-- facts that are sound and give the policy's digest open it, and each PolicyPCR of its paths has the digest of its
+-- values
 pub record IsOpenable (approvals : List ApprovedDoc) (closed : Closed) : Type 0 where
   pub opens : (facts : List Fact) → IsSound (moves_of_facts facts) → digest_of_moves (moves_of_facts facts) ≡ policy_digest closed → IsSome (opening_of closed approvals facts)
+  pub digests : AllByRecursion HasDigests (paths_of closed approvals)
 
 abbrev pub AreOpenable : Scenario → Type 0
 AreOpenable scenario = (handle : ℕ) → IfSome (policy_of_entity scenario.entities handle) (IsOpenable scenario.approvals)
 
 -- what a command that is served through a session opens
 module _ (setup : Setup) (past : List Event) (locality : ℕ) (buffer : List ℕ) (command : Command) (session : ℕ) where
+  abbrev opened_with : List Fact → Opened
+  opened_with facts = record { entity = authorized_handle command; facts = facts }
+
   abbrev opened_by : Opened
-  opened_by = record { entity = authorized_handle command; facts = facts_of setup past session }
+  opened_by = opened_with (facts_of setup past session)
 
   opens : AsksPolicySession setup past buffer command session → IsServed setup past locality command session
       → opened_to setup past locality buffer ≡ Some opened_by
@@ -70,14 +78,13 @@ module _ (setup : Setup) (past : List Event) (locality : ℕ) (buffer : List ℕ
       ∙ (ap (λ r. judged None r own) served.room ∙ ap (λ o. judged None None o) served.rules)) in
       ap (λ read. opened_by_reading (view_of setup past) locality read) asks.reads
       ∙ (ap (λ first. opened_unless first (entity_opening (view_of setup past) command)) none
-      ∙ (ap (option_map (λ (state : SessionState). record { entity = authorized_handle command; facts = state.facts }))
+      ∙ (ap (option_map (λ (state : SessionState). opened_with state.facts))
       (ap (option_and_then (state_at (view_of setup past).sessions)) asks.authorizing ∙ asked.has_state)
-      ∙ ap (λ (state : SessionState). Some (record { entity = authorized_handle command; facts = state.facts })) (live-view setup past session asked.state asked.has_state)))
+      ∙ ap (λ (state : SessionState). Some (opened_with state.facts)) (live-view setup past session asked.state asked.has_state)))
 
 -- ---- what is printed of it
 
-module _ (scenario : Scenario) (p : PerformanceState) (client locality : ℕ) (buffer : List ℕ) (explains : scenario.explains ≡ true)
-    (legal : IsLegal p.setup p.past) (policies : HavePolicies p.setup scenario.entities) (openable : AreOpenable scenario) where
+module _ (scenario : Scenario) (p : PerformanceState) (client locality : ℕ) (buffer : List ℕ) (legal : IsLegal p.setup p.past) (policies : HavePolicies p.setup scenario.entities) (openable : AreOpenable scenario) (whole : length p.setup.pcrs ≡ 24) where
   abbrev answered : Answered
   answered = answer_to p.setup p.past locality buffer
 
@@ -126,14 +133,16 @@ module _ (scenario : Scenario) (p : PerformanceState) (client locality : ℕ) (b
       unfolding policy_opened
       by_policy None digest can = tt
       by_policy (Some closed) digest can =
-          let opening = found (opening_of closed scenario.approvals facts) (can.opens facts meets.sound digest) in
-          let means = opening_means closed scenario.approvals facts opening.value opening.is in
+          let there = found (opening_of closed scenario.approvals facts) (can.opens facts meets.sound digest) in
+          let means = opening_means closed scenario.approvals facts there.value there.is in
           record {
             policy = auth_policy ∙ ap (λ (d : Digest32). Some d.bytes) digest;
             digest = digest;
-            opening = opening.value;
+            opening = there.value;
             means = means;
-            printed = printed closed (opening_of closed scenario.approvals facts) opening.value opening.is;
+            printed = printed closed (opening_of closed scenario.approvals facts) there.value there.is;
+            pcrs = pcrs-at-use (pcrs_of p.setup p.past) (pcrs-length p.setup p.past whole) closed scenario.approvals facts there.value
+                (opened-pcrs p.setup p.past locality buffer opened is) can.digests means;
           }
 
       is_opened : IfSome (policy_of_entity scenario.entities handle) (λ closed. IsOpened p.setup scenario p.past facts handle closed text (lines_with (Some opened)))

@@ -1,22 +1,18 @@
 -- In a legal journal the facts of every session are sound: each OR and each approval met the digest before it.
-use Rattle.std.proofs.Common.{◌≡◌, ◌∙◌, ap, refl, sym, subst, ℕ, ◌==◌, Bool, true, false, cond, nat_eq, if◌then◌else◌, List, [], ◌∷◌, ◌++◌, Option, Some, None, Result, Ok, Err, arith}
-use Rattle.std.specs.Prelude.{⊤, pos, ◌+◌}
+use Rattle.std.proofs.Common.{◌≡◌, ◌∙◌, ap, refl, sym, subst, ℕ, ◌==◌, Bool, true, false, nat_eq, if◌then◌else◌, List, [], ◌∷◌, ◌++◌, Option, Some, None, Result, Ok, Err, arith}
+use Rattle.std.specs.Prelude.{⊤, ◌+◌}
 use Rattle.std.specs.List.{list_any}
 use Rattle.std.specs.Option.{option_and_then, option_map, option_map_or}
 use Rattle.std.proofs.lemmas.Bool.Decides.{nat_tests}
 use Rattle.std.proofs.lemmas.Option.{none-some}
 use Rattle.tpol_base.specs.declared.command_code.CommandCode.TheVariants.{StartAuthSession}
 use Rattle.tpol_base.specs.declared.digest.Digest32.{Digest32}
-use Rattle.tpol_base.specs.declared.name.Name.{Name}
 use Rattle.tpol_base.specs.CommandCode.{number_of_code}
-use Rattle.tpol_base.specs.Constants.{st_auth_secret}
 use Rattle.tpol_base.specs.ResponseCode.{of_parameter, rc_reference_h0, rc_value}
 use Rattle.tpol_digest.specs.Digest.{digest_of_moves, zero_digest}
 use Rattle.tpol_digest.specs.Sound.{IsSound, IsSoundFrom, Meets, moves_of_facts}
 use Rattle.tpol_name.specs.declared.setup.Setup.{Setup}
-use Rattle.tpol_tree.specs.declared.closed.Assertion.TheVariants.{Secret, Signed}
 use Rattle.tpol_tree.specs.declared.facts.Fact.{Fact}
-use Rattle.tpol_tree.specs.declared.path.Move.TheVariants.{Assert}
 use Rattle.tpol_tree.specs.declared.path.Move.TheVariants as moves
 use Rattle.tpol_wire.specs.declared.command.Command.{Command}
 use Rattle.tpol_wire.specs.declared.command.Command.TheVariants as commands
@@ -58,12 +54,6 @@ started : (session : ℕ) (now : Moment) (handle : Option ℕ) → ShowsMet sess
 started session now None = tt
 started session now (Some handle) = tt
 
--- a ticket stands for a PolicySecret or a PolicySigned
-ticketed : (digest : Digest32) (secret : Bool) (key : Name) (policy_ref : List ℕ) (cp_hash : Option Digest32)
-    → Meets digest (Assert (cond secret (Secret key policy_ref cp_hash (pos 0)) (Signed key policy_ref cp_hash (pos 0))))
-ticketed digest true key policy_ref cp_hash = tt
-ticketed digest false key policy_ref cp_hash = tt
-
 -- a rule on a session's state that is not broken
 record Kept (found : Option SessionState) (rule : SessionState → Option ℕ) : Type 0 where
   state : SessionState
@@ -82,8 +72,7 @@ module _ (tables : TableState) (session : ℕ) (now : Moment)
 
   command-met : (command : Command) (reply : List ℕ) → own_rule tables command ≡ None → ShowsMet session now (command_deed command reply)
   command-met (commands.StartAuthSession tpm_key bind nonce) reply none = started session now (option_and_then (λ found. started_session found.0) (reply_reading (number_of_code StartAuthSession) reply))
-  command-met (commands.PolicyTicket own timeout cp_hash policy_ref key ticket) reply none =
-      λ same. ticketed now.digest (ticket.tag == st_auth_secret) key policy_ref cp_hash
+  command-met (commands.PolicyTicket own timeout cp_hash policy_ref key ticket) reply none = λ same. tt
   command-met (commands.PolicyAuthorize own approved policy_ref key ticket) reply none =
       λ same.
       let it = kept (state_at tables.sessions own) (λ state. policy_rule tables.world state (commands.PolicyAuthorize own approved policy_ref key ticket)) rc_reference_h0 none in
@@ -174,7 +163,7 @@ after-deed (Shows shown fact) session now facts digest met sound = at (nat_eq sh
     at : (b : Bool) → nat_eq shown session ≡ b → IsSound (moves_of_facts (if b then facts ++ fact now ∷ [] else facts))
     at true e = sound-push facts (fact now) sound (subst (λ d. Meets d (fact now).act) digest (met (grind (arith, nat_tests))))
     at false e = sound
-after-deed (Starts started) session now facts digest met sound = none-or (started == session) facts sound
+after-deed (Starts handle) session now facts digest met sound = none-or (handle == session) facts sound
 after-deed (Restarts restarted) session now facts digest met sound = none-or (restarted == session) facts sound
 after-deed Resets session now facts digest met sound = tt
 after-deed Idle session now facts digest met sound = sound

@@ -1,5 +1,5 @@
 -- The lines of a scene tell each event of its journal.
-use Rattle.std.proofs.Common.{◌≡◌, ◌∙◌, ap, refl, sym, subst, ℕ, zero, suc, ◌+◌, ◌-◌, Bool, true, List, [], ◌∷◌, ◌++◌, append_assoc, slice_get, Option, Some, None, IfSome}
+use Rattle.std.proofs.Common.{◌≡◌, ◌∙◌, ap, refl, sym, subst, ℕ, zero, suc, ◌+◌, ◌-◌, Bool, true, List, [], ◌∷◌, ◌++◌, append_assoc, length, slice_get, Option, Some, None, IfSome}
 use Rattle.std.specs.Prelude.{⊤}
 use Rattle.std.proofs.lemmas.List.{append-nil}
 use Rattle.tpm_engine.specs.declared.event.Event.{Event}
@@ -7,25 +7,30 @@ use Rattle.tpm_engine.specs.declared.event.Event.TheVariants as events
 use Rattle.tpm_engine.specs.declared.opened.Opened.{Opened}
 use Rattle.tpm_engine.specs.Events.{event_of}
 use Rattle.tpm_engine.specs.Legal.{IsAnswered, IsLegal, answer_to, opened_to}
+use Rattle.tpm_engine.specs.Authorization.{authorized_handle}
 use Rattle.tpm_engine.specs.Sights.{sight_after}
+use Rattle.tpm_engine.specs.Views.{facts_of, next_number}
 use Rattle.tpm_rules.specs.declared.outcome.Outcome.{Outcome}
 use Rattle.tpol_choose.specs.declared.block.Block.{Block}
 use Rattle.tpol_choose.specs.Blocks.{chosen_path, first_block}
 use Rattle.tpol_digest.specs.Paths.{paths_of}
 use Rattle.tpol_driver.specs.declared.end.End.{End}
 use Rattle.tpol_lines.specs.Lines.{line_of}
-use Rattle.tpol_lines.specs.Runs.{nobranch_line}
+use Rattle.tpol_lines.specs.BlockLine.{block_line}
+use Rattle.tpol_lines.specs.Events.{command_line, presence_line, reset_line, time_line}
+use Rattle.tpol_lines.specs.OpeningLine.{opening_line}
+use Rattle.tpol_lines.specs.Runs.{chosen_line, end_line, nobranch_line, over_line}
 use Rattle.tpol_name.specs.declared.setup.Setup.{Setup}
 use Rattle.tpol_name.specs.declared.sight.Sight.{Sight}
 use Rattle.tpol_runs.specs.declared.sent.Sent.{Sent}
-use Rattle.tpol_runs.specs.Courses.{end_told, goes_on, heard_by}
+use Rattle.tpol_runs.specs.Courses.{begun, end_told, goes_on, heard_by}
 use Rattle.tpol_runs.specs.Runs.{run_at, with_run}
 use Rattle.tpol_scene.specs.declared.script.ScriptEvent.{ScriptEvent}
 use Rattle.tpol_scene.specs.declared.script.ScriptEvent.TheVariants.{Command, Begin, Turn, Time, Presence, Reset}
 use Rattle.tpol_top.specs.declared.new_run.NewRun.{NewRun}
 use Rattle.tpol_top.specs.declared.scenario.Scenario.{Scenario}
 use Rattle.tpol_top.specs.declared.scenario.StagedScene.{StagedScene}
-use Rattle.tpol_top.specs.Begin.{begun_along, begun_at, begun_nowhere, begun_on, new_run, run_begun, with_block, with_blocks, with_new_run}
+use Rattle.tpol_top.specs.Begin.{begun_along, begun_at, begun_nowhere, begun_on, new_run, plan_along, run_begun, with_block, with_blocks, with_new_run}
 use Rattle.tpol_top.specs.CommandsTold.{command_told, commanded, opening_told, policy_opened, with_opening}
 use Rattle.tpol_top.specs.Explained.{IsExplained, IsJudged, IsOpened, IsPrintedBehind, IsTold}
 use Rattle.tpol_top.specs.Performance.{PerformanceState, number_in, start_of, with_event, with_line}
@@ -61,7 +66,8 @@ opened_more setup scenario past facts handle (Some closed) text lines more h = r
   digest = h.digest;
   opening = h.opening;
   means = h.means;
-  printed = behind_more text _ lines more h.printed;
+  printed = behind_more text (opening_line (next_number past) (paths_of closed scenario.approvals) h.opening) lines more h.printed;
+  pcrs = h.pcrs;
 }
 
 judged_more : (setup : Setup) (scenario : Scenario) (past : List Event) (locality : ℕ) (command : CommandOf) (session : ℕ) (outcome : Outcome) (text : List ℕ) (lines more : List (List ℕ))
@@ -69,13 +75,13 @@ judged_more : (setup : Setup) (scenario : Scenario) (past : List Event) (localit
 judged_more setup scenario past locality command session outcome text lines more h = record {
   authorizes = h.authorizes;
   serves = h.serves;
-  opens = λ served. opened_more setup scenario past _ _ (policy_of_entity scenario.entities _) text lines more (h.opens served);
+  opens = λ served. opened_more setup scenario past (facts_of setup past session) (authorized_handle command) (policy_of_entity scenario.entities (authorized_handle command)) text lines more (h.opens served);
 }
 
 told_more : (setup : Setup) (scenario : Scenario) (past : List Event) (event : Event) (lines more : List (List ℕ))
     → IsTold setup scenario lines past event → IsTold setup scenario (lines ++ more) past event
 told_more setup scenario past (events.Command client locality buffer reply outcome) lines more h =
-    λ command session asks. judged_more setup scenario past locality command session outcome _ lines more (h command session asks)
+    λ command session asks. judged_more setup scenario past locality command session outcome (command_line (next_number past) client locality buffer reply outcome) lines more (h command session asks)
 told_more setup scenario past (events.Time ms) lines more h = tt
 told_more setup scenario past (events.Presence on) lines more h = tt
 told_more setup scenario past events.Reset lines more h = tt
@@ -107,7 +113,14 @@ record IsToldSoFar (setup : Setup) (scenario : Scenario) (p : PerformanceState) 
   legal : IsLegal p.setup p.past
   each : AreTold p.setup scenario p.lines p.past
 
-module _ (setup : Setup) (scenario : Scenario) (explains : scenario.explains ≡ true) (policies : HavePolicies setup scenario.entities) (openable : AreOpenable scenario) where
+-- more lines than these, of the same journal
+record IsFurther (p q : PerformanceState) : Type 0 where
+  setup_same : q.setup ≡ p.setup
+  past_same : q.past ≡ p.past
+  more : List (List ℕ)
+  grown : q.lines ≡ p.lines ++ more
+
+module _ (setup : Setup) (scenario : Scenario) (explains : scenario.explains ≡ true) (policies : HavePolicies setup scenario.entities) (openable : AreOpenable scenario) (whole : length setup.pcrs ≡ 24) where
   abbrev Told : PerformanceState → Type 0
   Told p = IsToldSoFar setup scenario p
 
@@ -137,13 +150,6 @@ module _ (setup : Setup) (scenario : Scenario) (explains : scenario.explains ≡
     each = ((quiet p.past (p.lines ++ line_of line ∷ []) p.setup).1, all_more p.setup scenario p.past p.lines (line_of line ∷ []) h.each);
   }
 
-  -- more lines than these, of the same journal
-  record IsFurther (p q : PerformanceState) : Type 0 where
-    setup_same : q.setup ≡ p.setup
-    past_same : q.past ≡ p.past
-    more : List (List ℕ)
-    grown : q.lines ≡ p.lines ++ more
-
   no_further : (p : PerformanceState) → IsFurther p p
   no_further p = record { setup_same = refl; past_same = refl; more = []; grown = sym (append-nil p.lines) }
 
@@ -152,7 +158,7 @@ module _ (setup : Setup) (scenario : Scenario) (explains : scenario.explains ≡
 
   opening_further : (event : ℕ) (paths : List Path) (opening : Option Opening) (p : PerformanceState) → IsFurther p (with_opening event paths opening p)
   opening_further event paths None p = no_further p
-  opening_further event paths (Some opening) p = line_further _ p
+  opening_further event paths (Some opening) p = line_further (opening_line event paths opening) p
 
   policy_further : (event : ℕ) (facts : List Fact) (policy : Option Closed) (p : PerformanceState) → IsFurther p (policy_opened scenario.approvals event facts policy p)
   unfolding policy_opened
@@ -173,10 +179,10 @@ module _ (setup : Setup) (scenario : Scenario) (explains : scenario.explains ≡
       let further : IsFurther now q = told_further (number_in p) opened now in
       let has : HavePolicies p.setup scenario.entities = subst (λ (s : Setup). HavePolicies s scenario.entities) (sym h.starts) policies in
       let event : IsTold p.setup scenario q.lines p.past (event_of client locality buffer answered) =
-      command_is_told scenario p client locality buffer explains h.legal has openable in
+      command_is_told scenario p client locality buffer h.legal has openable (subst (λ (s : Setup). length s.pcrs ≡ 24) (sym h.starts) whole) in
       let before : AreTold p.setup scenario q.lines p.past =
       subst (λ (l : List (List ℕ)). AreTold p.setup scenario l p.past) (sym further.grown)
-      (all_more p.setup scenario p.past now.lines further.more (all_more p.setup scenario p.past p.lines _ h.each)) in
+      (all_more p.setup scenario p.past now.lines further.more (all_more p.setup scenario p.past p.lines (line_of (command_line (number_in p) client locality buffer answered.reply answered.outcome) ∷ []) h.each)) in
       subst (λ b. Told (opening_told b scenario (number_in p) opened now)) (sym explains)
       (record {
         starts = further.setup_same ∙ h.starts;
@@ -196,7 +202,7 @@ module _ (setup : Setup) (scenario : Scenario) (explains : scenario.explains ≡
 
   with_end_so : (run : ℕ) (end : Option End) (p : PerformanceState) → Told p → Told (with_end run end p)
   with_end_so run None p h = h
-  with_end_so run (Some end) p h = with_text _ p h
+  with_end_so run (Some end) p h = with_text (end_line run end) p h
 
   replied_so : (run : ℕ) (reply : List ℕ) (p : PerformanceState) → Told p → Told (replied run reply p)
   unfolding replied
@@ -207,11 +213,11 @@ module _ (setup : Setup) (scenario : Scenario) (explains : scenario.explains ≡
   sent_so : (run : ℕ) (command : Sent) (p : PerformanceState) → Told p → Told (sent scenario run command p)
   unfolding sent
   sent_so run command p h =
-      replied_so run _ (commanded scenario command.client command.locality command.buffer p)
+      replied_so run (answer_to p.setup p.past command.locality command.buffer).reply (commanded scenario command.client command.locality command.buffer p)
       (command_told_so command.client command.locality command.buffer p h)
 
   turned_by_so : (run : ℕ) (next : Option Sent) (p : PerformanceState) → Told p → Told (turned_by scenario run next p)
-  turned_by_so run None p h = with_text _ p h
+  turned_by_so run None p h = with_text (over_line run) p h
   turned_by_so run (Some command) p h = sent_so run command p h
 
   turned_so : (run : ℕ) (p : PerformanceState) → Told p → Told (turned scenario run p)
@@ -233,7 +239,7 @@ module _ (setup : Setup) (scenario : Scenario) (explains : scenario.explains ≡
   on_so run (suc n) p h = and_so (turned_on scenario run n) (on_so run n) run (sent_now run p) p h
 
   to_end_so : (run : ℕ) (next : Option Sent) (p : PerformanceState) → Told p → Told (turned_to_end_by scenario run next p)
-  to_end_so run None p h = with_text _ p h
+  to_end_so run None p h = with_text (over_line run) p h
   to_end_so run (Some command) p h = on_so run most_turns (sent scenario run command p) (sent_so run command p h)
 
   turn_so : (run : ℕ) (times : Option ℕ) (p : PerformanceState) → Told p → Told (turn_told scenario run times p)
@@ -245,11 +251,12 @@ module _ (setup : Setup) (scenario : Scenario) (explains : scenario.explains ≡
 
   along_so : (position : ℕ) (run : NewRun) (path : Option Path) (p : PerformanceState) → Told p → Told (begun_along scenario position run path p)
   along_so position run None p h = h
-  along_so position run (Some path) p h = with_text _ _ (record { starts = h.starts; legal = h.legal; each = h.each })
+  along_so position run (Some path) p h =
+      with_text (chosen_line run.number position path.steps) (with_new_run run.number (Some (begun run.client run.locality (plan_along scenario path run))) p) (record { starts = h.starts; legal = h.legal; each = h.each })
 
   block_so : (position : ℕ) (steps : List PathStep) (block : Option Block) (p : PerformanceState) → Told p → Told (with_block position steps block p)
   block_so position steps None p h = h
-  block_so position steps (Some block) p h = with_text _ p h
+  block_so position steps (Some block) p h = with_text (block_line position steps block) p h
 
   blocks_so : (sight : Sight) (run : NewRun) (position : ℕ) (paths : List Path) (p : PerformanceState) → Told p → Told (with_blocks sight run position paths p)
   unfolding with_blocks
@@ -282,9 +289,9 @@ module _ (setup : Setup) (scenario : Scenario) (explains : scenario.explains ≡
   happened_so (Command client locality buffer) p h = command_told_so client locality buffer p h
   happened_so (Begin run client locality policy place goal) p h = begun_so policy (new_run scenario.clients run client locality goal) p h
   happened_so (Turn run times) p h = turn_so run times p h
-  happened_so (Time ms) p h = surroundings (events.Time ms) _ p (λ past lines s. (tt, tt)) h
-  happened_so (Presence on) p h = surroundings (events.Presence on) _ p (λ past lines s. (tt, tt)) h
-  happened_so Reset p h = surroundings events.Reset _ p (λ past lines s. (tt, tt)) h
+  happened_so (Time ms) p h = surroundings (events.Time ms) (time_line (number_in p) ms) p (λ past lines s. (tt, tt)) h
+  happened_so (Presence on) p h = surroundings (events.Presence on) (presence_line (number_in p) on) p (λ past lines s. (tt, tt)) h
+  happened_so Reset p h = surroundings events.Reset (reset_line (number_in p)) p (λ past lines s. (tt, tt)) h
 
   all_so : (script : List ScriptEvent) (p : PerformanceState) → Told p → Told (all_happened scenario script p)
   unfolding all_happened
@@ -296,11 +303,11 @@ module _ (setup : Setup) (scenario : Scenario) (explains : scenario.explains ≡
 
 -- a scene that is carried out is explained by its lines
 pub performed_explains : (staged : StagedScene) → staged.scenario.explains ≡ true → HavePolicies staged.setup staged.scenario.entities → AreOpenable staged.scenario
-    → IsExplained staged (performed staged).lines
+    → length staged.setup.pcrs ≡ 24 → IsExplained staged (performed staged).lines
 unfolding performed
-performed_explains staged explains policies openable =
+performed_explains staged explains policies openable whole =
     let end = all_happened staged.scenario staged.script (start_of staged.setup) in
-    let told : IsToldSoFar staged.setup staged.scenario end = all_told staged.setup staged.scenario explains policies openable staged.script in
+    let told : IsToldSoFar staged.setup staged.scenario end = all_told staged.setup staged.scenario explains policies openable whole staged.script in
     let each : AreTold staged.setup staged.scenario end.lines end.past = subst (λ (s : Setup). AreTold s staged.scenario end.lines end.past) told.starts told.each in
     record {
       legal = subst (λ (s : Setup). IsLegal s end.past) told.starts told.legal;

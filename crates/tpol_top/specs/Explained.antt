@@ -1,13 +1,15 @@
 -- What `explain` tells of a scene: for every command of the journal, exactly when a policy session authorizes it and
 -- exactly when it is served, told by the events before it alone; and by which written path of its policy an entity
 -- was opened.
-use Rattle.std.specs.Prelude.{◌≡◌, ◌↔◌, ⊤, ℕ, true, List, ◌∷◌, ◌++◌, take, Option, Some, IfSome, Result, Ok, option_map}
+use Rattle.std.specs.Prelude.{◌≡◌, ◌≢◌, ◌↔◌, ◌⊎◌, ⊤, ℕ, ◌-◌, All, slice_get, true, List, ◌∷◌, ◌++◌, take, Option, Some, IfSome, Result, Ok, option_map}
 use Rattle.tpm_engine.specs.declared.event.Event.{Event}
 use Rattle.tpm_engine.specs.declared.event.Event.TheVariants as events
 use Rattle.tpm_engine.specs.Authorization.{authorized_handle}
 use Rattle.tpm_engine.specs.Legal.{IsLegal}
 use Rattle.tpm_engine.specs.Uses.{AsksPolicySession, IsNotDeniedByCheck, IsServed, Passes}
-use Rattle.tpm_engine.specs.Views.{facts_of, next_number}
+use Rattle.tpm_engine.specs.Views.{facts_of, next_number, pcrs_of}
+use Rattle.tpm_pcr.specs.Bank.{Bank}
+use Rattle.tpm_pcr.specs.Pcrs.{selected}
 use Rattle.tpm_rules.specs.declared.outcome.Outcome.{Outcome}
 use Rattle.tpm_rules.specs.declared.outcome.Outcome.TheVariants.{Served}
 use Rattle.tpm_rules.specs.Entity.{auth_policy_of}
@@ -17,6 +19,8 @@ use Rattle.tpol_base.specs.declared.document.Document.{Document}
 use Rattle.tpol_digest.specs.Digest.{digest_of_moves, policy_digest}
 use Rattle.tpol_digest.specs.Paths.{paths_of}
 use Rattle.tpol_digest.specs.Sound.{moves_of_facts}
+use Rattle.tpol_digest.specs.Update.{joined}
+use Rattle.tpol_hash.specs.Sha256.{sha256_digest}
 use Rattle.tpol_lines.specs.Events.{command_line}
 use Rattle.tpol_lines.specs.Lines.{line_of}
 use Rattle.tpol_lines.specs.OpeningLine.{opening_line}
@@ -33,9 +37,14 @@ use Rattle.tpol_top.specs.Scenario.{policy_of_entity, staged_step}
 use Rattle.tpol_top.specs.Script.{performed}
 use Rattle.tpol_top.specs.Steps.{IfAnswered}
 use Rattle.tpol_trace.specs.declared.answer.Opening.{Opening}
+use Rattle.tpol_trace.specs.declared.answer.Opening.TheVariants.{Branch}
 use Rattle.tpol_trace.specs.Openings.{IsOpening}
+use Rattle.tpol_tree.specs.declared.closed.Assertion.TheVariants.{Pcr}
 use Rattle.tpol_tree.specs.declared.closed.Closed.{Closed}
 use Rattle.tpol_tree.specs.declared.facts.Fact.{Fact}
+use Rattle.tpol_tree.specs.declared.path.Move.{Move}
+use Rattle.tpol_tree.specs.declared.path.Move.TheVariants.{Assert}
+use Rattle.tpol_tree.specs.declared.path.Path.{Path}
 use Rattle.tpol_wire.specs.declared.command.Command.{Command}
 
 -- ---- lines
@@ -45,6 +54,24 @@ pub record IsPrintedBehind (first second : List ℕ) (lines : List (List ℕ)) :
   pub before : List (List ℕ)
   pub after : List (List ℕ)
   pub split : lines ≡ before ++ line_of first ∷ line_of second ∷ after
+
+-- ---- PCRs at the use
+
+-- one string, or two different strings of one digest
+abbrev pub IsSameOrClash : List ℕ → List ℕ → Type 0
+IsSameOrClash a b = (a ≡ b) ⊎ ((a ≢ b) × (sha256_digest a ≡ sha256_digest b))
+
+-- the values that a PolicyPCR of a path asks for are those of these PCRs, or the two are shown to be different
+-- strings of one digest
+abbrev pub HasValuesOf : Bank → Move → Type 0
+HasValuesOf pcrs (Assert (Pcr mask digest values)) = IsSameOrClash (joined values) (joined (selected pcrs.values mask))
+HasValuesOf pcrs _ = ⊤
+
+-- so each PolicyPCR of the path that an opening names
+abbrev pub IsAtPcrs : Bank → List Path → Opening → Type 0
+IsAtPcrs pcrs paths (Branch position events) =
+    (path : Path) → slice_get paths (position - 1) ≡ Some path → All (HasValuesOf pcrs) path.moves
+IsAtPcrs pcrs paths _ = ⊤
 
 -- ---- what is opened
 
@@ -60,6 +87,8 @@ pub record IsOpened (setup : Setup) (scenario : Scenario) (past : List Event) (f
   pub means : IsOpening closed scenario.approvals facts opening
   -- its line stands right behind the command's
   pub printed : IsPrintedBehind text (opening_line (next_number past) (paths_of closed scenario.approvals) opening) lines
+  -- the PCRs have the values that the path asks for
+  pub pcrs : IsAtPcrs (pcrs_of setup past) (paths_of closed scenario.approvals) opening
 
 -- ---- what is told of an event
 
