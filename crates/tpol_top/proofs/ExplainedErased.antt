@@ -12,28 +12,21 @@ use Rattle.tpol_store.specs.Approvals.{approved_documents}
 use Rattle.tpol_store.specs.Stores.{NamedPolicy}
 use Rattle.tpol_top.specs.declared.answer.Answer.{Answer}
 use Rattle.tpol_top.specs.declared.entities.CompiledEntity.{CompiledEntity}
-use Rattle.tpol_top.specs.declared.answer.Verdict.{Verdict}
-use Rattle.tpol_top.specs.declared.answer.Verdict.TheVariants.{Done, Usage, TooLarge, BadPolicy, BadScene, PathLimit}
+use Rattle.tpol_top.specs.declared.answer.Verdict.TheVariants.{Done}
 use Rattle.tpol_top.specs.declared.halt.Halt.{Halt}
 use Rattle.tpol_top.specs.declared.halt.Halt.TheVariants.{Refused, ReadFailed, ShelfFailed, NoMemory}
 use Rattle.tpol_top.specs.declared.prepared.PreparedScene.{PreparedScene}
-use Rattle.tpol_top.specs.declared.request.Request.{Request}
-use Rattle.tpol_top.specs.declared.request.Request.TheVariants.{Explain}
 use Rattle.tpol_top.specs.declared.scenario.Scenario.{Scenario}
 use Rattle.tpol_top.specs.declared.scenario.StagedScene.{StagedScene}
 use Rattle.tpol_top.specs.Entities.{erased_entity}
-use Rattle.tpol_top.specs.Answer.{status_of}
-use Rattle.tpol_top.specs.Explained.{IfExplain, IsExplained, IsExplainedScene, OfHeld}
+use Rattle.tpol_top.specs.Explained.{IsExplained, IsExplainedScene}
 use Rattle.tpol_top.specs.Performance.{PerformanceState}
 use Rattle.tpol_top.specs.Prepared.{prepared_step}
-use Rattle.tpol_top.specs.Report.{OfReport, report_of}
 use Rattle.tpol_top.specs.Scenario.{HasPolicyAt, HavePolicies, IsScenarioOf, erased_scenario, erased_staged, is_entity, limited_step, policy_of_entity, scenario_with, staged_by, staged_step, staged_with}
 use Rattle.tpol_top.specs.SceneStep.{scene_of_bytes}
 use Rattle.tpol_top.specs.Script.{performance_answer, performed}
-use Rattle.tpol_top.specs.declared.status.Status.TheVariants as statuses
 use Rattle.tpol_top.specs.Steps.{Answers, Halts, IfAnswered, Step, ◌>>=◌}
 use Rattle.tpol_top.specs.StoreStep.{store_step}
-use Rattle.tpol_top.specs.Words.{request_of}
 use Rattle.tpol_top.proofs.EntityPolicies.{found_erased}
 use Rattle.tpol_top.proofs.FilledErased.{policy_digest_erased}
 use Rattle.tpol_top.proofs.OpenedTold.{AreOpenable, IsOpenable}
@@ -148,34 +141,3 @@ halted_explained explains (Some all) input (Refused answer) yes halts =
 halted_explained explains documents input ReadFailed yes halts = tt
 halted_explained explains documents input ShelfFailed yes halts = tt
 halted_explained explains documents input NoMemory yes halts = tt
-
--- ---- what is printed
-
-if_explain : (choice : Option Request) (P Q : Type 0) → (P → Q) → IfExplain choice P → IfExplain choice Q
-if_explain (Some Explain) P Q f h = f h
-if_explain _ P Q f h = tt
-
-done_only : (verdict : Verdict) → status_of verdict ≡ statuses.Done → verdict ≡ Done
-done_only Done e = refl
-done_only Usage e = absurd cc
-done_only TooLarge e = absurd cc
-done_only BadPolicy e = absurd cc
-done_only BadScene e = absurd cc
-done_only PathLimit e = absurd cc
-
-held_printed : (words : List (List ℕ)) (left : Option (List ℕ)) (documents now : Option (List Document)) (answer : Answer)
-    → OfReport words left documents (λ report. (answer ≡ report.answer) × (now ≡ Some report.documents))
-    → OfHeld left documents (λ input all. IsExplainedScene input all answer.lines)
-    → OfHeld left documents (λ input all. IsExplainedScene input all (report_of words input all).answer.lines)
-held_printed words None documents now answer same h = tt
-held_printed words (Some held) None now answer same h = tt
-held_printed words (Some held) (Some all) now answer same h =
-    λ staged e. subst (λ (a : Answer). IsExplained staged a.lines) same.0 (h staged e)
-
-pub printed_explained : (words : List (List ℕ)) (left : Option (List ℕ)) (documents now : Option (List Document)) (answer : Answer)
-    → status_of answer.verdict ≡ statuses.Done
-    → OfReport words left documents (λ report. (answer ≡ report.answer) × (now ≡ Some report.documents))
-    → IfExplain (request_of words) (answer.verdict ≡ Done → OfHeld left documents (λ input all. IsExplainedScene input all answer.lines))
-    → IfExplain (request_of words) (OfHeld left documents (λ input all. IsExplainedScene input all (report_of words input all).answer.lines))
-printed_explained words left documents now answer status same h =
-    if_explain (request_of words) _ _ (λ told. held_printed words left documents now answer same (told (done_only answer.verdict status))) h

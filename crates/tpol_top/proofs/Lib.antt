@@ -3,6 +3,7 @@ pub mod Chosen
 pub mod EntitiesAdded
 pub mod EntityPolicies
 pub mod ExplainedErased
+pub mod Explaining
 pub mod FilledErased
 pub mod FilledNames
 pub mod GeneratedSetups

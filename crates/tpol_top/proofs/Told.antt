@@ -298,7 +298,7 @@ module _ (setup : Setup) (scenario : Scenario) (explains : scenario.explains ≡
   all_so [] p h = h
   all_so (event ∷ rest) p h = all_so rest (happened scenario event p) (happened_so event p h)
 
-  pub all_told : (script : List ScriptEvent) → IsToldSoFar setup scenario (all_happened scenario script (start_of setup))
+  all_told : (script : List ScriptEvent) → IsToldSoFar setup scenario (all_happened scenario script (start_of setup))
   all_told script = all_so script (start_of setup) at_start
 
 -- a scene that is carried out is explained by its lines

@@ -137,4 +137,4 @@ OfHeld left documents P = IfSome left (λ held. IfSome documents (λ all. P (tak
 
 -- P of what `explain` answers where it came to a scene's end
 abbrev pub OfExplain : Option Request → Result Answer Halt → (Answer → Type 0) → Type 0
-OfExplain choice result P = IfExplain choice (IfAnswered result (λ answer. answer.verdict ≡ Done → P answer))
+OfExplain choice result P = IfAnswered result (λ answer. answer.verdict ≡ Done → IfExplain choice (P answer))
