@@ -74,29 +74,26 @@ module _ (pcrs : Bank) (whole : length pcrs.values ≡ 24) where
       same_or_clash (joined values) (joined (selected pcrs.values mask))
       (sym of_values ∙ (digests ∙ (of_pcrs ∙ ap (λ (l : List Digest32). sha256_digest (joined l)) (sym selections))))
 
-  apart : (code : ℕ) (mask : ℕ) (digest : Digest32) (values : List Digest32) (fact : Move) → (update_of fact).code ≡ code → 0x17f ≢ code → update_of (Assert (assertions.Pcr mask digest values)) ≡ update_of fact → ⊥
-  apart code mask digest values fact is other e = other (ap (λ (u : Update). u.code) e ∙ is)
-
   pcr_move : (mask : ℕ) (digest : Digest32) (values : List Digest32) (fact : Move) → update_of (Assert (assertions.Pcr mask digest values)) ≡ update_of fact
       → IsOfPcrs pcrs fact → digest ≡ sha256_digest (joined values) → IsSameOrClash (joined values) (joined (selected pcrs.values mask))
   pcr_move mask digest values (Assert (assertions.Pcr found given written)) e of_pcrs of_values =
       pcr_values mask found digest given values (ap (λ (u : Update). u.rest) e) of_pcrs of_values
-  pcr_move mask digest values (Assert (assertions.Nv index operand offset operation)) e of_pcrs of_values = absurd (apart 0x149 mask digest values _ refl (λ h. omega (arith, h)) e)
-  pcr_move mask digest values (Assert (assertions.CounterTimer operand offset operation)) e of_pcrs of_values = absurd (apart 0x16d mask digest values _ refl (λ h. omega (arith, h)) e)
-  pcr_move mask digest values (Assert (assertions.Secret entity policy_ref cp_hash expiration)) e of_pcrs of_values = absurd (apart 0x151 mask digest values _ refl (λ h. omega (arith, h)) e)
-  pcr_move mask digest values (Assert (assertions.Signed key policy_ref cp_hash expiration)) e of_pcrs of_values = absurd (apart 0x160 mask digest values _ refl (λ h. omega (arith, h)) e)
-  pcr_move mask digest values (Assert (assertions.CommandCode code)) e of_pcrs of_values = absurd (apart 0x16c mask digest values _ refl (λ h. omega (arith, h)) e)
-  pcr_move mask digest values (Assert (assertions.Locality locality)) e of_pcrs of_values = absurd (apart 0x16f mask digest values _ refl (λ h. omega (arith, h)) e)
-  pcr_move mask digest values (Assert (assertions.CpHash hash)) e of_pcrs of_values = absurd (apart 0x16e mask digest values _ refl (λ h. omega (arith, h)) e)
-  pcr_move mask digest values (Assert (assertions.NameHash hash)) e of_pcrs of_values = absurd (apart 0x170 mask digest values _ refl (λ h. omega (arith, h)) e)
-  pcr_move mask digest values (Assert (assertions.NvWritten written)) e of_pcrs of_values = absurd (apart 0x18f mask digest values _ refl (λ h. omega (arith, h)) e)
-  pcr_move mask digest values (Assert assertions.AuthValue) e of_pcrs of_values = absurd (apart 0x16b mask digest values _ refl (λ h. omega (arith, h)) e)
-  pcr_move mask digest values (Assert assertions.Password) e of_pcrs of_values = absurd (apart 0x16b mask digest values _ refl (λ h. omega (arith, h)) e)
-  pcr_move mask digest values (Assert assertions.PhysicalPresence) e of_pcrs of_values = absurd (apart 0x187 mask digest values _ refl (λ h. omega (arith, h)) e)
-  pcr_move mask digest values (Assert (assertions.Duplication object parent include)) e of_pcrs of_values = absurd (apart 0x188 mask digest values _ refl (λ h. omega (arith, h)) e)
-  pcr_move mask digest values (Or digests) e of_pcrs of_values = absurd (apart 0x171 mask digest values _ refl (λ h. omega (arith, h)) e)
-  pcr_move mask digest values (Approve key policy_ref approved signature) e of_pcrs of_values = absurd (apart 0x16a mask digest values _ refl (λ h. omega (arith, h)) e)
-  pcr_move mask digest values (ApproveNv index approved) e of_pcrs of_values = absurd (apart 0x192 mask digest values _ refl (λ h. omega (arith, h)) e)
+  pcr_move mask digest values (Assert (assertions.Nv index operand offset operation)) e of_pcrs of_values = let h : 0x17f ≡ 0x149 = ap (λ (u : Update). u.code) e in absurd (omega (arith, h))
+  pcr_move mask digest values (Assert (assertions.CounterTimer operand offset operation)) e of_pcrs of_values = let h : 0x17f ≡ 0x16d = ap (λ (u : Update). u.code) e in absurd (omega (arith, h))
+  pcr_move mask digest values (Assert (assertions.Secret entity policy_ref cp_hash expiration)) e of_pcrs of_values = let h : 0x17f ≡ 0x151 = ap (λ (u : Update). u.code) e in absurd (omega (arith, h))
+  pcr_move mask digest values (Assert (assertions.Signed key policy_ref cp_hash expiration)) e of_pcrs of_values = let h : 0x17f ≡ 0x160 = ap (λ (u : Update). u.code) e in absurd (omega (arith, h))
+  pcr_move mask digest values (Assert (assertions.CommandCode code)) e of_pcrs of_values = let h : 0x17f ≡ 0x16c = ap (λ (u : Update). u.code) e in absurd (omega (arith, h))
+  pcr_move mask digest values (Assert (assertions.Locality locality)) e of_pcrs of_values = let h : 0x17f ≡ 0x16f = ap (λ (u : Update). u.code) e in absurd (omega (arith, h))
+  pcr_move mask digest values (Assert (assertions.CpHash hash)) e of_pcrs of_values = let h : 0x17f ≡ 0x16e = ap (λ (u : Update). u.code) e in absurd (omega (arith, h))
+  pcr_move mask digest values (Assert (assertions.NameHash hash)) e of_pcrs of_values = let h : 0x17f ≡ 0x170 = ap (λ (u : Update). u.code) e in absurd (omega (arith, h))
+  pcr_move mask digest values (Assert (assertions.NvWritten written)) e of_pcrs of_values = let h : 0x17f ≡ 0x18f = ap (λ (u : Update). u.code) e in absurd (omega (arith, h))
+  pcr_move mask digest values (Assert assertions.AuthValue) e of_pcrs of_values = let h : 0x17f ≡ 0x16b = ap (λ (u : Update). u.code) e in absurd (omega (arith, h))
+  pcr_move mask digest values (Assert assertions.Password) e of_pcrs of_values = let h : 0x17f ≡ 0x16b = ap (λ (u : Update). u.code) e in absurd (omega (arith, h))
+  pcr_move mask digest values (Assert assertions.PhysicalPresence) e of_pcrs of_values = let h : 0x17f ≡ 0x187 = ap (λ (u : Update). u.code) e in absurd (omega (arith, h))
+  pcr_move mask digest values (Assert (assertions.Duplication object parent include)) e of_pcrs of_values = let h : 0x17f ≡ 0x188 = ap (λ (u : Update). u.code) e in absurd (omega (arith, h))
+  pcr_move mask digest values (Or digests) e of_pcrs of_values = let h : 0x17f ≡ 0x171 = ap (λ (u : Update). u.code) e in absurd (omega (arith, h))
+  pcr_move mask digest values (Approve key policy_ref approved signature) e of_pcrs of_values = let h : 0x17f ≡ 0x16a = ap (λ (u : Update). u.code) e in absurd (omega (arith, h))
+  pcr_move mask digest values (ApproveNv index approved) e of_pcrs of_values = let h : 0x17f ≡ 0x192 = ap (λ (u : Update). u.code) e in absurd (omega (arith, h))
 
   one_move : (act fact : Move) → update_of act ≡ update_of fact → IsOfPcrs pcrs fact → HasMoveDigest act → HasValuesOf pcrs act
   one_move (Assert (assertions.Pcr mask digest values)) fact e of_pcrs has = pcr_move mask digest values fact e of_pcrs has
