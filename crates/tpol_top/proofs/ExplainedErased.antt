@@ -82,7 +82,7 @@ openable_erased scenario h handle =
       digests = subst (AllByRecursion HasDigests) (sym (paths_ignore_boxes c scenario.approvals)) can.digests;
     }
 
-explained_erased : (staged : StagedScene) → staged.scenario.explains ≡ true → IsSetup staged.setup → IsScenarioOf staged.setup staged.scenario → IsExplained (erased_staged staged) (performed staged).lines
+pub explained_erased : (staged : StagedScene) → staged.scenario.explains ≡ true → IsSetup staged.setup → IsScenarioOf staged.setup staged.scenario → IsExplained (erased_staged staged) (performed staged).lines
 explained_erased staged explains setup is =
     subst (λ (p : PerformanceState). IsExplained (erased_staged staged) p.lines) (performed_erased staged)
     (performed_explains (erased_staged staged) explains (have_erased staged.setup staged.scenario.entities is.policies)
@@ -118,9 +118,9 @@ explains_staged input all staged =
 pub staged_explained : (explains : Bool) (documents : Option (List Document)) (input : List ℕ) (staged : StagedScene) (answer : Answer)
     → explains ≡ true → IfSome documents (λ all. Answers erased_staged (staged_step explains input all) (Ok staged)) → IsSetup staged.setup → IsScenarioOf staged.setup staged.scenario → answer ≡ performance_answer staged
     → IfSome documents (λ all. IsExplainedScene input all answer.lines)
-staged_explained explains None input staged answer yes answers setup is same = tt
-staged_explained explains (Some all) input staged answer yes answers setup is same =
-    let step : staged_step true input all ≡ Ok (erased_staged staged) = subst (λ b. staged_step b input all ≡ Ok (erased_staged staged)) yes answers in
+staged_explained explains None input staged answer tells answers setup is same = tt
+staged_explained explains (Some all) input staged answer tells answers setup is same =
+    let step : staged_step true input all ≡ Ok (erased_staged staged) = subst (λ b. staged_step b input all ≡ Ok (erased_staged staged)) tells answers in
     let told : IsExplained (erased_staged staged) answer.lines =
     subst (λ (a : Answer). IsExplained (erased_staged staged) a.lines) (sym same) (explained_erased staged (explains_staged input all (erased_staged staged) step) setup is) in
     λ other e. let one : erased_staged staged ≡ other = same_value (erased_staged staged) other (sym step ∙ e) in subst (λ (s : StagedScene). IsExplained s answer.lines) one told
@@ -132,12 +132,12 @@ staged_explained explains (Some all) input staged answer yes answers setup is sa
 pub halted_explained : (explains : Bool) (documents : Option (List Document)) (input : List ℕ) (halt : Halt)
     → explains ≡ true → IfSome documents (λ all. Halts halt (staged_step explains input all))
     → IfAnswered (Err halt) (λ answer. answer.verdict ≡ Done → IfSome documents (λ all. IsExplainedScene input all answer.lines))
-halted_explained explains None input (Refused answer) yes halts = λ done. tt
-halted_explained explains (Some all) input (Refused answer) yes halts =
-    λ done other e. absurd (no_value answer other (sym (subst (λ b. staged_step b input all ≡ Err answer) yes halts) ∙ e))
+halted_explained explains None input (Refused answer) tells halts = λ done. tt
+halted_explained explains (Some all) input (Refused answer) tells halts =
+    λ done other e. absurd (no_value answer other (sym (subst (λ b. staged_step b input all ≡ Err answer) tells halts) ∙ e))
   where
     no_value : (a : Answer) (s : StagedScene) → Err a ≡ Ok s → ⊥
     no_value a s h = cc
-halted_explained explains documents input ReadFailed yes halts = tt
-halted_explained explains documents input ShelfFailed yes halts = tt
-halted_explained explains documents input NoMemory yes halts = tt
+halted_explained explains documents input ReadFailed tells halts = tt
+halted_explained explains documents input ShelfFailed tells halts = tt
+halted_explained explains documents input NoMemory tells halts = tt

@@ -1,16 +1,19 @@
 -- In a legal journal the facts of every session are sound: each OR and each approval met the digest before it.
-use Rattle.std.proofs.Common.{◌≡◌, ◌∙◌, ap, refl, sym, subst, ℕ, ◌==◌, Bool, true, false, nat_eq, if◌then◌else◌, List, [], ◌∷◌, ◌++◌, Option, Some, None, Result, Ok, Err, arith}
-use Rattle.std.specs.Prelude.{⊤, ◌+◌}
+use Rattle.std.proofs.Common.{inl, inr, ◌≡◌, ◌∙◌, ap, refl, sym, subst, ℕ, ◌==◌, Bool, true, false, nat_eq, if◌then◌else◌, List, [], ◌∷◌, ◌++◌, Option, Some, None, Result, Ok, Err, arith}
+use Rattle.std.specs.Prelude.{⊤, ◌+◌, ◌||◌}
 use Rattle.std.specs.List.{list_any}
 use Rattle.std.specs.Option.{option_and_then, option_map, option_map_or}
+use Rattle.std.proofs.lemmas.Bool.{false≢true}
 use Rattle.std.proofs.lemmas.Bool.Decides.{nat_tests}
 use Rattle.std.proofs.lemmas.Option.{none-some}
+use Rattle.std.proofs.lemmas.Slice.Eq.{bytes_eq-Decides}
 use Rattle.tpol_base.specs.declared.command_code.CommandCode.TheVariants.{StartAuthSession}
 use Rattle.tpol_base.specs.declared.digest.Digest32.{Digest32}
 use Rattle.tpol_base.specs.CommandCode.{number_of_code}
 use Rattle.tpol_base.specs.ResponseCode.{of_parameter, rc_reference_h0, rc_value}
+use Rattle.tpol_digest.proofs.Digests as digests
 use Rattle.tpol_digest.specs.Digest.{digest_of_moves, zero_digest}
-use Rattle.tpol_digest.specs.Sound.{IsSound, IsSoundFrom, Meets, moves_of_facts}
+use Rattle.tpol_digest.specs.Sound.{Among, IsSound, IsSoundFrom, Meets, moves_of_facts}
 use Rattle.tpol_name.specs.declared.setup.Setup.{Setup}
 use Rattle.tpol_tree.specs.declared.facts.Fact.{Fact}
 use Rattle.tpol_tree.specs.declared.path.Move.TheVariants as moves
@@ -35,13 +38,25 @@ use Rattle.tpm_engine.specs.PolicyCommands.{policy_rule, verified_digest}
 use Rattle.tpm_engine.specs.Stops.{refuses}
 use Rattle.tpm_engine.specs.Tables.{TableState}
 use Rattle.tpm_engine.specs.Views.{facts_after, facts_of, facts_used, moment_of, session_state, view_of}
-use Rattle.tpm_policy.proofs.Meeting.{among_of, one_digest}
 use Rattle.tpm_policy.specs.Judgments.{is_approval_ticket}
 use Rattle.tpm_rules.specs.Rule.{unless}
 use Rattle.tpm_rules.specs.Session.{policy_digest_of}
 use Rattle.tpm_session.proofs.Keeping.{IsSoundFrom-push}
 use Rattle.tpm_session.specs.Slots.{state_at}
 use Rattle.tpm_world.specs.Hashes.{proof_of}
+
+-- ---- digests that pass a rule's test
+
+one_digest : (a b : Digest32) → same_digest a b ≡ true → a ≡ b
+one_digest a b e = digests.same_digest a b ((bytes_eq-Decides a.bytes b.bytes).0 e)
+
+among_of : (d : Digest32) (xs : List Digest32) → list_any (same_digest d) xs ≡ true → Among d xs
+among_of d [] e = absurd (false≢true e)
+among_of d (x ∷ rest) e = by_test (same_digest d x) refl e (among_of d rest)
+  where
+    by_test : (b : Bool) → same_digest d x ≡ b → (b || list_any (same_digest d) rest) ≡ true → (list_any (same_digest d) rest ≡ true → Among d rest) → Among d (x ∷ rest)
+    by_test true same e among = inl (one_digest d x same)
+    by_test false same e among = inr (among e)
 
 -- ---- what a deed shows
 
