@@ -114,6 +114,10 @@ explains_staged input all staged =
 
 -- ---- what `explain` answers
 
+-- a step has one value
+one_value : (step : Step StagedScene) (a b : StagedScene) → step ≡ Ok a → step ≡ Ok b → a ≡ b
+one_value step a b h k = cc
+
 -- of a scene that was staged
 pub staged_explained : (explains : Bool) (documents : Option (List Document)) (input : List ℕ) (staged : StagedScene) (answer : Answer)
     → explains ≡ true → IfSome documents (λ all. Answers erased_staged (staged_step explains input all) (Ok staged)) → IsSetup staged.setup → IsScenarioOf staged.setup staged.scenario → answer ≡ performance_answer staged
@@ -123,10 +127,7 @@ staged_explained explains (Some all) input staged answer tells answers setup is 
     let step : staged_step true input all ≡ Ok (erased_staged staged) = subst (λ b. staged_step b input all ≡ Ok (erased_staged staged)) tells answers in
     let told : IsExplained (erased_staged staged) answer.lines =
     subst (λ (a : Answer). IsExplained (erased_staged staged) a.lines) (sym same) (explained_erased staged (explains_staged input all (erased_staged staged) step) setup is) in
-    λ other e. let one : erased_staged staged ≡ other = same_value (erased_staged staged) other (sym step ∙ e) in subst (λ (s : StagedScene). IsExplained s answer.lines) one told
-  where
-    same_value : (a b : StagedScene) → Ok a ≡ Ok b → a ≡ b
-    same_value a b h = cc
+    λ other e. let one : erased_staged staged ≡ other = one_value (staged_step true input all) (erased_staged staged) other step e in subst (λ (s : StagedScene). IsExplained s answer.lines) one told
 
 -- and of one that was not
 pub halted_explained : (explains : Bool) (documents : Option (List Document)) (input : List ℕ) (halt : Halt)

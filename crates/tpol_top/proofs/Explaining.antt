@@ -1,7 +1,7 @@
 -- What `explain` answers, from the scene to the words.
-use Rattle.std.proofs.Common.{◌≡◌, refl, subst, sym, ℕ, Bool, true, false, List, take, Option, Some, None, IfSome, Result, Ok, Err}
+use Rattle.std.proofs.Common.{inl, inr, ◌≡◌, ◌∙◌, refl, subst, sym, ℕ, Bool, true, false, List, take, Option, Some, None, IfSome, Result, Ok, Err}
 use Rattle.std.proofs.lemmas.Bool.{false≢true}
-use Rattle.std.specs.Prelude.{⊤}
+use Rattle.std.specs.Prelude.{⊤, ◌⊎◌}
 use Rattle.tpol_base.specs.declared.document.Document.{Document}
 use Rattle.tpol_top.specs.declared.answer.Answer.{Answer}
 use Rattle.tpol_top.specs.declared.answer.Verdict.{Verdict}
@@ -10,6 +10,7 @@ use Rattle.tpol_top.specs.declared.halt.Halt.{Halt}
 use Rattle.tpol_top.specs.declared.halt.Halt.TheVariants.{Refused, ReadFailed, ShelfFailed, NoMemory}
 use Rattle.tpol_top.specs.declared.request.Request.{Request}
 use Rattle.tpol_top.specs.declared.request.Request.TheVariants.{Compile, Paths, Canon, Import, Run, Explain, Generate}
+use Rattle.tpol_top.specs.declared.status.Status.{Status}
 use Rattle.tpol_top.specs.declared.status.Status.TheVariants as statuses
 use Rattle.tpol_top.specs.Answer.{status_of}
 use Rattle.tpol_top.specs.Explained.{IfExplain, IsExplained, IsExplainedScene, OfExplain, OfHeld}
@@ -76,6 +77,14 @@ done_only BadPolicy e = absurd cc
 done_only BadScene e = absurd cc
 done_only PathLimit e = absurd cc
 
+-- a run that ends with 0 ends with the status of its answer
+ended : (result : Status) (verdict : Verdict) → result ≡ statuses.Done → (result ≡ statuses.WriteFault) ⊎ (result ≡ status_of verdict) → status_of verdict ≡ statuses.Done
+ended result verdict done (inl failed) = absurd (not_done (sym failed ∙ done))
+  where
+    not_done : statuses.WriteFault ≡ statuses.Done → ⊥
+    not_done h = cc
+ended result verdict done (inr same) = sym same ∙ done
+
 held_printed : (words : List (List ℕ)) (left : Option (List ℕ)) (documents now : Option (List Document)) (answer : Answer)
     → OfReport words left documents (λ report. (answer ≡ report.answer) × (now ≡ Some report.documents))
     → OfHeld left documents (λ input all. IsExplainedScene input all answer.lines)
@@ -86,11 +95,11 @@ held_printed words (Some held) (Some all) now answer same h =
     λ staged e. subst (λ (a : Answer). IsExplained staged a.lines) same.0 (h staged e)
 
 pub printed_explained : (words : List (List ℕ)) (left : Option (List ℕ)) (documents now : Option (List Document)) (answer : Answer)
-    → status_of answer.verdict ≡ statuses.Done
+    (result : Status) → result ≡ statuses.Done → (result ≡ statuses.WriteFault) ⊎ (result ≡ status_of answer.verdict)
     → OfReport words left documents (λ report. (answer ≡ report.answer) × (now ≡ Some report.documents))
     → (answer.verdict ≡ Done → IfExplain (request_of words) (OfHeld left documents (λ input all. IsExplainedScene input all answer.lines)))
     → IfExplain (request_of words) (OfHeld left documents (λ input all. IsExplainedScene input all (report_of words input all).answer.lines))
-printed_explained words left documents now answer status same h =
+printed_explained words left documents now answer result done ends same h =
     if_explain (request_of words) (OfHeld left documents (λ input all. IsExplainedScene input all answer.lines))
     (OfHeld left documents (λ input all. IsExplainedScene input all (report_of words input all).answer.lines))
-    (held_printed words left documents now answer same) (h (done_only answer.verdict status))
+    (held_printed words left documents now answer same) (h (done_only answer.verdict (ended result answer.verdict done ends)))

@@ -19,7 +19,7 @@ use tpol_base::{NoMemory, Shelf};
 
 /// The commands `run` and `explain`: carries out the scene in the source, with the policies of the shelf, and
 /// tells each event; `explain` tells besides by which path of its policy an entity was opened.
-#[tactic(auto, using(crate::proofs::PerformanceErased::answer_erased, crate::proofs::ExplainedErased::staged_explained, crate::proofs::ExplainedErased::halted_explained), unfolding(crate::specs::Script::perform_step))]
+#[tactic(auto, using(crate::proofs::PerformanceErased::answer_erased, crate::proofs::ExplainedErased::halted_explained), unfolding(crate::specs::Script::perform_step))]
 pub fn perform_scene<H: Shelf>(
     alloc: Global,
     explains: bool,
