@@ -82,7 +82,7 @@ openable_erased scenario h handle =
       digests = subst (AllByRecursion HasDigests) (sym (paths_ignore_boxes c scenario.approvals)) can.digests;
     }
 
-pub explained_erased : (staged : StagedScene) → staged.scenario.explains ≡ true → IsSetup staged.setup → IsScenarioOf staged.setup staged.scenario → IsExplained (erased_staged staged) (performed staged).lines
+explained_erased : (staged : StagedScene) → staged.scenario.explains ≡ true → IsSetup staged.setup → IsScenarioOf staged.setup staged.scenario → IsExplained (erased_staged staged) (performed staged).lines
 explained_erased staged explains setup is =
     subst (λ (p : PerformanceState). IsExplained (erased_staged staged) p.lines) (performed_erased staged)
     (performed_explains (erased_staged staged) explains (have_erased staged.setup staged.scenario.entities is.policies)

@@ -2,11 +2,10 @@
 
 ghost use Rattle.std.specs.Prelude.{◌≡◌, ◌≤◌, true, All, IfOk, IfSome, IsOk, length};
 ghost use Rattle.tpol_name.specs.Setups.{IsSetup};
-ghost use Rattle.tpol_top.specs.Explained.{IsExplained, IsExplainedScene};
-ghost use Rattle.tpol_top.specs.declared.scenario.StagedScene.{StagedScene as StagedSceneOf};
-ghost use Rattle.tpol_top.specs.Scenario.{CanHappen, IsScenarioOf, erased_staged};
+ghost use Rattle.tpol_top.specs.Explained.{IsExplainedScene};
+ghost use Rattle.tpol_top.specs.Scenario.{CanHappen, IsScenarioOf};
 ghost use Rattle.tpol_top.specs.SceneStep.{scene_of_bytes};
-ghost use Rattle.tpol_top.specs.Script.{perform_step, performance_answer, performed};
+ghost use Rattle.tpol_top.specs.Script.{perform_step, performance_answer};
 ghost use Rattle.tpol_top.specs.Steps.{Answers, AsksShelf, IfAnswered};
 
 use crate::answer::{Answer, Verdict};
@@ -51,8 +50,3 @@ fn performance_answer(alloc: Global, staged: StagedScene) -> Result<Answer, NoMe
         verdict: Verdict::Done,
     })
 }
-
-// TEMPORARY
-fn explains_scenes()
-    ensures { (staged : StagedSceneOf) → staged.scenario.explains ≡ true → IsSetup staged.setup → IsScenarioOf staged.setup staged.scenario → IsExplained (erased_staged staged) (performed staged).lines }
-{}
