@@ -1,5 +1,5 @@
 -- A scene is explained by the lines of its performance, whichever memory its policies lie in.
-use Rattle.std.proofs.Common.{◌≡◌, ◌∙◌, ap, refl, sym, subst, ℕ, Bool, true, false, List, map, find, reverse, Option, Some, None, IfSome, IsSome, Ok, Err, Result}
+use Rattle.std.proofs.Common.{◌≡◌, ◌∙◌, ap, refl, sym, subst, ℕ, Bool, true, List, map, find, reverse, Option, Some, None, IfSome, IsSome, Ok, Err}
 use Rattle.std.specs.List.{AllByRecursion}
 use Rattle.std.specs.Option.{option_map}
 use Rattle.tpol_base.specs.declared.document.Document.{Document}

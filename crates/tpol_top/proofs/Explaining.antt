@@ -1,5 +1,5 @@
 -- What `explain` answers, from the scene to the words.
-use Rattle.std.proofs.Common.{inl, inr, ◌≡◌, ◌∙◌, refl, subst, sym, ℕ, Bool, true, false, List, take, Option, Some, None, IfSome, Result, Ok, Err}
+use Rattle.std.proofs.Common.{inl, inr, ◌≡◌, ◌∙◌, refl, subst, sym, ℕ, false, List, take, Option, Some, None, IfSome, Result, Ok, Err}
 use Rattle.std.proofs.lemmas.Bool.{false≢true}
 use Rattle.std.specs.Prelude.{⊤, ◌⊎◌}
 use Rattle.tpol_base.specs.declared.document.Document.{Document}
@@ -9,7 +9,7 @@ use Rattle.tpol_top.specs.declared.answer.Verdict.TheVariants.{Done, Usage, TooL
 use Rattle.tpol_top.specs.declared.halt.Halt.{Halt}
 use Rattle.tpol_top.specs.declared.halt.Halt.TheVariants.{Refused, ReadFailed, ShelfFailed, NoMemory}
 use Rattle.tpol_top.specs.declared.request.Request.{Request}
-use Rattle.tpol_top.specs.declared.request.Request.TheVariants.{Compile, Paths, Canon, Import, Run, Explain, Generate}
+use Rattle.tpol_top.specs.declared.request.Request.TheVariants.{Explain}
 use Rattle.tpol_top.specs.declared.status.Status.{Status}
 use Rattle.tpol_top.specs.declared.status.Status.TheVariants as statuses
 use Rattle.tpol_top.specs.Answer.{status_of}

@@ -1,5 +1,5 @@
 -- Selections of PCRs whose bytes are equal select the same PCRs.
-use Rattle.std.proofs.Common.{◌≡◌, ◌∙◌, ap, refl, sym, subst, ℕ, zero, suc, ◌+◌, ◌*◌, ◌/◌, ◌%◌, ◌^◌, ◌<◌, ◌≤◌, ◌==◌, Bool, true, false, if◌then◌else◌, List, [], ◌∷◌, length, map, take, arith}
+use Rattle.std.proofs.Common.{◌≡◌, ◌∙◌, ap, refl, sym, subst, ℕ, zero, suc, ◌+◌, ◌/◌, ◌%◌, ◌^◌, ◌<◌, ◌≤◌, ◌==◌, if◌then◌else◌, List, [], ◌∷◌, length, take, arith}
 use Rattle.std.specs.Prelude.{filter, get_or}
 use Rattle.std.specs.Int.{bit_at, to_le_bytes, w32}
 use Rattle.std.specs.List.{enumerate_from}

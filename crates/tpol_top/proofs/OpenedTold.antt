@@ -1,5 +1,5 @@
 -- A command that a policy session opened is told: by the machine's laws, and by the line behind the command's.
-use Rattle.std.proofs.Common.{◌≡◌, ◌∙◌, ap, refl, sym, subst, ℕ, true, List, [], ◌∷◌, ◌++◌, append_assoc, length, Option, Some, None, IfSome, IsSome}
+use Rattle.std.proofs.Common.{◌≡◌, ◌∙◌, ap, sym, subst, ℕ, true, List, [], ◌∷◌, append_assoc, length, Option, Some, None, IfSome, IsSome}
 use Rattle.std.specs.List.{AllByRecursion}
 use Rattle.std.specs.Option.{option_and_then, option_map}
 use Rattle.tpm_bindings.specs.State.{SessionState}
@@ -10,13 +10,12 @@ use Rattle.tpm_engine.proofs.Stopping.{first-asked, found, judged}
 use Rattle.tpm_engine.specs.declared.event.Event.{Event}
 use Rattle.tpm_engine.specs.declared.opened.Opened.{Opened}
 use Rattle.tpm_engine.specs.Answers.{first_stop, opened_by_reading, opened_of, opened_unless, opening_of as entity_opening, own_rule}
-use Rattle.tpm_engine.specs.Authorization.{authorized_handle, broken_check}
+use Rattle.tpm_engine.specs.Authorization.{authorized_handle}
 use Rattle.tpm_engine.specs.Events.{Answered, event_of}
 use Rattle.tpm_engine.specs.Legal.{IsLegal, answer_to, opened_to}
 use Rattle.tpm_engine.specs.Stops.{room_stop}
 use Rattle.tpm_engine.specs.Uses.{AsksPolicySession, IsServed}
 use Rattle.tpm_engine.specs.Views.{facts_of, next_number, pcrs_of, session_state, view_of}
-use Rattle.tpm_rules.specs.declared.outcome.Outcome.TheVariants.{Served}
 use Rattle.tpm_rules.specs.Entity.{auth_policy_of}
 use Rattle.tpm_session.specs.Slots.{state_at}
 use Rattle.tpm_world.specs.Entities.{entity_at}

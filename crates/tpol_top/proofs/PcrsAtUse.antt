@@ -1,7 +1,6 @@
 -- Where a policy session opened an entity by a written path, the PCRs have the values that the path asks for.
-use Rattle.std.proofs.Common.{◌≡◌, ◌∙◌, ap, refl, sym, subst, ℕ, zero, suc, ◌+◌, ◌-◌, Bool, true, false, List, [], ◌∷◌, ◌++◌, drop, length, map, set, slice_get, take, inl, inr, Option, Some, None, arith}
-use Rattle.std.specs.Prelude.{All, ◌≢◌}
-use Rattle.std.specs.List.{AllByRecursion, enumerate_from, flat_map}
+use Rattle.std.proofs.Common.{◌≡◌, ◌∙◌, ap, refl, sym, subst, ℕ, zero, suc, ◌-◌, Bool, true, false, List, [], ◌∷◌, ◌++◌, drop, length, map, slice_get, take, inl, inr, Some, arith}
+use Rattle.std.specs.List.{AllByRecursion}
 use Rattle.std.specs.Str.{bytes_eq}
 use Rattle.std.proofs.lemmas.Bool.Decides.{not_from_Decides}
 use Rattle.std.proofs.lemmas.List.{length-set}
@@ -9,7 +8,7 @@ use Rattle.std.proofs.lemmas.List.Elements.{All-from_recursion}
 use Rattle.std.proofs.lemmas.Option.{none-some, same_Some}
 use Rattle.std.proofs.lemmas.Slice.Eq.{bytes_eq-Decides}
 use Rattle.tpm_engine.specs.declared.event.Event.{Event}
-use Rattle.tpm_engine.specs.Deeds.{Deed, Idle, Passes, Shifts, Resets, Extends, Writes, Increments, Starts, Ends, Restarts, Saves, Loads, Shows, deed_of}
+use Rattle.tpm_engine.specs.Deeds.{Deed, Resets, Extends, deed_of}
 use Rattle.tpm_engine.specs.Uses.{AreOfPcrs, IsOfPcrs}
 use Rattle.tpm_engine.specs.Views.{pcrs_after, pcrs_of}
 use Rattle.tpm_pcr.specs.Bank.{Bank}
@@ -59,7 +58,6 @@ same_or_clash a b e = at (bytes_eq a b) refl
     at : (t : Bool) → bytes_eq a b ≡ t → IsSameOrClash a b
     at true is = inl ((bytes_eq-Decides a b).0 is)
     at false is = inr (not_from_Decides (bytes_eq a b) (bytes_eq-Decides a b) is, e)
-
 
 module _ (pcrs : Bank) (whole : length pcrs.values ≡ 24) where
   -- a selection and a digest that hash the same
