@@ -36,16 +36,6 @@ pub fn policy_main<S: Source, K: Sink, H: Shelf>(
         × Grows (K.contents out.old) (K.contents out.new) (text_of report.answer.lines)
         × (H.documents shelf.new ≡ Some report.documents)) }
 
-    // A scene that `explain` came to the end of is explained by what was printed. Every command of its journal that
-    // asks for a policy session was authorized by it exactly where the session's policy commands in the journal give
-    // the entity's authPolicy and every deferred check holds, and was served exactly where its own rules hold too.
-    // Behind the line of each one that was served on an entity whose policy the scene names stands the line of the
-    // first written path of that policy which those policy commands match, or of two different strings of one SHA-256
-    // digest, or of one of digest zero.
-    ensures explained { result ≡ Status.Done → IfExplain (request_of (map string_bytes words.now.items))
-        (OfHeld (S.left source.old) (H.documents shelf.old) (λ input all.
-        IsExplainedScene input all (report_of (map string_bytes words.now.items) input all).answer.lines)) }
-
     // Where the sink failed, a first part of the report was written.
     ensures prefix { result ≡ Status.WriteFault
         → OfReport (map string_bytes words.now.items) (S.left source.old) (H.documents shelf.old) (λ report.
@@ -91,6 +81,16 @@ pub fn policy_main<S: Source, K: Sink, H: Shelf>(
     ensures source_count { S.faults source.old ≤ S.faults source.new }
     ensures sink_count { K.faults out.old ≤ K.faults out.new }
     ensures shelf_count { H.faults shelf.old ≤ H.faults shelf.new }
+
+    // A scene that `explain` came to the end of is explained by what was printed. Every command of its journal that
+    // asks for a policy session was authorized by it exactly where the session's policy commands in the journal give
+    // the entity's authPolicy and every deferred check holds, and was served exactly where its own rules hold too.
+    // Behind the line of each one that was served on an entity whose policy the scene names stands the line of the
+    // first written path of that policy which those policy commands match, or of two different strings of one SHA-256
+    // digest, or of one of digest zero.
+    ensures explained { result ≡ Status.Done → IfExplain (request_of (map string_bytes words.now.items))
+        (OfHeld (S.left source.old) (H.documents shelf.old) (λ input all.
+        IsExplainedScene input all (report_of (map string_bytes words.now.items) input all).answer.lines)) }
 {
     match answer_of_words(alloc, words, source, shelf) {
         Ok(answer) => print_answer(out, &answer),
