@@ -87,7 +87,8 @@ pub fn policy_main<S: Source, K: Sink, H: Shelf>(
     // the entity's authPolicy and every deferred check holds, and was served exactly where its own rules hold too.
     // Behind the line of each one that was served on an entity whose policy the scene names stands the line of the
     // first written path of that policy which those policy commands match, or of two different strings of one SHA-256
-    // digest, or of one of digest zero.
+    // digest, or of one of digest zero. Where it names a path, the PCRs have the values that each PolicyPCR of the
+    // path asks for, or the two are different strings of one digest.
     ensures explained { result ≡ Status.Done → IfExplain (request_of (map string_bytes words.now.items))
         (OfHeld (S.left source.old) (H.documents shelf.old) (λ input all.
         IsExplainedScene input all (report_of (map string_bytes words.now.items) input all).answer.lines)) }
