@@ -140,6 +140,7 @@ module _ (scenario : Scenario) (p : PerformanceState) (client locality : ℕ) (b
             opening = there.value;
             means = means;
             printed = printed closed (opening_of closed scenario.approvals facts) there.value there.is;
+            of_pcrs = opened-pcrs p.setup p.past locality buffer opened is;
             pcrs = pcrs-at-use (pcrs_of p.setup p.past) (pcrs-length p.setup p.past whole) closed scenario.approvals facts there.value
                 (opened-pcrs p.setup p.past locality buffer opened is) can.digests means;
           }

@@ -67,6 +67,7 @@ opened_more setup scenario past facts handle (Some closed) text lines more h = r
   opening = h.opening;
   means = h.means;
   printed = behind_more text (opening_line (next_number past) (paths_of closed scenario.approvals) h.opening) lines more h.printed;
+  of_pcrs = h.of_pcrs;
   pcrs = h.pcrs;
 }
 

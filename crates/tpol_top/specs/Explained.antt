@@ -6,7 +6,7 @@ use Rattle.tpm_engine.specs.declared.event.Event.{Event}
 use Rattle.tpm_engine.specs.declared.event.Event.TheVariants as events
 use Rattle.tpm_engine.specs.Authorization.{authorized_handle}
 use Rattle.tpm_engine.specs.Legal.{IsLegal}
-use Rattle.tpm_engine.specs.Uses.{AsksPolicySession, IsNotDeniedByCheck, IsServed, Passes}
+use Rattle.tpm_engine.specs.Uses.{AreOfPcrs, AsksPolicySession, IsNotDeniedByCheck, IsServed, Passes}
 use Rattle.tpm_engine.specs.Views.{facts_of, next_number, pcrs_of}
 use Rattle.tpm_pcr.specs.Bank.{Bank}
 use Rattle.tpm_pcr.specs.Pcrs.{selected}
@@ -87,7 +87,8 @@ pub record IsOpened (setup : Setup) (scenario : Scenario) (past : List Event) (f
   pub means : IsOpening closed scenario.approvals facts opening
   -- its line stands right behind the command's
   pub printed : IsPrintedBehind text (opening_line (next_number past) (paths_of closed scenario.approvals) opening) lines
-  -- the PCRs have the values that the path asks for
+  -- the facts found the PCRs as they are now, and these have the values that the path asks for
+  pub of_pcrs : AreOfPcrs (pcrs_of setup past) facts
   pub pcrs : IsAtPcrs (pcrs_of setup past) (paths_of closed scenario.approvals) opening
 
 -- ---- what is told of an event
