@@ -171,7 +171,7 @@ prepared_have store scene result e =
 
 -- ---- whichever memory the policies lie in
 
-found_erased : (handle : ℕ) (entities : List CompiledEntity)
+pub found_erased : (handle : ℕ) (entities : List CompiledEntity)
     → option_map (λ (e : CompiledEntity). e.document.closed) (find (is_entity handle) (map erased_entity entities))
     ≡ option_map erased (option_map (λ (e : CompiledEntity). e.document.closed) (find (is_entity handle) entities))
 found_erased handle [] = refl

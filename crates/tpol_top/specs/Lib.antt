@@ -5,6 +5,7 @@ pub mod Commands
 pub mod CommandsTold
 pub mod Compile
 pub mod Entities
+pub mod Explained
 pub mod Filled
 pub mod FilledDocuments
 pub mod Generate

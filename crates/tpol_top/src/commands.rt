@@ -1,5 +1,6 @@
 ghost use Rattle.std.specs.Prelude.{◌≡◌, Some, IfSome, OnErr};
 ghost use Rattle.tpol_top.specs.Commands.{documents_after, request_step};
+ghost use Rattle.tpol_top.specs.Explained.{IsExplainedScene, OfExplain};
 ghost use Rattle.tpol_top.specs.Reached.{IsDocumentFor};
 ghost use Rattle.tpol_top.specs.Steps.{Answers, AsksShelf, IfAnswered};
 ghost use Rattle.tpol_top.specs.Words.{uses_shelf_for};
@@ -25,6 +26,8 @@ pub fn carry_out<H: Shelf>(
 ) -> Result<Answer, Halt>
     ensures answer { IfSome (H.documents shelf.old) (λ all.
         Answers (λ answer. answer) (request_step request.now input.now all) result) }
+    ensures explained { OfExplain (Some request.now) result (λ answer.
+        IfSome (H.documents shelf.old) (λ all. IsExplainedScene input.now all answer.lines)) }
     ensures leaves { IfAnswered result (λ _. IfSome (H.documents shelf.old) (λ all.
         H.documents shelf.new ≡ Some (documents_after request.now input.now all))) }
     ensures keeps { OnErr result (H.documents shelf.new ≡ H.documents shelf.old) }

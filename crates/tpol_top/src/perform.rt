@@ -2,10 +2,11 @@
 
 ghost use Rattle.std.specs.Prelude.{◌≡◌, ◌≤◌, true, All, IfOk, IfSome, IsOk, length};
 ghost use Rattle.tpol_name.specs.Setups.{IsSetup};
+ghost use Rattle.tpol_top.specs.Explained.{IsExplainedScene};
 ghost use Rattle.tpol_top.specs.Scenario.{CanHappen, IsScenarioOf};
 ghost use Rattle.tpol_top.specs.SceneStep.{scene_of_bytes};
 ghost use Rattle.tpol_top.specs.Script.{perform_step, performance_answer};
-ghost use Rattle.tpol_top.specs.Steps.{Answers, AsksShelf};
+ghost use Rattle.tpol_top.specs.Steps.{Answers, AsksShelf, IfAnswered};
 
 use crate::answer::{Answer, Verdict};
 use crate::halt::Halt;
@@ -17,7 +18,7 @@ use tpol_base::{NoMemory, Shelf};
 
 /// The commands `run` and `explain`: carries out the scene in the source, with the policies of the shelf, and
 /// tells each event; `explain` tells besides by which path of its policy an entity was opened.
-#[tactic(auto, using(crate::proofs::PerformanceErased::answer_erased), unfolding(crate::specs::Script::perform_step))]
+#[tactic(auto, using(crate::proofs::PerformanceErased::answer_erased, crate::proofs::ExplainedErased::halted_explained), unfolding(crate::specs::Script::perform_step))]
 pub fn perform_scene<H: Shelf>(
     alloc: Global,
     explains: bool,
@@ -26,6 +27,8 @@ pub fn perform_scene<H: Shelf>(
 ) -> Result<Answer, Halt>
     ensures answer { IfSome (H.documents shelf.old) (λ all.
         Answers (λ answer. answer) (perform_step explains input.now all) result) }
+    ensures explained { explains ≡ true → IfAnswered result (λ answer. answer.verdict ≡ Verdict.Done
+        → IfSome (H.documents shelf.old) (λ all. IsExplainedScene input.now all answer.lines)) }
     ensures keeps { H.documents shelf.new ≡ H.documents shelf.old }
     ensures asks { AsksShelf true (IsOk (scene_of_bytes input.now)) shelf.old shelf.new (H.faults shelf.old) (H.faults shelf.new) result }
 {

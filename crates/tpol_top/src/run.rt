@@ -1,6 +1,7 @@
 ghost use Rattle.std.specs.Prelude.{◌≡◌, ◌≤◌, ◌⊎◌, Some, false, true, IsTrue, IfSome, OnErr, IsErrOf, map, take, drop};
 ghost use Rattle.std.specs.String.{string_bytes};
 ghost use Rattle.tpol_base.specs.Causes.{Rose};
+ghost use Rattle.tpol_top.specs.Explained.{IsExplainedScene, OfExplain, OfHeld};
 ghost use Rattle.tpol_top.specs.Reached.{IsDocumentFor, IsReadable, IsReadableOf};
 ghost use Rattle.tpol_top.specs.Report.{LosesAtMost, OfChoice, OfReport, most_read, report_of_input, report_of_request};
 ghost use Rattle.tpol_top.specs.Status.{IsPastReadingResult};
@@ -25,6 +26,8 @@ pub fn answer_of_words<S: Source, H: Shelf>(
     ensures report { IfAnswered result (λ answer.
         OfReport (map string_bytes words.now.items) (S.left source.old) (H.documents shelf.old) (λ report.
         (answer ≡ report.answer) × (H.documents shelf.new ≡ Some report.documents))) }
+    ensures explained { OfExplain (request_of (map string_bytes words.now.items)) result (λ answer.
+        OfHeld (S.left source.old) (H.documents shelf.old) (λ held all. IsExplainedScene held all answer.lines)) }
     ensures keeps { OnErr result (H.documents shelf.new ≡ H.documents shelf.old) }
     ensures read_whole { IsTrue (reads_source (map string_bytes words.now.items))
         → IsPastReadingResult result
@@ -68,6 +71,8 @@ fn answer_of_source<S: Source, H: Shelf>(
     ensures report { IfAnswered result (λ answer.
         OfChoice (Some request.now) (S.left source.old) (H.documents shelf.old) (λ report.
         (answer ≡ report.answer) × (H.documents shelf.new ≡ Some report.documents))) }
+    ensures explained { OfExplain (Some request.now) result (λ answer.
+        OfHeld (S.left source.old) (H.documents shelf.old) (λ held all. IsExplainedScene held all answer.lines)) }
     ensures keeps { OnErr result (H.documents shelf.new ≡ H.documents shelf.old) }
     ensures read_whole { IsPastReadingResult result
         → IfSome (S.left source.old) (λ held. S.left source.new ≡ Some (drop most_read held)) }
@@ -107,6 +112,8 @@ fn answer_of_input<H: Shelf>(
     ensures report { IfAnswered result (λ answer. IfSome (H.documents shelf.old) (λ all.
         let report = report_of_input request.now input.now all in
         (answer ≡ report.answer) × (H.documents shelf.new ≡ Some report.documents))) }
+    ensures explained { OfExplain (Some request.now) result (λ answer.
+        IfSome (H.documents shelf.old) (λ all. IsExplainedScene input.now all answer.lines)) }
     ensures keeps { OnErr result (H.documents shelf.new ≡ H.documents shelf.old) }
     ensures asks { AsksShelf (uses_shelf_for request.now) (IsReadable request.now input.now) shelf.old shelf.new (H.faults shelf.old) (H.faults shelf.new) result }
 {
@@ -127,6 +134,8 @@ fn answer_of_request<H: Shelf>(
     ensures report { IfAnswered result (λ answer. IfSome (H.documents shelf.old) (λ all.
         let report = report_of_request request.now input.now all in
         (answer ≡ report.answer) × (H.documents shelf.new ≡ Some report.documents))) }
+    ensures explained { OfExplain (Some request.now) result (λ answer.
+        IfSome (H.documents shelf.old) (λ all. IsExplainedScene input.now all answer.lines)) }
     ensures keeps { OnErr result (H.documents shelf.new ≡ H.documents shelf.old) }
     ensures asks { AsksShelf (uses_shelf_for request.now) (IsDocumentFor request.now input.now) shelf.old shelf.new (H.faults shelf.old) (H.faults shelf.new) result }
 {

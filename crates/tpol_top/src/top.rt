@@ -2,10 +2,11 @@ ghost use Rattle.std.specs.Prelude.{◌≡◌, ◌≤◌, ◌⊎◌, Some, false
 ghost use Rattle.std.specs.String.{string_bytes};
 ghost use Rattle.tpol_base.specs.Causes.{Rose, Grows, GrowsInPart};
 ghost use Rattle.tpol_top.specs.Answer.{status_of, text_of};
+ghost use Rattle.tpol_top.specs.Explained.{IfExplain, IsExplainedScene, OfHeld};
 ghost use Rattle.tpol_top.specs.Reached.{IsReadableOf};
-ghost use Rattle.tpol_top.specs.Report.{LosesAtMost, OfReport, most_read};
+ghost use Rattle.tpol_top.specs.Report.{LosesAtMost, OfReport, most_read, report_of};
 ghost use Rattle.tpol_top.specs.Status.{IsWhole, IsSilent, IsPastReading};
-ghost use Rattle.tpol_top.specs.Words.{reads_source, uses_shelf};
+ghost use Rattle.tpol_top.specs.Words.{reads_source, request_of, uses_shelf};
 
 use crate::Status;
 use crate::halt::Halt;
@@ -80,6 +81,17 @@ pub fn policy_main<S: Source, K: Sink, H: Shelf>(
     ensures source_count { S.faults source.old ≤ S.faults source.new }
     ensures sink_count { K.faults out.old ≤ K.faults out.new }
     ensures shelf_count { H.faults shelf.old ≤ H.faults shelf.new }
+
+    // A scene that `explain` came to the end of is explained by what was printed. Every command of its journal that
+    // asks for a policy session was authorized by it exactly where the session's policy commands in the journal give
+    // the entity's authPolicy and every deferred check holds, and was served exactly where its own rules hold too.
+    // Behind the line of each one that was served on an entity whose policy the scene names stands the line of the
+    // first written path of that policy which those policy commands match, or of two different strings of one SHA-256
+    // digest, or of one of digest zero. Where it names a path, the PCRs have the values that each PolicyPCR of the
+    // path asks for, or the two are different strings of one digest.
+    ensures explained { result ≡ Status.Done → IfExplain (request_of (map string_bytes words.now.items))
+        (OfHeld (S.left source.old) (H.documents shelf.old) (λ input all.
+        IsExplainedScene input all (report_of (map string_bytes words.now.items) input all).answer.lines)) }
 {
     match answer_of_words(alloc, words, source, shelf) {
         Ok(answer) => print_answer(out, &answer),
