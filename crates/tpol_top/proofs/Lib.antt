@@ -6,6 +6,8 @@ pub mod ExplainedErased
 pub mod Explaining
 pub mod FilledErased
 pub mod FilledNames
+pub mod GeneratedErased
+pub mod GeneratedScenarios
 pub mod GeneratedSetups
 pub mod Imported
 pub mod LimitTests

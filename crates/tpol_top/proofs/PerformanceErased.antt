@@ -142,6 +142,12 @@ begun_erased scenario policy run p =
     ap (λ (paths : List Path). begun_at (erased_scenario scenario) (sight_after p.setup p.past) paths run (chosen_path paths (sight_after p.setup p.past) run.grants run.goal run.locality) p) (named_erased scenario.approvals policy scenario.begun)
     ∙ at_erased scenario (sight_after p.setup p.past) (paths_named scenario policy) run (chosen_path (paths_named scenario policy) (sight_after p.setup p.past) run.grants run.goal run.locality) p
 
+-- a run that begins, and goes to its end
+pub run_erased : (scenario : Scenario) (policy : List ℕ) (run : NewRun) (number : ℕ) (p : PerformanceState) → turned_to_end (erased_scenario scenario) number (run_begun (erased_scenario scenario) policy run p) ≡ turned_to_end scenario number (run_begun scenario policy run p)
+run_erased scenario policy run number p =
+    ap (turned_to_end (erased_scenario scenario) number) (begun_erased scenario policy run p)
+    ∙ turn_erased scenario number None (run_begun scenario policy run p)
+
 -- ---- the script
 
 happened_erased : (scenario : Scenario) (event : ScriptEvent) (p : PerformanceState) → happened (erased_scenario scenario) event p ≡ happened scenario event p

@@ -8,7 +8,6 @@ ghost use Rattle.tpol_lines.specs.Generated.{command_count_line};
 ghost use Rattle.tpol_lines.specs.Lines.{line_of};
 ghost use Rattle.tpol_top.specs.Generate.{generate_step, generated_answer, generated_performance, generated_scenario, last_two};
 ghost use Rattle.tpol_top.specs.Steps.{Answers, IsInside};
-ghost use Rattle.tpol_tree.specs.ClosedErased.{erased};
 
 use crate::answer::{Answer, Verdict};
 use crate::documents::FilledDocument;
@@ -28,7 +27,7 @@ use tpol_tree::{Approvals, Closed};
 
 /// The command `gen`: a policy of so many ORs, in an order by the bits of a number, its paths and its digest, and a
 /// run of it on a machine of its own.
-#[tactic(auto, unfolding(crate::specs::Generate::generate_step))]
+#[tactic(auto, using(crate::proofs::GeneratedErased::generated_answer_erased), unfolding(crate::specs::Generate::generate_step))]
 pub fn generate(alloc: Global, ors: u8, order: u32) -> Result<Answer, Halt>
     ensures answer { Answers (λ answer. answer) (generate_step ors order) result }
     ensures inside { IsInside result }
@@ -44,7 +43,7 @@ pub fn generate(alloc: Global, ors: u8, order: u32) -> Result<Answer, Halt>
 fn generated_answer(alloc: Global, ors: u8, order: u32, closed: Closed) -> Result<Answer, NoMemory>
     requires well_formed { IsWellFormedPolicy closed }
     requires within { AreWithinLimits (paths_of closed []) }
-    ensures { IfOk result (λ answer. answer ≡ generated_answer ors order (erased closed)) }
+    ensures { IfOk result (λ answer. answer ≡ generated_answer ors order closed) }
 {
     let count = count_paths(&closed, &Approvals::new(alloc)) as u32;
     let mut lines = Lines::new(alloc);

@@ -1,0 +1,46 @@
+-- What `gen` tells of its policy, whichever memory it lies in.
+use Rattle.std.proofs.Common.{◌≡◌, ◌∙◌, ap, ℕ, List, [], ◌∷◌, ◌++◌, codes, length, take}
+use Rattle.tpol_base.specs.declared.digest.Digest32.{Digest32}
+use Rattle.tpol_digest.proofs.Erasures.{paths_ignore_boxes}
+use Rattle.tpol_digest.specs.Digest.{policy_digest}
+use Rattle.tpol_digest.specs.Paths.{paths_of}
+use Rattle.tpol_lines.specs.Generated.{command_count_line, generated_line, path_count_line}
+use Rattle.tpol_lines.specs.Lines.{line_of}
+use Rattle.tpol_name.specs.declared.setup.Setup.{Setup}
+use Rattle.tpol_top.specs.declared.answer.Answer.{Answer}
+use Rattle.tpol_top.specs.declared.answer.Verdict.TheVariants.{Done}
+use Rattle.tpol_top.specs.Begin.{run_begun}
+use Rattle.tpol_top.specs.Generate.{generated_answer, generated_performance, generated_run, generated_scenario, generated_setup, last_two}
+use Rattle.tpol_top.specs.Lines.{digest_line}
+use Rattle.tpol_top.specs.Performance.{PerformanceState, start_of}
+use Rattle.tpol_top.specs.Turns.{turned_to_end}
+use Rattle.tpol_top.proofs.FilledErased.{policy_digest_erased}
+use Rattle.tpol_top.proofs.PerformanceErased.{run_erased}
+use Rattle.tpol_tree.specs.ClosedErased.{erased}
+use Rattle.tpol_tree.specs.declared.closed.Closed.{Closed}
+
+-- the run of a policy on a machine
+abbrev run_on : Setup → Closed → PerformanceState
+run_on setup closed =
+    turned_to_end (generated_scenario setup closed) 1 (run_begun (generated_scenario setup closed) (codes "gen") generated_run (start_of setup))
+
+performance_erased : (order : ℕ) (closed : Closed) → generated_performance order (erased closed) ≡ generated_performance order closed
+unfolding generated_performance
+performance_erased order closed =
+    ap (λ (digest : Digest32). run_on (generated_setup order digest) (erased closed)) (policy_digest_erased closed)
+    ∙ run_erased (generated_scenario (generated_setup order (policy_digest closed)) closed) (codes "gen") generated_run 1 (start_of (generated_setup order (policy_digest closed)))
+
+-- what is printed, by the number of paths, the digest and the run
+abbrev answer_with : ℕ → ℕ → ℕ → Digest32 → PerformanceState → Answer
+answer_with ors order count digest p = record {
+  lines = line_of (generated_line ors order) ∷ line_of (path_count_line count) ∷ line_of (digest_line digest)
+      ∷ take 1 p.lines ++ line_of (command_count_line (length p.past)) ∷ last_two p.lines;
+  verdict = Done;
+}
+
+pub generated_answer_erased : (ors order : ℕ) (closed : Closed) → generated_answer ors order (erased closed) ≡ generated_answer ors order closed
+unfolding generated_answer
+generated_answer_erased ors order closed =
+    ap (λ (count : ℕ). answer_with ors order count (policy_digest (erased closed)) (generated_performance order (erased closed))) (ap length (paths_ignore_boxes closed []))
+    ∙ (ap (λ (digest : Digest32). answer_with ors order (length (paths_of closed [])) digest (generated_performance order (erased closed))) (policy_digest_erased closed)
+    ∙ ap (answer_with ors order (length (paths_of closed [])) (policy_digest closed)) (performance_erased order closed))
