@@ -21,6 +21,7 @@ walkable_alone closed well_formed within = record {
 }
 
 pub generated_is_scenario : (now setup : Setup) (closed : Closed) → IsWellFormedPolicy closed → AreWithinLimits (paths_of closed []) → IsScenarioOf now (generated_scenario setup closed)
+unfolding generated_scenario
 generated_is_scenario now setup closed well_formed within = record {
   entities = All-nil (λ (entity : CompiledEntity). IsWalkable [] entity.document.closed);
   begun = All-cons (λ (document : FilledDocument). IsWalkable [] document.closed) (record { name = codes "gen"; closed = closed }) []

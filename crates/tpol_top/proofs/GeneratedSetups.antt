@@ -38,6 +38,7 @@ unfolding zero_pcrs
 all_pcrs = refl
 
 pub generated_is_setup : (order : ℕ) (digest : Digest32) → IsSetup (generated_setup order digest)
+unfolding generated_setup
 generated_is_setup order digest = record {
   owner = empty_value;
   endorsement = empty_value;

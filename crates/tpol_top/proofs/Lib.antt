@@ -7,6 +7,7 @@ pub mod Explaining
 pub mod FilledErased
 pub mod FilledNames
 pub mod GeneratedErased
+pub mod GeneratedRuns
 pub mod GeneratedScenarios
 pub mod GeneratedSetups
 pub mod Imported

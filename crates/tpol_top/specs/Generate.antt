@@ -91,7 +91,7 @@ zero_pcrs = replicate 24 zero_digest
 unfoldable pub generated_seed : ℕ → Digest32
 generated_seed order = record { bytes = replicate 28 0 ++ to_be_bytes w32 order; whole = refl }
 
-abbrev pub generated_setup : ℕ → Digest32 → Setup
+unfoldable pub generated_setup : ℕ → Digest32 → Setup
 generated_setup order digest = record {
   seed = generated_seed order;
   owner = [];
@@ -108,7 +108,7 @@ generated_setup order digest = record {
   presence = false;
 }
 
-abbrev pub generated_scenario : Setup → Closed → Scenario
+unfoldable pub generated_scenario : Setup → Closed → Scenario
 generated_scenario setup closed = record {
   explains = false;
   seed = setup.seed;
@@ -131,25 +131,36 @@ generated_run = record {
 
 -- ---- what is printed
 
--- the run begins, and goes to its end
+-- a run on the policy of this name begins, and run 1 goes to its end
+abbrev pub performed_run : Scenario → List ℕ → NewRun → PerformanceState → PerformanceState
+performed_run scenario policy run p = turned_to_end scenario 1 (run_begun scenario policy run p)
+
+-- on that machine, by that client
 unfoldable pub generated_performance : ℕ → Closed → PerformanceState
 generated_performance order closed =
     let setup = generated_setup order (policy_digest closed) in
     let scenario = generated_scenario setup closed in
-    turned_to_end scenario 1 (run_begun scenario (codes "gen") generated_run (start_of setup))
+    performed_run scenario (codes "gen") generated_run (start_of setup)
 
 -- the last two: the line of the goal's command and that of the run's end
 abbrev pub last_two : List (List ℕ) → List (List ℕ)
 last_two lines = drop (length lines - 2) lines
 
-abbrev pub generated_lines : ℕ → ℕ → Closed → PerformanceState → List (List ℕ)
-generated_lines ors order closed performance =
+-- what is printed of the policy: by which numbers it was made, how many paths it has, and its digest
+abbrev pub generated_head : ℕ → ℕ → Closed → List (List ℕ)
+generated_head ors order closed =
     line_of (generated_line ors order)
     ∷ line_of (path_count_line (length (paths_of closed [])))
     ∷ line_of (digest_line (policy_digest closed))
-    ∷ take 1 performance.lines
-    ++ line_of (command_count_line (length performance.past))
-    ∷ last_two performance.lines
+    ∷ []
+
+-- and of the run: its first line, how many commands were executed, and its last two lines
+abbrev pub generated_run_lines : PerformanceState → List (List ℕ)
+generated_run_lines performance =
+    take 1 performance.lines ++ line_of (command_count_line (length performance.past)) ∷ last_two performance.lines
+
+abbrev pub generated_lines : ℕ → ℕ → Closed → PerformanceState → List (List ℕ)
+generated_lines ors order closed performance = generated_head ors order closed ++ generated_run_lines performance
 
 unfoldable pub generated_answer : ℕ → ℕ → Closed → Answer
 generated_answer ors order closed = record {

@@ -1,12 +1,13 @@
 // The command `gen`.
 
-ghost use Rattle.std.specs.Prelude.{◌≡◌, [], ◌∷◌, ◌++◌, ◌<◌, ◌≤◌, ◌^◌, length, take, IfOk, OnOk};
+ghost use Rattle.std.specs.Prelude.{◌≡◌, [], ◌++◌, ◌<◌, ◌≤◌, ◌^◌, length, IfOk, OnOk};
 ghost use Rattle.tpol_digest.specs.Limits.{AreWithinLimits};
 ghost use Rattle.tpol_digest.specs.Paths.{paths_of};
 ghost use Rattle.tpol_digest.specs.WellFormed.{IsWellFormedPolicy};
-ghost use Rattle.tpol_lines.specs.Generated.{command_count_line};
-ghost use Rattle.tpol_lines.specs.Lines.{line_of};
-ghost use Rattle.tpol_top.specs.Generate.{generate_step, generated_answer, generated_performance, generated_scenario, last_two};
+ghost use Rattle.tpol_name.specs.Setups.{IsSetup};
+ghost use Rattle.tpol_top.specs.Generate.{generate_step, generated_answer, generated_head, generated_performance, generated_run_lines, generated_scenario, performed_run};
+ghost use Rattle.tpol_top.specs.Performance.{start_of};
+ghost use Rattle.tpol_top.specs.Scenario.{IsScenarioOf};
 ghost use Rattle.tpol_top.specs.Steps.{Answers, IsInside};
 
 use crate::answer::{Answer, Verdict};
@@ -16,6 +17,7 @@ use crate::generated::{generated_policy, generated_run, generated_setup};
 use crate::halt::Halt;
 use crate::limits::check_limits;
 use crate::lines::digest_line;
+use crate::new_run::NewRun;
 use crate::performance::Performance;
 use crate::scenario::Scenario;
 use std::alloc::Global;
@@ -39,29 +41,33 @@ pub fn generate(alloc: Global, ors: u8, order: u32) -> Result<Answer, Halt>
 }
 
 // What is printed of the policy and of its run.
-#[tactic(auto, unfolding(crate::specs::Generate::generated_answer))]
 fn generated_answer(alloc: Global, ors: u8, order: u32, closed: Closed) -> Result<Answer, NoMemory>
     requires well_formed { IsWellFormedPolicy closed }
     requires within { AreWithinLimits (paths_of closed []) }
     ensures { IfOk result (λ answer. answer ≡ generated_answer ors order closed) }
 {
-    let count = count_paths(&closed, &Approvals::new(alloc)) as u32;
-    let mut lines = Lines::new(alloc);
-    push_line(
-        alloc,
-        &mut lines,
-        generated_line(alloc, u32::from(ors), order)?.as_str(),
-    )?;
-    push_line(alloc, &mut lines, path_count_line(alloc, count)?.as_str())?;
-    push_line(
-        alloc,
-        &mut lines,
-        digest_line(alloc, &digest_of(&closed))?.as_str(),
-    )?;
+    let mut lines = generated_head(alloc, ors, order, &closed)?;
     let performance = generated_performance(alloc, order, closed)?;
     push_performance(alloc, &mut lines, &performance)?;
     let verdict = Verdict::Done;
     Ok(Answer { lines, verdict })
+}
+
+// The lines of the policy: by which numbers it was made, how many paths it has, and its digest.
+fn generated_head(alloc: Global, ors: u8, order: u32, closed: &Closed) -> Result<Lines, NoMemory>
+    requires well_formed { IsWellFormedPolicy closed.now }
+    requires within { AreWithinLimits (paths_of closed.now []) }
+    ensures { IfOk result (λ lines. lines ≡ generated_head ors order closed.now) }
+{
+    let count = count_paths(closed, &Approvals::new(alloc)) as u32;
+    let mut lines = Lines::new(alloc);
+    let made = generated_line(alloc, u32::from(ors), order)?;
+    push_line(alloc, &mut lines, made.as_str())?;
+    let paths = path_count_line(alloc, count)?;
+    push_line(alloc, &mut lines, paths.as_str())?;
+    let digest = digest_line(alloc, &digest_of(closed))?;
+    push_line(alloc, &mut lines, digest.as_str())?;
+    Ok(lines)
 }
 
 // The lines of the run: the first, how many commands were executed, and the last two.
@@ -71,7 +77,7 @@ fn push_performance(
     performance: &Performance,
 ) -> Result<(), NoMemory>
     requires few { length performance.now.past < 2 ^ 32 }
-    ensures { OnOk result (lines.new ≡ lines.old ++ (take 1 performance.now.lines ++ line_of (command_count_line (length performance.now.past)) ∷ last_two performance.now.lines)) }
+    ensures { OnOk result (lines.new ≡ lines.old ++ generated_run_lines performance.now) }
 {
     let told = performance.lines.as_slice();
     lines.extend_with_clones(&told[..told.len().min(1)])?;
@@ -81,7 +87,6 @@ fn push_performance(
 }
 
 // The run begins, and goes to its end.
-#[tactic(auto, unfolding(crate::specs::Generate::generated_performance))]
 fn generated_performance(alloc: Global, order: u32, closed: Closed) -> Result<Performance, NoMemory>
     requires well_formed { IsWellFormedPolicy closed }
     requires within { AreWithinLimits (paths_of closed []) }
@@ -90,13 +95,53 @@ fn generated_performance(alloc: Global, order: u32, closed: Closed) -> Result<Pe
 {
     let setup = generated_setup(alloc, order, &digest_of(&closed))?;
     let scenario = generated_scenario(alloc, &setup, closed)?;
-    let mut performance = Performance::new(alloc, setup)?;
-    performance.begin(alloc, &scenario, "gen", generated_run(alloc)?)?;
-    performance.turn_to_end(alloc, &scenario, 1)?;
+    let run = generated_run(alloc)?;
+    let performance = perform_run(alloc, setup, &scenario, "gen", run)?;
     Ok(performance)
 }
 
+// A machine starts from this setup, a run on a policy begins, and run 1 goes to its end. The policy's name is a
+// parameter and no literal, since the proof is of any name and does not spell it out.
+fn perform_run(
+    alloc: Global,
+    setup: Setup,
+    scenario: &Scenario,
+    policy: &str,
+    run: NewRun,
+) -> Result<Performance, NoMemory>
+    requires setup { IsSetup setup }
+    requires scenario { IsScenarioOf setup scenario.now }
+    requires locality { run.locality ≤ 4 }
+    ensures told { IfOk result (λ performance. performance ≡ performed_run scenario.now policy.now run (start_of setup)) }
+    ensures few { IfOk result (λ performance. length performance.past ≤ 2000) }
+{
+    let mut performance = Performance::new(alloc, setup)?;
+    performance.run_first(alloc, scenario, policy, run)?;
+    Ok(performance)
+}
+
+impl Performance {
+    // A run on a policy begins, and run 1 goes to its end, on a machine without events.
+    fn run_first(
+        &mut self,
+        alloc: Global,
+        scenario: &Scenario,
+        policy: &str,
+        run: NewRun,
+    ) -> Result<(), NoMemory>
+        requires scenario { IsScenarioOf self.old.setup scenario.now }
+        requires locality { run.locality ≤ 4 }
+        requires first { length self.old.past ≡ 0 }
+        ensures told { OnOk result (self.new ≡ performed_run scenario.now policy.now run self.old) }
+        ensures few { OnOk result (length self.new.past ≤ 2000) }
+    {
+        self.begin(alloc, scenario, policy, run)?;
+        self.turn_to_end(alloc, scenario, 1)
+    }
+}
+
 // What the events of the run go by.
+#[tactic(auto, unfolding(crate::specs::Generate::generated_scenario))]
 fn generated_scenario(alloc: Global, setup: &Setup, closed: Closed) -> Result<Scenario, NoMemory>
     ensures { IfOk result (λ scenario. scenario ≡ generated_scenario setup.now closed) }
 {

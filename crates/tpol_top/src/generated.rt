@@ -121,6 +121,7 @@ pub fn generated_setup(alloc: Global, order: u32, digest: &Digest32) -> Result<S
     Ok(setup)
 }
 
+#[tactic(auto, unfolding(crate::specs::Generate::generated_setup))]
 fn setup_of_parts(alloc: Global, order: u32, digest: &Digest32) -> Result<Setup, NoMemory>
     ensures { IfOk result (λ setup. setup ≡ generated_setup order digest.now) }
 {
