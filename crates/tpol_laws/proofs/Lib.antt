@@ -1,5 +1,6 @@
 mod After
 mod Answered
+mod Bare
 mod Calm
 mod Codes
 mod Complete
