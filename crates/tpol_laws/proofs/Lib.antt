@@ -1,6 +1,5 @@
 mod After
 mod Answered
-mod Bare
 mod Calm
 mod Codes
 mod Complete
