@@ -9,5 +9,6 @@ mod Fit
 mod Heard
 mod Named
 mod Own
+mod Standing
 mod Starts
 mod Step
