@@ -1,5 +1,7 @@
 mod After
+mod Alike
 mod Answered
+mod Binds
 mod Calm
 mod Codes
 mod Complete

@@ -1,9 +1,8 @@
 -- Where a run stands while only its own turns come: its session has the facts that its path was judged by, in the
 -- world that the path was chosen in.
-use Rattle.std.proofs.Common.{◌≡◌, ℕ, true, List, [], map}
+use Rattle.std.proofs.Common.{◌≡◌, ℕ, true, List}
 use Rattle.std.specs.Prelude.{Option, None}
 use Rattle.tpol_base.specs.CommandCode.{number_of_code}
-use Rattle.tpol_base.specs.Digest.{zero_digest}
 use Rattle.tpol_choose.specs.Blocks.{client_of}
 use Rattle.tpol_choose.specs.Clients.{Client}
 use Rattle.tpol_choose.specs.Facts.{fresh_session, session_along}
@@ -13,11 +12,7 @@ use Rattle.tpol_driver.specs.declared.session.Session.{Session}
 use Rattle.tpol_driver.specs.Answers.{answer_of}
 use Rattle.tpol_driver.specs.Driving.{goal_heard}
 use Rattle.tpol_driver.specs.GoalUse.{goal_command}
-use Rattle.tpol_tree.specs.declared.closed.Assertion.{Assertion}
-use Rattle.tpol_tree.specs.declared.closed.Assertion.TheVariants as assertions
-use Rattle.tpol_tree.specs.declared.facts.Fact.{Fact}
 use Rattle.tpol_tree.specs.declared.path.Move.{Move}
-use Rattle.tpol_tree.specs.declared.path.Move.TheVariants.{Assert, Or, Approve, ApproveNv}
 use Rattle.tpol_wire.specs.Commands.{code_of_command}
 use Rattle.tpol_wire.specs.ReplyReading.{reply_reading}
 use Rattle.tpm_bindings.specs.State.{SessionState}
@@ -26,30 +21,7 @@ use Rattle.tpm_engine.specs.declared.event.Event.{Event}
 use Rattle.tpm_engine.specs.Sights.{sight_after}
 use Rattle.tpm_engine.specs.Views.{is_held, sequence_of, session_state, world_at}
 use Rattle.tpol_laws.specs.Acts.{Run, answer_in}
-
--- ---- facts, but for what no rule reads
-
--- an assertion without the values of its PCRs
-abbrev pub bound_assertion : Assertion → Assertion
-bound_assertion (assertions.Pcr mask digest values) = assertions.Pcr mask digest []
-bound_assertion assertion = assertion
-
--- a move without an approval's signature and without what an index approved
-abbrev pub bound_move : Move → Move
-bound_move (Assert assertion) = Assert (bound_assertion assertion)
-bound_move (Or digests) = Or digests
-bound_move (Approve key policy_ref approved signature) = Approve key policy_ref approved zero_digest
-bound_move (ApproveNv index approved) = ApproveNv index zero_digest
-
--- what a fact binds, which is not its event
-abbrev pub bind_of : Fact → Fact
-bind_of fact = record { event = 0; act = bound_move fact.act; cp_hash = fact.cp_hash; deadline = fact.deadline }
-
--- two sessions that rules cannot tell apart; no rule reads a nonce but to compare it with that of a command
-pub record AreAlike (kept chosen : SessionState) : Type 0 where
-  pub start : kept.start ≡ chosen.start
-  pub binds : map bind_of kept.facts ≡ map bind_of chosen.facts
-  pub counter : kept.counter ≡ chosen.counter
+pub use Rattle.tpol_laws.proofs.Binds.{AreAlike, bind_of, bound_assertion, bound_move}
 
 -- ---- where the run stands
 
