@@ -48,7 +48,7 @@ session-handle handle slot =
 pub index-kind : (handle : ℕ) → 0x01000000 ≤ handle → handle ≤ 0x01ffffff → is_index handle ≡ true
 index-kind handle low high = grind (arith, nat_tests, low, high)
 
-object-kind : (handle : ℕ) → 0x80000000 ≤ handle → handle ≤ 0x80ffffff → is_object handle ≡ true
+pub object-kind : (handle : ℕ) → 0x80000000 ≤ handle → handle ≤ 0x80ffffff → is_object handle ≡ true
 object-kind handle low high = grind (arith, nat_tests, low, high)
 
 pub index-handle : (setup : Setup) (name : Name) (handle : ℕ) → FoundIndex setup name handle → IsHandle is_index handle

@@ -17,7 +17,7 @@ use Rattle.tpm_rules.specs.Checks.{broken_before_auth, broken_command, broken_di
 use Rattle.tpm_rules.specs.Rule.{or_else, unless}
 use Rattle.tpm_rules.specs.Session.{is_counter_now, policy_digest_of}
 use Rattle.tpol_laws.proofs.Alike.{Reads, same-reads}
-use Rattle.tpol_laws.proofs.Standing.{AreAlike}
+use Rattle.tpol_laws.proofs.Binds.{AreAlike}
 
 -- ---- two sessions
 
