@@ -1,6 +1,7 @@
 mod After
 mod Alike
 mod Answered
+mod Approved
 mod Binds
 mod Calm
 mod Codes
@@ -9,8 +10,15 @@ mod Ends
 mod Finds
 mod Fit
 mod Heard
+mod Kept
+mod Moved
 mod Named
 mod Own
+mod Passing
+mod SameKeys
+mod Seen
+mod Served
 mod Standing
 mod Starts
 mod Step
+mod Unstopped

@@ -189,14 +189,14 @@ goal-on run past session (ends.BadReply stage) = tt
 module _ (run : Run) (is : IsRun run) (past : List Event) (own : ℕ) (nonce : Digest32) (sent done : ℕ) where
   -- a policy command that nothing stops
   own-done : (ticket : Option Ticket) (act : Move) (command : Command) → slice_get run.plan.path.moves done ≡ Some act → IsOnPath run past own ticket done
-      → IsOwn (view_of run.setup past).world own act command → first_stop (view_of run.setup past) run.locality command ≡ None
+      → IsOwn (view_of run.setup past).world own act command → AsksWritten (view_of run.setup past).world.indices command → first_stop (view_of run.setup past) run.locality command ≡ None
       → IsOnPath run (event_of run.client run.locality (spelling command) (succeeding (view_of run.setup past) (next_number past) command) ∷ past) own None (done + 1)
   unfolding view_of
-  own-done ticket act command at on made first =
+  own-done ticket act command at on made asks first =
       let reads = read-back command made.fits in
       let rule = own-passed (view_of run.setup past) run.locality command first in
       let passed = rule-passed (view_of run.setup past) command made.policy rule in
-      let shows = made.shows passed.state passed.holds in
+      let shows = made.shows passed.state passed.holds asks in
       let deed = done-deed (view_of run.setup past) (next_number past) run.client run.locality (spelling command) command reads
       ∙ ap (λ (o : Option Shown). option_map_or (λ (shown : Shown). Shows shown.0 shown.1) o (plain_deed command (succeeding (view_of run.setup past) (next_number past) command).reply)) shows.is in
       let uses = done-use (view_of run.setup past) (next_number past) run.client run.locality (spelling command) command reads ∙ password-use (area_of command) made.area in
@@ -204,16 +204,16 @@ module _ (run : Run) (is : IsRun run) (past : List Event) (own : ℕ) (nonce : D
       (shows.same (moment_of run.setup past own) refl)
 
   own-turn : (ticket : Option Ticket) (act : Move) (command : Command) (number : ℕ) → slice_get run.plan.path.moves done ≡ Some act → IsOnPath run past own ticket done → is_verification ticket act ≡ false
-      → IsOwn (view_of run.setup past).world own act command
+      → IsOwn (view_of run.setup past).world own act command → AsksWritten (view_of run.setup past).world.indices command
       → IsOn run (event_in run past command ∷ past) (goes_on (record { handle = own; nonce = nonce }) sent done (move_heard ticket act (done + 1) (answer_of (reply_reading number (answer_in run past command).reply))))
-  own-turn ticket act command number at on other made =
+  own-turn ticket act command number at on other made asks =
       on-answer (λ a. IsOn run (event_of run.client run.locality (spelling command) a ∷ past) (goes_on (record { handle = own; nonce = nonce }) sent done (move_heard ticket act (done + 1) (answer_of (reply_reading number a.reply)))))
       (view_of run.setup past) (next_number past) run.locality (spelling command) command (read-back command made.fits)
       (λ stop stops. denied-on run _ own nonce sent done (done + 1) ticket act number stop.code
       (stop-code (first_stop (view_of run.setup past) run.locality command) stop
       (first-coded (view_of run.setup past) run.locality command
       (subst HasCode (sym (own-is-policy (view_of run.setup past) command made.policy)) (policy-own-coded (view_of run.setup past) command))) stops))
-      (λ first. accepted-on run _ own nonce sent done (done + 1) ticket act _ other (own-done ticket act command at on made first))
+      (λ first. accepted-on run _ own nonce sent done (done + 1) ticket act _ other (own-done ticket act command at on made asks first))
 
 -- ---- VerifySignature, which makes the ticket
 
@@ -228,13 +228,16 @@ unfolding ValuesFit Fits
 ticket-reply ticket fits = ((fits, tt), refl)
 
 -- what the machine answers to it is heard as a ticket that fits
-pub record Verifies (reply : List ℕ) : Type 0 where
+pub record Verifies (world : WorldState) (key : ℕ) (digest : Digest32) (reply : List ℕ) : Type 0 where
+  pub object : ObjectEntry
+  pub held : object_of key world.objects ≡ Some object
   pub ticket : Ticket
+  pub made : ticket ≡ verification.ticket_of world digest object
   pub fits : TicketFits ticket
   pub reads : reply_reading (number_of_code codes.VerifySignature) reply ≡ Some (replies.VerifySignature ticket, None)
 
 pub verifies : (tables : TableState) (number key : ℕ) (digest signature : Digest32) → verification.rule tables.world key digest signature ≡ None
-    → Verifies (succeeding tables number (commands.VerifySignature key digest signature)).reply
+    → Verifies tables.world key digest (succeeding tables number (commands.VerifySignature key digest signature)).reply
 verifies tables number key digest signature rule =
     let it = ruled _ (object_of key tables.world.objects) _ rule in
     let ticket = verification.ticket_of tables.world digest it.value in
@@ -244,7 +247,10 @@ verifies tables number key digest signature rule =
     let read : reply_reading (number_of_code codes.VerifySignature) (spell_reply (replies.VerifySignature ticket) None) ≡ Some (replies.VerifySignature ticket, None) =
     reply_read (number_of_code codes.VerifySignature) _ (replies.VerifySignature ticket) None (record { whole = refl; fits = ticket-reply ticket fits; answers = refl }) in
     record {
+      object = it.value;
+      held = it.is;
       ticket = ticket;
+      made = refl;
       fits = fits;
       reads = ap (λ (r : Reply). reply_reading (number_of_code codes.VerifySignature) (spell_reply r None)) same ∙ read;
     }
@@ -303,7 +309,7 @@ module _ (run : Run) (is : IsRun run) (past : List Event) (own : ℕ) (nonce : D
       (answer_in run past (command_of_move (directory_of run.setup) run.plan.grants (record { handle = own; nonce = nonce }) ticket act)).reply))))
   own-step ticket act at on bounds known other asks =
       own-turn run is past own nonce sent done ticket act (command_of_move (directory_of run.setup) run.plan.grants (record { handle = own; nonce = nonce }) ticket act) _ at on other
-      (own-move run.setup is.setup (view_of run.setup past).world (is-of run.setup past) run.plan.grants is.grants own nonce on.slot ticket act on.fits bounds known other (asks-view run.setup past _ asks))
+      (own-move run.setup is.setup (view_of run.setup past).world (is-of run.setup past) run.plan.grants is.grants own nonce on.slot ticket act on.fits bounds known other) (asks-view run.setup past _ asks)
 
   move-step : (ticket : Option Ticket) (act : Move) → slice_get run.plan.path.moves done ≡ Some act → IsOnPath run past own ticket done
       → MoveHasBounds act → is_known_move (directory_of run.setup) run.plan.grants act ≡ true

@@ -18,9 +18,9 @@ ghost use Rattle.tpol_tree.specs.declared.closed.Closed.{Closed};
 ghost use Rattle.tpol_tree.specs.declared.path.ApprovedDoc.{ApprovedDoc};
 ghost use Rattle.tpm_engine.specs.declared.event.Event.{Event as EventOf};
 ghost use Rattle.tpm_engine.specs.Sights.{sight_after};
-ghost use Rattle.tpm_engine.specs.Views.{facts_of, indices_of};
+ghost use Rattle.tpm_engine.specs.Views.{facts_of};
 ghost use Rattle.tpol_laws.specs.Acts.{Act, Run, Turn, after_act, after_acts, begun, succeeds, turns_in};
-ghost use Rattle.tpol_laws.specs.Others.{AreOthersApart, AreSecretsOnWritten, HasGoneOn, SendsOnWritten, place_of};
+ghost use Rattle.tpol_laws.specs.Others.{AreOthersApart, AreSecretsOnWritten, HasGoneOn, place_of};
 ghost use Rattle.tpol_laws.specs.Runs.{IsRun};
 
 /// A path that nothing stops on the machine as it is now is one whose commands can all be made: it is not outside,
@@ -48,7 +48,6 @@ pub fn a_run_goes_on()
     ensures goes_on { (run : Run) (past : List EventOf) (acts : List Act) (session done : ℕ)
         → IsRun run → AreOthersApart run acts (begun past) → AreSecretsOnWritten run acts (begun past)
         → place_of (after_acts run acts (begun past)).standing ≡ Some (session, done) → done < length run.plan.path.moves
-        → SendsOnWritten (indices_of run.setup (after_acts run acts (begun past)).past) (sends run.plan (after_acts run acts (begun past)).standing)
         → succeeds run (after_acts run acts (begun past)) (sends run.plan (after_acts run acts (begun past)).standing) ≡ true
         → HasGoneOn session done (place_of (after_act run (after_acts run acts (begun past)) Turn).standing) }
 {}
