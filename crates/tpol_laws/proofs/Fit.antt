@@ -107,7 +107,7 @@ entity-handle setup name handle (inr (inr index)) = record {
 
 -- ---- authorizations
 
-value-short : (values : List (ℕ × List ℕ)) (handle : ℕ) → All (λ value. IsAuthValue value.1) values → length (secret_of values handle) ≤ 32
+pub value-short : (values : List (ℕ × List ℕ)) (handle : ℕ) → All (λ value. IsAuthValue value.1) values → length (secret_of values handle) ≤ 32
 value-short values handle each = at (find (λ (value : ℕ × List ℕ). nat_eq value.0 handle) values) refl
   where
     at : (o : Option (ℕ × List ℕ)) → find (λ (value : ℕ × List ℕ). nat_eq value.0 handle) values ≡ o → length (unwrap_or (option_map (λ (value : ℕ × List ℕ). value.1) o) []) ≤ 32

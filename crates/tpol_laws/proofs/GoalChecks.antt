@@ -68,13 +68,19 @@ auth-alike kept chosen alike = ap (λ (r : Reads). fold (λ (before auth : LastA
 
 -- ---- two judges
 
--- where the value is right by one judge of who plans, it is right by that of the machine: no check is broken
+-- where no check is broken the value is proved
+pub is-proved : (chosen : SessionState) (occasion : Use) (policy : List ℕ) (planned : LastAuth → Bool) → first_broken_check chosen occasion policy planned ≡ None
+    → (broken_before_auth chosen occasion policy ≡ None) × (planned (last_auth chosen.facts) ≡ true)
+is-proved chosen occasion policy planned none =
+    let parts = or_else-none (broken_before_auth chosen occasion policy) (unless (planned (last_auth chosen.facts)) AuthValue) none in
+    (parts.0, unless-none (planned (last_auth chosen.facts)) AuthValue parts.1)
+
+-- where the value is right for who plans, it is right for the machine: no check is broken
 pub no-check : (kept chosen : SessionState) → AreAlike kept chosen → (occasion : Use) (policy : List ℕ) (planned made : LastAuth → Bool)
     → first_broken_check chosen occasion policy planned ≡ None
     → (planned (last_auth kept.facts) ≡ true → made (last_auth kept.facts) ≡ true)
     → first_broken_check kept occasion policy made ≡ None
 no-check kept chosen alike occasion policy planned made none right =
-    let parts = or_else-none (broken_before_auth chosen occasion policy) (unless (planned (last_auth chosen.facts)) AuthValue) none in
-    let is = unless-none (planned (last_auth chosen.facts)) AuthValue parts.1 in
+    let parts = is-proved chosen occasion policy planned none in
     ap (λ first. or_else first (unless (made (last_auth kept.facts)) AuthValue)) (before-alike kept chosen alike occasion policy ∙ parts.0)
-    ∙ ap (λ b. unless b AuthValue) (right (ap planned (auth-alike kept chosen alike) ∙ is))
+    ∙ ap (λ b. unless b AuthValue) (right (ap planned (auth-alike kept chosen alike) ∙ parts.1))

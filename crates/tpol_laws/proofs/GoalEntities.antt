@@ -7,12 +7,9 @@ use Rattle.std.proofs.lemmas.Bool.{eqb-true}
 use Rattle.std.proofs.lemmas.Bool.Decides.{nat_tests}
 use Rattle.std.proofs.lemmas.List.Elements.{recursion_from_All}
 use Rattle.std.proofs.lemmas.List.Folds.{find-append}
-use Rattle.tpol_base.specs.declared.handle.HandleKind.{HandleKind}
-use Rattle.tpol_base.specs.declared.handle.HandleKind.TheVariants as kinds
 use Rattle.tpol_base.specs.declared.name.Name.{Name}
 use Rattle.tpol_base.specs.declared.name.Name.TheVariants.{Handle}
-use Rattle.tpol_base.specs.Handle.{is_policy_session, kind_of_handle, rh_null}
-use Rattle.tpol_base.specs.ResponseCode.{of_handle, rc_handle, reference_of_handle}
+use Rattle.tpol_base.specs.Handle.{rh_null}
 use Rattle.tpol_choose.specs.Entities.{index_of_handle, name_of_index_or_handle, name_of_object_or_other, object_of_handle, name_of_handle as name_in_sight}
 use Rattle.tpol_goal.specs.Entities.{name_of_handle}
 use Rattle.tpol_name.specs.declared.areas.NvPublic.{NvPublic}
@@ -23,18 +20,19 @@ use Rattle.tpol_name.specs.declared.setup.Setup.{Setup}
 use Rattle.tpol_name.specs.Areas.{index_name, object_name, with_written}
 use Rattle.tpol_name.specs.Directories.{directory_of, line_of_index, line_of_object}
 use Rattle.tpol_name.specs.Setups.{IsAuthValue, IsIndex, IsObject, IsSetup}
-use Rattle.tpm_engine.specs.Stops.{handle_stop, refuses}
+use Rattle.tpm_engine.specs.Stops.{handle_stop}
 use Rattle.tpm_engine.specs.Tables.{TableState}
 use Rattle.tpm_engine.proofs.Stopping.{map-none}
 use Rattle.tpm_nv.specs.Indices.{index_of}
 use Rattle.tpm_rules.specs.Entity.{Entity, Index, Object}
-use Rattle.tpm_rules.specs.Rule.{unless}
-use Rattle.tpm_session.specs.Slots.{is_live}
-use Rattle.tpm_world.specs.Entities.{entity_at, entity_of_kind, handle_rule, handle_rule_of_kind, name_at, name_of_entity}
+use Rattle.tpm_world.specs.Entities.{entity_at, entity_of_kind, name_at, name_of_entity}
 use Rattle.tpm_world.specs.Objects.{object_of}
 use Rattle.tpm_world.specs.World.{WorldState, sight_of}
 use Rattle.tpol_laws.proofs.Finds.{find-each, find-map, find-passes}
-use Rattle.tpol_laws.proofs.Named.{Mapped, mapped}
+use Rattle.tpol_laws.proofs.Named.{mapped}
+use Rattle.tpol_laws.proofs.Own.{object-range}
+use Rattle.tpol_laws.proofs.Seen.{index-range}
+use Rattle.tpol_laws.proofs.Unstopped.{entity-there}
 
 -- ---- look-ups by handle
 
@@ -62,29 +60,6 @@ above-indices handle [] high each = tt
 above-indices handle (i ∷ indices) high each =
     let most : i.public.index ≤ 0x01ffffff = each.0.greatest_handle in
     (grind (arith, nat_tests, high, most), above-indices handle indices high each.1)
-
--- ---- the kinds of handles
-
-object-range : (handle : ℕ) → 0x80000000 ≤ handle → handle ≤ 0x80ffffff → kind_of_handle handle ≡ Some kinds.Object
-object-range handle low high =
-    let pcr : nat_lt handle 24 ≡ false = grind (arith, nat_tests, low) in
-    let index : nat_eq (handle / 2 ^ 24) 0x01 ≡ false = grind (arith, nat_tests, low, high) in
-    let session : nat_eq (handle / 2 ^ 24) 0x03 ≡ false = grind (arith, nat_tests, low, high) in
-    let permanent : nat_eq (handle / 2 ^ 24) 0x40 ≡ false = grind (arith, nat_tests, low, high) in
-    let object : nat_eq (handle / 2 ^ 24) 0x80 ≡ true = grind (arith, nat_tests, low, high) in
-    rw (pcr, index, session, permanent, object) refl
-
-index-range : (handle : ℕ) → 0x01000000 ≤ handle → handle ≤ 0x01ffffff → kind_of_handle handle ≡ Some kinds.Index
-index-range handle low high =
-    let pcr : nat_lt handle 24 ≡ false = grind (arith, nat_tests, low) in
-    let index : nat_eq (handle / 2 ^ 24) 0x01 ≡ true = grind (arith, nat_tests, low, high) in
-    rw (pcr, index) refl
-
-object-session : (handle : ℕ) → 0x80000000 ≤ handle → handle ≤ 0x80ffffff → is_policy_session handle ≡ false
-object-session handle low high = grind (arith, nat_tests, low, high)
-
-index-session : (handle : ℕ) → 0x01000000 ≤ handle → handle ≤ 0x01ffffff → is_policy_session handle ≡ false
-index-session handle low high = grind (arith, nat_tests, low, high)
 
 -- ---- the machine's world, which started from a setup
 
@@ -122,12 +97,6 @@ pub record IsIndexAt (setup : Setup) (tables : TableState) (free handle : ℕ) (
   pub value : IsAuthValue entry.auth
   pub size : entry.public.size ≤ 2048
   pub there : IsThere setup tables free handle (index_name entry.public) (index_name (with_written entry.public))
-
--- where no handle is that of a session, the rule on handles is that of the kind
-free-handle : (tables : TableState) (n handle : ℕ) (kind : Option HandleKind) → is_policy_session handle ≡ false → kind_of_handle handle ≡ kind → handle_rule_of_kind tables.world n handle kind ≡ None → handle_stop tables n handle ≡ None
-free-handle tables n handle kind session is none =
-    ap (λ b. if b then unless (is_live tables.sessions handle) (refuses (reference_of_handle n)) else option_map refuses (handle_rule tables.world n handle)) session
-    ∙ ap (option_map refuses) (ap (handle_rule_of_kind tables.world n handle) is ∙ none)
 
 module _ (setup : Setup) (is : IsSetup setup) (tables : TableState) (of : IsKept setup tables.world) (free : ℕ) where
   each-object : AllByRecursion IsObject setup.objects
@@ -171,8 +140,7 @@ module _ (setup : Setup) (is : IsSetup setup) (tables : TableState) (of : IsKept
           is_now = ap (name_of_entity handle) entity;
           is_seen = ap (name_of_object_or_other (sight_of tables.world free) handle) found;
           is_listed = listed-name handle (Some (line_of_object object)) line;
-          is_free = λ n. free-handle tables n handle (Some kinds.Object) (object-session handle low high) (object-range handle low high)
-          (ap (λ (o : Option ObjectEntry). unless (is_some o) (reference_of_handle n)) there);
+          is_free = λ n. entity-there tables n handle (Object object) entity;
         };
       }
 
@@ -211,8 +179,7 @@ module _ (setup : Setup) (is : IsSetup setup) (tables : TableState) (of : IsKept
               ap (name_of_object_or_other (sight_of tables.world free) handle) (ap (find (λ (o : ObjectEntry). nat_eq o.handle handle)) of.objects ∙ none)
               ∙ ap (name_of_index_or_handle handle) found;
           is_listed = listed-name handle (Some (line_of_index it.value)) line ∙ ap (λ (p : NvPublic × List ℕ). index_name p.0) it.gives;
-          is_free = λ n. free-handle tables n handle (Some kinds.Index) (index-session handle low high) (index-range handle low high)
-          (ap (λ (o : Option IndexEntry). unless (is_some o) (rc_handle + of_handle n)) there);
+          is_free = λ n. entity-there tables n handle (Index entry) entity;
         };
       }
 

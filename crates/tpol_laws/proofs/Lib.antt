@@ -9,6 +9,14 @@ mod Complete
 mod Ends
 mod Finds
 mod Fit
+mod Goal
+mod GoalAt
+mod GoalChecks
+mod GoalEntities
+mod GoalKeys
+mod GoalMacs
+mod GoalShape
+mod GoalWorld
 mod Heard
 mod Kept
 mod Moved
