@@ -47,12 +47,11 @@ use Rattle.tpol_choose.specs.Goals.{Judged, authorization_block, broken_check as
 use Rattle.tpol_choose.specs.Moves.{rc_of}
 use Rattle.tpol_driver.specs.declared.end.End.TheVariants as ends
 use Rattle.tpol_driver.specs.declared.end.Stage.TheVariants as stages
-use Rattle.tpol_driver.specs.declared.answer.Answer.TheVariants.{Done}
 use Rattle.tpol_driver.specs.declared.plan.Plan.{Plan}
 use Rattle.tpol_driver.specs.declared.session.Session.{Session}
 use Rattle.tpol_driver.specs.Answers.{answer_of, answer_of_reply}
 use Rattle.tpol_driver.specs.Commands.{caller_nonce}
-use Rattle.tpol_driver.specs.Driving.{goal_heard}
+use Rattle.tpol_driver.specs.Driving.{goal_done, goal_heard}
 use Rattle.tpol_driver.specs.GoalUse.{area_of_goal, auth_of_path, bytes_of_reply, command_of_goal, goal_command, goal_cp_hash, goal_hmac, goal_rp_hash, goal_secret, hmac_by, mac_key, right_hmac}
 use Rattle.tpol_goal.specs.Goals.{IsGoal, IsGoalAmong, code_of_goal, entity_of_goal, handles_of_goal, names_of_goal}
 use Rattle.tpol_hash.specs.Sha256.{sha256_digest}
@@ -111,9 +110,9 @@ opens client chosen (Some found) none =
 
 -- ---- replies
 
-done-reply : (reply : Reply) (auth : ReplyAuth) → IsAcceptance reply → answer_of_reply reply (Some auth) ≡ Done reply (Some auth)
-done-reply (replies.Refused rc) auth accepts = absurd accepts
-done-reply reply auth accepts = refl
+done-reply : (plan : Plan) (sent : ℕ) (reply : Reply) (auth : ReplyAuth) → IsAcceptance reply → goal_heard plan sent (answer_of_reply reply (Some auth)) ≡ goal_done plan sent reply (Some auth)
+done-reply plan sent (replies.Refused rc) auth accepts = absurd accepts
+done-reply plan sent reply auth accepts = refl
 
 -- a slot's handle stands for no password
 no-password : (handle : ℕ) → IsSlotHandle handle → nat_eq handle rs_pw ≡ false
@@ -201,6 +200,7 @@ module _ (setup : Setup) (is : IsSetup setup) (tables : TableState) (of : IsKept
       (λ right. field-right plan session sent shown.found.found goal-is.handle goal-is.value (last_auth kept.facts) (cp_hash tables.world command) kept.nonce auth nonce driven-same right)
 
   pub nothing-stops : first_stop tables locality command ≡ None
+  unfolding asked
   nothing-stops =
       first-asked tables locality command session.handle asked
       ∙ ap (λ broken. stopped_by broken (room_stop tables command) (own_rule tables command)) broken-none
@@ -237,6 +237,7 @@ module _ (setup : Setup) (is : IsSetup setup) (tables : TableState) (of : IsKept
   answer_area = session_area tables number command reply area entity kept
 
   area-same : reply_auth tables number command reply ≡ Some answer_area
+  unfolding asked
   area-same =
       ap (option_and_then (reply_area tables number command reply)) (shape-area plan.goal area)
       ∙ ap (λ b. if b then Some password_area else option_and_then (λ (e : Entity). option_map (session_area tables number command reply area e) (state_at tables.sessions session.handle)) (authorized_entity tables command)) (no-password session.handle slot)
@@ -272,7 +273,7 @@ module _ (setup : Setup) (is : IsSetup setup) (tables : TableState) (of : IsKept
   heard-served =
       ap (λ (bytes : List ℕ). goal_heard plan sent (answer_of (reply_reading (number_of_code (code_of_command command)) bytes))) bytes-same
       ∙ ap (λ (read : Option (Reply × Option ReplyAuth)). goal_heard plan sent (answer_of read)) reply-reads
-      ∙ ap (goal_heard plan sent) (done-reply reply answer_area (goal-is.reply area).accepts)
+      ∙ done-reply plan sent reply answer_area (goal-is.reply area).accepts
       ∙ ap (λ b. if b then ends.Served (bytes_of_reply reply) else ends.BadReply stages.Goal) (right-area plan sent reply fresh answer_area.hmac hmac-same)
 
 -- ---- the run
