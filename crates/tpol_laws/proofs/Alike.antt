@@ -189,7 +189,7 @@ from-start : (start : ℕ) (bytes : List ℕ) → length bytes ≡ 32 → counte
 from-start start [] whole = absurd (omega (arith, whole))
 from-start start (byte ∷ bytes) whole = refl
 
-pub deadline-same : (start : ℕ) (nonce : Digest32) (expiration : ℤ) → deadline_of start nonce.bytes expiration ≡ deadline_from start expiration
+deadline-same : (start : ℕ) (nonce : Digest32) (expiration : ℤ) → deadline_of start nonce.bytes expiration ≡ deadline_from start expiration
 deadline-same start nonce expiration =
     ap (λ n. if unsigned_abs expiration == 0 then None else Some (n + milliseconds expiration)) (from-start start nonce.bytes nonce.whole)
 
@@ -264,6 +264,10 @@ module _ (kept chosen : SessionState) (alike : AreAlike kept chosen) where
       ∙ ap (λ start. behind_nonce true (deadline_from start expiration) (takes_optional_cp_hash kept.facts cp_hash) time) alike.start
       ∙ ap (λ takes. behind_nonce true (deadline_from chosen.start expiration) takes time) (optional-alike cp_hash)
       ∙ sym (secret-plain chosen time cp_hash expiration)
+
+  pub deadline-alike : (nonce : Digest32) (expiration : ℤ) → deadline_of kept.start nonce.bytes expiration ≡ deadline_of chosen.start chosen.nonce.bytes expiration
+  deadline-alike nonce expiration =
+      deadline-same kept.start nonce expiration ∙ ap (λ start. deadline_from start expiration) alike.start ∙ sym (deadline-same chosen.start chosen.nonce expiration)
 
   pub signed-alike : (nonce : Digest32) → kept.nonce ≡ nonce → (time : ℕ) (cp_hash : Option Digest32) (expiration : ℤ) (right : Bool)
       → policy_signed_rule kept time nonce.bytes cp_hash expiration right ≡ policy_signed_rule chosen time chosen.nonce.bytes cp_hash expiration right

@@ -72,7 +72,7 @@ use Rattle.tpm_engine.specs.Facts.{Moment, moment, shown_by}
 use Rattle.tpm_engine.specs.Stops.{handles_from}
 use Rattle.tpm_engine.specs.Tables.{TableState}
 use Rattle.tpm_engine.proofs.Stopping.{map-none, or_else-none, unless-none}
-use Rattle.tpol_laws.proofs.Alike.{authorize-alike, authorize_nv-alike, code-alike, cp_hash-alike, deadline-same, duplication-alike, locality-alike, name_hash-alike, or-alike, pcr-alike, secret-alike, signed-alike, written-alike}
+use Rattle.tpol_laws.proofs.Alike.{authorize-alike, authorize_nv-alike, code-alike, cp_hash-alike, deadline-alike, duplication-alike, locality-alike, name_hash-alike, or-alike, pcr-alike, secret-alike, signed-alike, written-alike}
 use Rattle.tpol_laws.proofs.Binds.{AreAlike, bind_of}
 use Rattle.tpol_laws.proofs.Finds.{area-written}
 use Rattle.tpol_laws.proofs.Own.{IsOf}
@@ -205,7 +205,7 @@ module _ (setup : Setup) (is : IsSetup setup) (tables : TableState) (of : IsOf s
       let entity = entity-there tables 1 found.handle found.entity seen.there in
       let session = session-there tables 2 own kept slot live in
       let names = name-as-is tables.world found.handle found.entity seen.there ∙ ap (name_of_found name) (sym shown) in
-      let deadlines = deadline-same kept.start nonce expiration ∙ ap _ alike.start ∙ sym (deadline-same chosen.start chosen.nonce expiration) in
+      let deadlines = deadline-alike kept chosen alike nonce expiration in
       record {
         first = policy-unstopped tables locality own kept live few (commands.PolicySecret found.handle own (password_area grants found.handle) nonce.bytes cp_hash policy_ref expiration) 2 refl
             (λ i. or_else (entity i) (or_else (session i) None))
@@ -244,7 +244,7 @@ module _ (setup : Setup) (is : IsSetup setup) (tables : TableState) (of : IsOf s
       let handle = entity-there tables 1 object.handle (Object object) seen.there in
       let session = session-there tables 2 own kept slot live in
       let names = name-as-is tables.world object.handle (Object object) seen.there ∙ seen.named in
-      let deadlines = deadline-same kept.start nonce expiration ∙ ap _ alike.start ∙ sym (deadline-same chosen.start chosen.nonce expiration) in
+      let deadlines = deadline-alike kept chosen alike nonce expiration in
       record {
         first = policy-unstopped tables locality own kept live few (commands.PolicySigned object.handle own nonce.bytes cp_hash policy_ref expiration signature) 2 refl
             (λ i. or_else (handle i) (or_else (session i) None))

@@ -7,6 +7,7 @@ use Rattle.tpol_base.specs.declared.command_code.CommandCode.TheVariants as code
 use Rattle.tpol_base.specs.declared.digest.Digest32.{Digest32}
 use Rattle.tpol_base.specs.declared.name.Name.{Name}
 use Rattle.tpol_base.specs.CommandCode.{number_of_code}
+use Rattle.tpol_base.specs.ResponseCode.{rc_session_memory}
 use Rattle.tpol_choose.specs.Blocks.{block_of, first_block, moves_block, whole_block}
 use Rattle.tpol_choose.specs.Facts.{fact_of_move, fresh_session, session_after, session_along}
 use Rattle.tpol_choose.specs.Goals.{goal_block}
@@ -84,7 +85,7 @@ is-false false h = refl
 
 start-allowed : (tables : TableState) → not (nat_eq (free_count tables.sessions (bits_of tables.saved)) 0) ≡ true → start_rule tables ≡ None
 start-allowed tables h =
-    ap (λ b. unless b _) (some-free (is_free tables.sessions (bits_of tables.saved)) slot_count (is-false (nat_eq (free_count tables.sessions (bits_of tables.saved)) 0) h))
+    ap (λ b. unless b rc_session_memory) (some-free (is_free tables.sessions (bits_of tables.saved)) slot_count (is-false (nat_eq (free_count tables.sessions (bits_of tables.saved)) 0) h))
 
 pub record Begun (run : Run) (first : List Event) : Type 0 where
   pub session : Session
@@ -220,25 +221,25 @@ module _ (run : Run) (is : IsRun run) (first : List Event) (serve : ServesGoal r
   plain-turn : (turns : ℕ) (past : List Event) (session : Session) (sent done number : ℕ) (chosen : SessionState) (act : Move) (rest : List Move) → Left run first past session done number chosen (act ∷ rest) → is_verification None act ≡ false
       → ((later : List Event) → Left run first later session (done + 1) (number + 1) (session_after (sight_after run.setup first) chosen act) rest → ServedAfter run turns (record { past = later; standing = Moving session (sent + 1) None (done + 1) }))
       → ServedAfter run (suc turns) (record { past = past; standing = Moving session sent None done })
-  plain-turn turns past session sent done number chosen act rest left other then =
+  plain-turn turns past session sent done number chosen act rest left other goes =
       let at = next-at run first past session done number chosen (act ∷ rest) left in
       let moved = plain-moved run is first past session sent done chosen left.stands (has-room run first past session done number chosen act rest left past left.stands) act at other
       (all-at MoveHasBounds run.plan.path.moves done act is.moves at) (known-of past session sent done act at) (act-open run first past session done number chosen act rest left) in
       one-turn run turns (record { past = past; standing = Moving session sent None done })
-      (subst (ServedAfter run turns) (sym moved.is) (then moved.past (next-left run first past session done number chosen act rest left moved.past moved.stands)))
+      (subst (ServedAfter run turns) (sym moved.is) (goes moved.past (next-left run first past session done number chosen act rest left moved.past moved.stands)))
 
   approve-turns : (turns : ℕ) (past : List Event) (session : Session) (sent done number : ℕ) (chosen : SessionState) (key : Name) (policy_ref : List ℕ) (approved signature : Digest32) (rest : List Move)
       → Left run first past session done number chosen (Approve key policy_ref approved signature ∷ rest)
       → ((later : List Event) → Left run first later session (done + 1) (number + 1) (session_after (sight_after run.setup first) chosen (Approve key policy_ref approved signature)) rest → ServedAfter run turns (record { past = later; standing = Moving session (sent + 1 + 1) None (done + 1) }))
       → ServedAfter run (suc (suc turns)) (record { past = past; standing = Moving session sent None done })
-  approve-turns turns past session sent done number chosen key policy_ref approved signature rest left then =
+  approve-turns turns past session sent done number chosen key policy_ref approved signature rest left goes =
       let at = next-at run first past session done number chosen (Approve key policy_ref approved signature ∷ rest) left in
       let moved = approve-moved run is first past session sent done chosen left.stands (has-room run first past session done number chosen (Approve key policy_ref approved signature) rest left) key policy_ref approved signature at
       (all-at MoveHasBounds run.plan.path.moves done (Approve key policy_ref approved signature) is.moves at) (known-of past session sent done (Approve key policy_ref approved signature) at)
       (act-open run first past session done number chosen (Approve key policy_ref approved signature) rest left) in
       one-turn run (suc turns) (record { past = past; standing = Moving session sent None done })
       (one-turn run turns (after_act run (record { past = past; standing = Moving session sent None done }) Turn)
-      (subst (ServedAfter run turns) (sym moved.is) (then moved.past (next-left run first past session done number chosen (Approve key policy_ref approved signature) rest left moved.past moved.stands))))
+      (subst (ServedAfter run turns) (sym moved.is) (goes moved.past (next-left run first past session done number chosen (Approve key policy_ref approved signature) rest left moved.past moved.stands))))
 
   moves-served : (rest : List Move) (turns : ℕ) (past : List Event) (session : Session) (sent done number : ℕ) (chosen : SessionState) → Left run first past session done number chosen rest → 2 * length rest + 1 ≤ turns
       → ServedAfter run turns (record { past = past; standing = Moving session sent None done })
@@ -262,11 +263,13 @@ module _ (run : Run) (is : IsRun run) (first : List Event) (serve : ServesGoal r
 
 -- ---- the whole run
 
-path-served : (run : Run) → IsRun run → (first : List Event) → ServesGoal run first → length run.plan.path.moves ≤ 512 → (turns : ℕ)
+pub path-served : (run : Run) → IsRun run → (first : List Event) → ServesGoal run first → length run.plan.path.moves ≤ 512 → (turns : ℕ)
     → first_block run.plan.path (sight_after run.setup first) run.plan.grants run.plan.goal run.locality ≡ None → 2 * length run.plan.path.moves + 2 ≤ turns → ServedAfter run turns (begun first)
 unfolding first_block sight_after
 path-served run is first serve short zero opens enough = absurd (omega (arith, enough))
 path-served run is first serve short (suc turns) opens enough =
+    let room : length {A = Fact} [] + length run.plan.path.moves ≤ 512 = omega (arith, short) in
+    let left : 2 * length run.plan.path.moves + 1 ≤ turns = omega (arith, enough) in
     let parts = or_else-none (whole_block (chooser_of run first).sight run.plan.path.outside) (moves_block (chooser_of run first) 1 (fresh_session (sight_after run.setup first)) run.plan.path.moves) opens in
     let free = unless-none (not (nat_eq (free_count (view_of run.setup first).sessions (bits_of (view_of run.setup first).saved)) 0)) _ (map-none _ _ (or_else-none _ _ parts.0).1) in
     let start = start-moved run first (start-allowed (view_of run.setup first) free) in
@@ -278,5 +281,5 @@ path-served run is first serve short (suc turns) opens enough =
       path = λ k. ap (slice_get run.plan.path.moves) (zero-add k);
       judged = refl;
       opens = parts.1;
-      room = omega (arith, short);
-    }) (omega (arith, enough))))
+      room = room;
+    }) left))

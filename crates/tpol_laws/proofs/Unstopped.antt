@@ -7,7 +7,7 @@ use Rattle.std.proofs.lemmas.Option.{none-some}
 use Rattle.tpol_base.specs.declared.handle.HandleKind.{HandleKind}
 use Rattle.tpol_base.specs.declared.handle.HandleKind.TheVariants as kinds
 use Rattle.tpol_base.specs.Handle.{is_index, is_policy_session, kind_of_handle}
-use Rattle.tpol_base.specs.ResponseCode.{of_handle, rc_handle, rc_reference_h0, rc_reference_s0, reference_of_handle}
+use Rattle.tpol_base.specs.ResponseCode.{of_handle, rc_handle, rc_reference_h0, rc_reference_s0, rc_session_memory, reference_of_handle}
 use Rattle.tpol_driver.specs.Commands.{password_area}
 use Rattle.tpol_goal.specs.declared.grants.Grants.{Grants}
 use Rattle.tpol_goal.specs.Grants.{secret_of}
@@ -102,7 +102,7 @@ module _ (tables : TableState) (locality own : ℕ) (kept : SessionState) (live 
   room-there command place is =
       ap (option_and_then (λ (p : ℕ × ℕ). option_and_then has_room (state_at tables.sessions p.0))) is
       ∙ ap (option_and_then has_room) live
-      ∙ ap (λ b. unless b _) below
+      ∙ ap (λ b. unless b (refuses rc_session_memory)) below
     where
       below : nat_lt (length kept.facts) 512 ≡ true
       below = grind (arith, nat_tests, few)
