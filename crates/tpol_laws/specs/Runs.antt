@@ -1,9 +1,7 @@
 -- Runs as a script begins them.
-use Rattle.std.specs.Prelude.{◌≡◌, ◌≤◌, ◌<◌, ◌^◌, ⊤, true, All, length, map}
+use Rattle.std.specs.Prelude.{◌≡◌, ◌≤◌, true, All, length, map}
 use Rattle.tpol_digest.specs.Laws.{MoveHasBounds}
 use Rattle.tpol_driver.specs.Plans.{is_complete}
-use Rattle.tpol_goal.specs.declared.goal.Goal.{Goal}
-use Rattle.tpol_goal.specs.declared.goal.Goal.TheVariants.{Unseal, Hmac, NvRead, NvWrite, NvIncrement, Duplicate}
 use Rattle.tpol_goal.specs.Goals.{IsGoal, IsGoalAmong}
 use Rattle.tpol_goal.specs.Grants.{IsGrants}
 use Rattle.tpol_name.specs.Directories.{directory_of}
@@ -19,15 +17,6 @@ pub record IsRun (run : Run) : Type 0 where
   pub moves : All MoveHasBounds run.plan.path.moves
   pub complete : is_complete run.plan ≡ true
 
--- an offset of 16 bits, as commands have it
-abbrev pub HasOffset : Goal → Type 0
-HasOffset (Unseal object) = ⊤
-HasOffset (Hmac key buffer) = ⊤
-HasOffset (NvRead index size offset) = offset < 2 ^ 16
-HasOffset (NvWrite index offset bytes) = offset < 2 ^ 16
-HasOffset (NvIncrement index) = ⊤
-HasOffset (Duplicate object parent) = ⊤
-
 -- The same but for the last, and besides: the path has at most 512 moves, and the goal's fields fit into its
 -- command, which is one on the scene's entities.
 pub record IsBegun (run : Run) : Type 0 where
@@ -37,5 +26,4 @@ pub record IsBegun (run : Run) : Type 0 where
   pub moves : All MoveHasBounds run.plan.path.moves
   pub short : length run.plan.path.moves ≤ 512
   pub fits : IsGoal run.plan.goal
-  pub offset : HasOffset run.plan.goal
   pub among : IsGoalAmong (map (λ o. o.handle) run.setup.objects) (map (λ i. i.public.index) run.setup.indices) run.plan.goal

@@ -13,7 +13,7 @@
 //!
 //! `a_path_that_can_is_served`
 //! - `IsBegun.setup`, `IsBegun.grants`: the clauses `setup` and `clients` of `read_scene`.
-//! - `IsBegun.fits`, `IsBegun.offset`, `IsBegun.among`: its clause `script`, for the goal of a run that is begun.
+//! - `IsBegun.fits`, `IsBegun.among`: its clause `script`, for the goal of a run that is begun.
 //! - `IsBegun.directory`, `IsBegun.moves`: as for the laws below.
 //! - `IsBegun.short`: the clause `within` of `check_paths`.
 //! - That nothing blocks the path: for a path that `choose` answers, its clause `chosen`, over the machine's sight
