@@ -1,16 +1,14 @@
--- HMACs by keys whose blocks are one, and what follows for an authorization value and for the area of a command.
-use Rattle.std.proofs.Common.{◌≡◌, ℕ, ◌-◌, ◌≤◌, ◌<◌, true, false, List, [], ◌∷◌, ◌++◌, length, take, replicate, nat_eq, nat_lt, refl, ap, sym, ◌∙◌, arith}
+-- The authorization value whose block as a key is that of no key: it is none.
+use Rattle.std.proofs.Common.{◌≡◌, ℕ, ◌+◌, ◌-◌, ◌≤◌, ◌<◌, ◌==◌, ◌&&◌, ◌||◌, Bool, true, false, List, [], ◌∷◌, ◌++◌, length, map, take, replicate, nat_eq, nat_lt, bit_xor, if◌then◌else◌, refl, ap, sym, subst, ◌∙◌, arith}
 use Rattle.std.specs.Str.{bytes_eq}
 use Rattle.std.specs.List.{suffix_len}
+use Rattle.std.proofs.lemmas.Bool.{eq-eqb, eqb-true, false≢true}
 use Rattle.std.proofs.lemmas.Bool.Decides.{nat_tests}
 use Rattle.std.proofs.Math.Seq.{take-append_seam}
 use Rattle.std.proofs.lemmas.List.{get_or-replicate, length-replicate, take-replicate}
 use Rattle.std.proofs.lemmas.List.Sums.{suffix_len_is}
 use Rattle.std.proofs.lemmas.Slice.Eq.{bytes_eq-Decides}
 use Rattle.tpol_hash.specs.Hmac.{block_key, hmac_sha256}
-
-pub same-mac : (a b text : List ℕ) → block_key a ≡ block_key b → hmac_sha256 a text ≡ hmac_sha256 b text
-same-mac a b text same = rw same refl
 
 -- a short key stands in front of its block
 short-block : (key : List ℕ) → length key ≤ 64 → block_key key ≡ key ++ replicate (64 - length key) 0
@@ -37,11 +35,6 @@ no-value value short trimmed same =
     ∙ take-replicate n 64 0 (omega (arith, short)) in
     let none : n ≡ 0 = sym (zeros-end n) ∙ ap (suffix_len (nat_eq 0)) (sym zeros) ∙ trimmed in
     zeros ∙ ap (λ k. replicate k 0) none
-
--- a value with the block of this key, which is none
-pub value-of-none : (key value : List ℕ) → length key ≡ 0 → length value ≤ 32 → suffix_len (nat_eq 0) value ≡ 0 → block_key key ≡ block_key value → value ≡ []
-value-of-none [] value none short trimmed same = no-value value short trimmed same
-value-of-none (byte ∷ key) value none short trimmed same = absurd (omega (arith, none))
 
 -- bytes are themselves
 pub same-bytes : (bytes : List ℕ) → bytes_eq bytes bytes ≡ true

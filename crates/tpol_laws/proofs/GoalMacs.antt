@@ -1,6 +1,6 @@
 -- The field hmac of the goal's command and that of its reply: where who plans finds the value proved, the machine
 -- finds it too, and the run finds the reply's right.
-use Rattle.std.proofs.Common.{◌≡◌, ◌≤◌, ℕ, ◌&&◌, ◌||◌, Bool, true, false, List, [], ◌∷◌, fold, length, nat_eq, if◌then◌else◌, refl, ap, sym, subst, ◌∙◌, arith}
+use Rattle.std.proofs.Common.{◌≡◌, ◌≤◌, ℕ, ◌==◌, ◌&&◌, ◌||◌, Bool, true, false, List, [], ◌∷◌, ◌++◌, fold, length, nat_eq, if◌then◌else◌, refl, ap, sym, subst, ◌∙◌, arith}
 use Rattle.std.specs.Str.{bytes_eq}
 use Rattle.std.proofs.lemmas.Bool.{eq-eqb}
 use Rattle.std.proofs.lemmas.Bool.Decides.{nat_tests}
@@ -23,6 +23,7 @@ use Rattle.tpol_base.proofs.Digests.{digest_again}
 use Rattle.tpol_choose.specs.Entities.{EntityAt, name_as_is, name_in_directory}
 use Rattle.tpol_choose.specs.Facts.{fact_of_move, session_after, session_along}
 use Rattle.tpol_choose.specs.Goals.{proves as is_planned}
+use Rattle.tpol_choose.specs.Keys.{is_same_block}
 use Rattle.tpol_driver.specs.declared.plan.Plan.{Plan}
 use Rattle.tpol_driver.specs.declared.session.Session.{Session}
 use Rattle.tpol_driver.specs.Commands.{caller_nonce}
@@ -35,9 +36,11 @@ use Rattle.tpol_name.specs.Setups.{IsAuthValue}
 use Rattle.tpol_tree.specs.declared.closed.Assertion.TheVariants as assertions
 use Rattle.tpol_tree.specs.declared.path.Move.{Move}
 use Rattle.tpol_tree.specs.declared.path.Move.TheVariants.{Assert, Or, Approve, ApproveNv}
+use Rattle.tpol_wire.specs.declared.auth_area.ReplyAuth.{ReplyAuth}
 use Rattle.tpol_wire.specs.declared.reply.Reply.{Reply}
 use Rattle.tpol_laws.proofs.Finds.{both}
-use Rattle.tpol_laws.proofs.GoalKeys.{bytes-same, no-value, same-bytes, same-mac}
+use Rattle.tpol_laws.proofs.GoalKeys.{bytes-same, no-value, same-bytes}
+use Rattle.tpol_laws.proofs.SameKeys.{same-mac}
 
 -- ---- what the last PolicyAuthValue or PolicyPassword asks for, of facts and of a path
 
@@ -95,11 +98,11 @@ whole-bytes : (digest : Digest32) → nat_eq (length digest.bytes) 0 ≡ false
 whole-bytes digest = ap (λ n. nat_eq n 0) digest.whole
 
 -- the machine finds right what was made with a key of the same block
-mac-right : (given value : List ℕ) (made_over over : Digest32) (nonce_caller : List ℕ) (known nonce : Digest32) → IsAuthValue value → block_key given ≡ block_key value
+mac-right : (given value : List ℕ) (made_over over : Digest32) (nonce_caller : List ℕ) (known nonce : Digest32) → IsAuthValue value → is_same_block given value ≡ true
     → (nat_eq (length given) 0 ≡ false → made_over ≡ over) → nonce ≡ known
     → is_command_mac value over nonce_caller nonce 0 (unless_empty given (command_mac given made_over nonce_caller known 0)) ≡ true
 mac-right [] value made_over over nonce_caller known nonce is block names same =
-    subst (λ (v : List ℕ). is_command_mac v over nonce_caller nonce 0 [] ≡ true) (sym (no-value value is.size is.trimmed block)) refl
+    subst (λ (v : List ℕ). is_command_mac v over nonce_caller nonce 0 [] ≡ true) (sym (no-value value is.size is.trimmed (bytes-same (block_key []) (block_key value) block))) refl
 mac-right (byte ∷ given) value made_over over nonce_caller known nonce is block names same =
     let key = byte ∷ given in
     let some = some-bytes byte given in
@@ -113,10 +116,10 @@ mac-right (byte ∷ given) value made_over over nonce_caller known nonce is bloc
     ∙ or-true _
 
 -- and its reply's field is the one that a key of the same block gives
-reply-same : (given value : List ℕ) (made over nonce : Digest32) (nonce_caller : List ℕ) → IsAuthValue value → block_key given ≡ block_key value
+reply-same : (given value : List ℕ) (made over nonce : Digest32) (nonce_caller : List ℕ) → IsAuthValue value → is_same_block given value ≡ true
     → reply_hmac lasts.AuthValue value (unless_empty given made) (λ key. reply_mac key over nonce nonce_caller 0) ≡ unless_empty given (reply_mac given over nonce nonce_caller 0)
 reply-same [] value made over nonce nonce_caller is block =
-    subst (λ (v : List ℕ). reply_hmac lasts.AuthValue v [] (λ key. reply_mac key over nonce nonce_caller 0) ≡ []) (sym (no-value value is.size is.trimmed block)) refl
+    subst (λ (v : List ℕ). reply_hmac lasts.AuthValue v [] (λ key. reply_mac key over nonce nonce_caller 0) ≡ []) (sym (no-value value is.size is.trimmed (bytes-same (block_key []) (block_key value) block))) refl
 reply-same (byte ∷ given) value made over nonce nonce_caller is block =
     let some = some-bytes byte given in
     ap (λ b. reply_hmac lasts.AuthValue value (if b then [] else made.bytes) (λ key. reply_mac key over nonce nonce_caller 0)) some
@@ -151,15 +154,15 @@ module _ (plan : Plan) (session : Session) (number : ℕ) (found : EntityAt) (ha
   secret-same = ap (secret_of plan.grants.secrets) handle
 
   -- what an HMAC of who plans says
-  block-same : is_planned plan.grants found lasts.AuthValue ≡ true → block_key (goal_secret plan) ≡ block_key (auth_value_of found.entity)
+  block-same : is_planned plan.grants found lasts.AuthValue ≡ true → is_same_block (goal_secret plan) (auth_value_of found.entity) ≡ true
   block-same planned =
-      ap block_key (sym secret-same) ∙ bytes-same (block_key (secret_of plan.grants.secrets found.handle)) (block_key (auth_value_of found.entity))
-      (both (bytes_eq (block_key (secret_of plan.grants.secrets found.handle)) (block_key (auth_value_of found.entity)))
+      ap (λ (key : List ℕ). is_same_block key (auth_value_of found.entity)) (sym secret-same)
+      ∙ (both (is_same_block (secret_of plan.grants.secrets found.handle) (auth_value_of found.entity))
       (nat_eq (length (secret_of plan.grants.secrets found.handle)) 0 || is_same_name (name_as_is found.handle found.entity) (name_in_directory found.handle found.entity)) planned).0
 
   name-same : is_planned plan.grants found lasts.AuthValue ≡ true → nat_eq (length (goal_secret plan)) 0 ≡ false → is_same_name (name_as_is found.handle found.entity) (name_in_directory found.handle found.entity) ≡ true
   name-same planned some =
-      let parts = both (bytes_eq (block_key (secret_of plan.grants.secrets found.handle)) (block_key (auth_value_of found.entity)))
+      let parts = both (is_same_block (secret_of plan.grants.secrets found.handle) (auth_value_of found.entity))
       (nat_eq (length (secret_of plan.grants.secrets found.handle)) 0 || is_same_name (name_as_is found.handle found.entity) (name_in_directory found.handle found.entity)) planned in
       sym (ap (λ b. b || is_same_name (name_as_is found.handle found.entity) (name_in_directory found.handle found.entity)) (ap (λ (key : List ℕ). nat_eq (length key) 0) secret-same ∙ some)) ∙ parts.1
 
