@@ -42,7 +42,7 @@ use Rattle.tpm_engine.specs.Views.{view_of, world_at}
 use Rattle.tpm_engine.proofs.Stopping.{map-none, or_else-none, unless-none}
 use Rattle.tpol_laws.proofs.Finds.{find-map}
 use Rattle.tpol_laws.proofs.Named.{area}
-use Rattle.tpol_laws.proofs.Step.{areas-same}
+use Rattle.tpol_laws.proofs.Lasting.{areas-same}
 
 -- ---- whether something is found
 

@@ -75,10 +75,9 @@ use Rattle.tpol_laws.proofs.Binds.{AreAlike}
 use Rattle.tpol_laws.proofs.Fit.{session-handle, value-short}
 use Rattle.tpol_laws.proofs.GoalAt.{IsGoalAt, IsNameListed, goal-at}
 use Rattle.tpol_laws.proofs.GoalChecks.{auth-alike, is-proved, no-check}
-use Rattle.tpol_laws.proofs.GoalEntities.{IsKept}
 use Rattle.tpol_laws.proofs.GoalMacs.{asks, auth-along, field-right, hmac-short, reply-right, right-area, unless-short}
 use Rattle.tpol_laws.proofs.GoalShape.{shape-apart, shape-area, shape-code, shape-cp_hash, shape-entity, shape-handles, shape-name_hash, shape-parameters, shape-reply, shape-rule}
-use Rattle.tpol_laws.proofs.GoalWorld.{is-kept}
+use Rattle.tpol_laws.proofs.Lasting.{IsKept, is-kept}
 use Rattle.tpol_laws.proofs.Heard.{IsAcceptance}
 use Rattle.tpol_laws.proofs.Moved.{carried-out, chooser-now, stands-live}
 use Rattle.tpol_laws.proofs.Passing.{client_on}

@@ -57,7 +57,8 @@ use Rattle.tpm_world.specs.Plain.{plain_reply, plain_rule}
 use Rattle.tpm_world.specs.World.{sight_of}
 use Rattle.tpol_laws.proofs.Finds.{names-same}
 use Rattle.tpol_laws.proofs.Fit.{index-kind, object-kind}
-use Rattle.tpol_laws.proofs.GoalEntities.{IsKept, IsThere, index-there, null-there, object-there}
+use Rattle.tpol_laws.proofs.Lasting.{IsKept}
+use Rattle.tpol_laws.proofs.GoalEntities.{IsThere, index-there, null-there, object-there}
 use Rattle.tpol_laws.proofs.Heard.{IsAcceptance}
 use Rattle.tpol_laws.proofs.Named.{mapped}
 

@@ -27,8 +27,9 @@ use Rattle.tpm_nv.specs.Indices.{index_of}
 use Rattle.tpm_rules.specs.Entity.{Index, Object}
 use Rattle.tpm_world.specs.Entities.{entity_at, entity_of_kind, name_at, name_of_entity}
 use Rattle.tpm_world.specs.Objects.{object_of}
-use Rattle.tpm_world.specs.World.{WorldState, sight_of}
+use Rattle.tpm_world.specs.World.{sight_of}
 use Rattle.tpol_laws.proofs.Finds.{find-each, find-map, find-passes}
+use Rattle.tpol_laws.proofs.Lasting.{IsKept, kept}
 use Rattle.tpol_laws.proofs.Named.{mapped}
 use Rattle.tpol_laws.proofs.Own.{object-range}
 use Rattle.tpol_laws.proofs.Seen.{index-range}
@@ -60,16 +61,6 @@ above-indices handle [] high each = tt
 above-indices handle (i ∷ indices) high each =
     let most : i.public.index ≤ 0x01ffffff = each.0.greatest_handle in
     (grind (arith, nat_tests, high, most), above-indices handle indices high each.1)
-
--- ---- the machine's world, which started from a setup
-
--- what never changes of an index: its public area once it is written, and its value
-abbrev pub kept : IndexEntry → NvPublic × List ℕ
-kept entry = (with_written entry.public, entry.auth)
-
-pub record IsKept (setup : Setup) (world : WorldState) : Type 0 where
-  pub objects : world.objects ≡ setup.objects
-  pub indices : map kept world.indices ≡ map kept setup.indices
 
 -- what is at a handle: its Name as it is, the one that the directory lists, and that no rule on handles stops it
 pub record IsThere (setup : Setup) (tables : TableState) (free handle : ℕ) (now listed : Name) : Type 0 where

@@ -16,9 +16,9 @@ mod GoalEntities
 mod GoalKeys
 mod GoalMacs
 mod GoalShape
-mod GoalWorld
 mod Heard
 mod Kept
+mod Lasting
 mod Moved
 mod Named
 mod Own

@@ -2,7 +2,6 @@
 -- keeps it.
 use Rattle.std.proofs.Common.{◌≡◌, ℕ, ◌+◌, ◌<◌, ◌≤◌, true, false, List, [], ◌∷◌, ◌++◌, length, map, not, take, refl, ap, sym, subst, ◌∙◌, add-one, arith}
 use Rattle.std.specs.Prelude.{Option, Some, None, is_some, option_map, slice_get, if◌then◌else◌, ⊤}
-use Rattle.std.specs.Int.{to_be_bytes, w64}
 use Rattle.std.specs.List.{list_all, fold}
 use Rattle.std.proofs.lemmas.List.Elements.{All-from_recursion}
 use Rattle.std.specs.Option.{option_map_or}
@@ -27,7 +26,6 @@ use Rattle.tpol_driver.specs.Plans.{is_known_move}
 use Rattle.tpol_goal.specs.Entities.{object_of_name}
 use Rattle.tpol_hash.specs.Sha256.{sha256_digest}
 use Rattle.tpol_name.specs.declared.entries.DirEntry.{DirEntry}
-use Rattle.tpol_name.specs.declared.entries.IndexEntry.{IndexEntry}
 use Rattle.tpol_name.specs.declared.entries.ObjectEntry.{ObjectEntry}
 use Rattle.tpol_name.specs.declared.setup.Setup.{Setup}
 use Rattle.tpol_name.specs.Directories.{directory_of}
@@ -45,7 +43,6 @@ use Rattle.tpol_wire.specs.Kinds.{Fits, TicketFits}
 use Rattle.tpol_wire.specs.Replies.{FitsReply, spell_reply}
 use Rattle.tpol_wire.specs.ReplyReading.{reply_reading}
 use Rattle.tpol_wire.proofs.ReplyLaws.{reply_read}
-use Rattle.tpm_nv.specs.Indices.{count_after}
 use Rattle.tpm_session.specs.Slots.{IsSlotHandle, handle_of_slot}
 use Rattle.tpm_world.specs.Handles.{area_of}
 use Rattle.tpm_world.specs.Objects.{object_of}
@@ -58,11 +55,11 @@ use Rattle.tpm_world.specs.World.{WorldState}
 use Rattle.tpm_engine.specs.declared.event.Event.{Event}
 use Rattle.tpm_engine.specs.Answers.{first_stop, stopped, succeeding}
 use Rattle.tpm_engine.specs.Calls.{Call, event_by}
-use Rattle.tpm_engine.specs.Deeds.{Deed, Idle, Passes, Shifts, Resets, Extends, Writes, Increments, Starts, Ends as EndsDeed, Restarts, Saves, Loads, Shows, deed_of, plain_deed}
+use Rattle.tpm_engine.specs.Deeds.{Shows, plain_deed}
 use Rattle.tpm_engine.specs.Events.{event_of}
 use Rattle.tpm_engine.specs.Facts.{Moment, Shown}
 use Rattle.tpm_engine.specs.Tables.{TableState}
-use Rattle.tpm_engine.specs.Views.{facts_of, indices_after, indices_of, is_held, moment_of, next_number, view_of, world_at}
+use Rattle.tpm_engine.specs.Views.{facts_of, indices_of, is_held, moment_of, next_number, view_of, world_at}
 use Rattle.tpol_laws.specs.Acts.{Act, Course, Other, Run, Turn, after_act, after_acts, answer_in, begun, event_in, turned}
 use Rattle.tpol_laws.specs.Others.{AreOthersApart, AreSecretsOnWritten, AsksWritten, LeavesAlone, SendsOnWritten, TurnsOnWritten, place_of}
 use Rattle.tpol_laws.specs.Runs.{IsRun}
@@ -72,31 +69,12 @@ use Rattle.tpol_laws.proofs.Calm.{others-stay}
 use Rattle.tpol_laws.proofs.Codes.{HasCode, IsCode, first-coded, policy-own-coded, start-coded, verify-coded}
 use Rattle.tpol_laws.proofs.Finds.{all-at, both as and-both, tests}
 use Rattle.tpol_laws.proofs.Fit.{fits-start, fits-verify, object-handle}
-use Rattle.tpol_laws.proofs.Named.{area, areas-written, object-found}
+use Rattle.tpol_laws.proofs.Lasting.{areas-same}
+use Rattle.tpol_laws.proofs.Named.{object-found}
 use Rattle.tpol_laws.proofs.Own.{IsOf, IsOwn, TicketIsFit, own-is-policy, own-move, rule-passed, ruled}
 use Rattle.tpol_laws.proofs.Starts.{started}
 
 -- ---- the machine's world
-
-deed-areas : (deed : Deed) (indices : List IndexEntry) → map area (indices_after deed indices) ≡ map area indices
-deed-areas Idle indices = refl
-deed-areas (Passes ms) indices = refl
-deed-areas (Shifts on) indices = refl
-deed-areas Resets indices = refl
-deed-areas (Extends pcr digest) indices = refl
-deed-areas (Writes index offset bytes) indices = areas-written index offset bytes indices
-deed-areas (Increments index) indices = areas-written index 0 (to_be_bytes w64 (count_after index indices)) indices
-deed-areas (Starts session) indices = refl
-deed-areas (EndsDeed session) indices = refl
-deed-areas (Restarts session) indices = refl
-deed-areas (Saves session) indices = refl
-deed-areas (Loads session) indices = refl
-deed-areas (Shows session fact) indices = refl
-
-pub areas-same : (setup : Setup) (past : List Event) → map area (indices_of setup past) ≡ map area setup.indices
-unfolding indices_of
-areas-same setup [] = refl
-areas-same setup (event ∷ past) = deed-areas (deed_of event) (indices_of setup past) ∙ areas-same setup past
 
 pub is-of : (setup : Setup) (past : List Event) → IsOf setup (view_of setup past).world
 unfolding view_of world_at
