@@ -58,7 +58,7 @@ module _ (setup : Setup) (is : IsSetup setup) where
   sight : Sight
   sight = first_sight setup
 
-  is-sight : IsSight (first_sight setup)
+  pub is-sight : IsSight (first_sight setup)
   is-sight = record { pcrs = is.pcrs; time = omega (arith, is.time); entities = is.entities }
 
   object-in : (name : Name) (object : ObjectEntry) → object_in_sight (first_sight setup) name ≡ Some object → FoundObject setup name object.handle
@@ -93,7 +93,7 @@ module _ (setup : Setup) (is : IsSetup setup) where
       let it = mapped line_of_index (index_in_sight (first_sight setup) name) entry (index_of_lines (first_sight setup) name is-sight ∙ found) in
       subst (FoundIndex setup name) (ap (λ (e : DirEntry). e.handle) it.gives) (index-in name it.value it.is)
 
-  hierarchy-in : (name : Name) (handle : ℕ) → hierarchy_of_name name ≡ Some handle → FoundHierarchy name handle
+  pub hierarchy-in : (name : Name) (handle : ℕ) → hierarchy_of_name name ≡ Some handle → FoundHierarchy name handle
   hierarchy-in Empty handle h = absurd (none-some handle h)
   hierarchy-in (Handle own) handle h = at (is_hierarchy own) refl h
     where

@@ -13,7 +13,6 @@ use Rattle.std.proofs.lemmas.Option.{none-some, same_Some}
 use Rattle.tpol_base.specs.declared.handle.HandleKind.{HandleKind}
 use Rattle.tpol_base.specs.declared.handle.HandleKind.TheVariants as kinds
 use Rattle.tpol_base.specs.declared.name.Name.{Name}
-use Rattle.tpol_base.specs.declared.name.Name.TheVariants.{Empty, Handle, Hash}
 use Rattle.tpol_base.specs.Attributes.{has_attribute, nv_authread, nv_written}
 use Rattle.tpol_base.specs.Handle.{kind_of_handle, rh_endorsement, rh_lockout, rh_owner}
 use Rattle.tpol_base.specs.Name.{is_same_name}
@@ -30,14 +29,14 @@ use Rattle.tpol_name.specs.declared.entries.ObjectEntry.{ObjectEntry}
 use Rattle.tpol_name.specs.declared.setup.Setup.{Setup}
 use Rattle.tpol_name.specs.Areas.{index_name, object_name, with_written}
 use Rattle.tpol_name.specs.Directories.{directory_of, line_of_index, line_of_object}
-use Rattle.tpol_name.specs.Setups.{IsIndex, IsObject, IsSetup, IsSight, first_sight}
+use Rattle.tpol_name.specs.Setups.{IsIndex, IsObject, IsSetup, first_sight}
 use Rattle.tpm_nv.specs.Indices.{index_of}
 use Rattle.tpm_rules.specs.Entity.{Entity, Hierarchy, Pcr, Object, Index}
 use Rattle.tpm_world.specs.Entities.{entity_at, entity_of_kind, name_at, name_of_entity}
 use Rattle.tpm_world.specs.Objects.{object_of}
 use Rattle.tpm_world.specs.World.{WorldState, sight_of}
 use Rattle.tpol_laws.proofs.Finds.{by-key, find-each, find-map, find-passes, names-same}
-use Rattle.tpol_laws.proofs.Named.{area, mapped}
+use Rattle.tpol_laws.proofs.Named.{area, hierarchy-in, is-sight, mapped}
 use Rattle.tpol_laws.proofs.Own.{IsOf, object-range}
 
 -- ---- handles by their kinds
@@ -111,9 +110,6 @@ keys-areas [] = refl
 keys-areas (e ∷ es) = ap (λ keys. e.public.index ∷ keys) (keys-areas es)
 
 module _ (setup : Setup) (is : IsSetup setup) (world : WorldState) (of : IsOf setup world) (free : ℕ) where
-  is-sight : IsSight (first_sight setup)
-  is-sight = record { pcrs = is.pcrs; time = omega (arith, is.time); entities = is.entities }
-
   first-object : (name : Name) → object_in_sight (sight_of world free) name ≡ object_in_sight (first_sight setup) name
   first-object name = ap (find (λ (object : ObjectEntry). is_same_name (object_name object.public) name)) of.objects
 
@@ -123,7 +119,7 @@ module _ (setup : Setup) (is : IsSetup setup) (world : WorldState) (of : IsOf se
       let each = find-each IsObject (λ (o : ObjectEntry). is_same_name (object_name o.public) name) setup.objects object (recursion_from_All IsObject setup.objects is.entities.each_object) at_first in
       let held = ap (object_of object.handle) of.objects ∙ by-key (λ (o : ObjectEntry). o.handle) (λ o. is_same_name (object_name o.public) name) setup.objects object is.entities.object_handles at_first in
       record {
-        listed = sym (object_of_lines (first_sight setup) name is-sight) ∙ ap (option_map line_of_object) at_first;
+        listed = sym (object_of_lines (first_sight setup) name (is-sight setup is)) ∙ ap (option_map line_of_object) at_first;
         held = held;
         there = object-there world object each.least_handle each.greatest_handle held;
         named = names-same _ _ (find-passes (λ (o : ObjectEntry). is_same_name (object_name o.public) name) setup.objects object at_first);
@@ -150,7 +146,7 @@ module _ (setup : Setup) (is : IsSetup setup) (world : WorldState) (of : IsOf se
       let held = by-key (λ (e : IndexEntry). e.public.index) (λ e. is_same_name (index_name (with_written e.public)) name) world.indices entry distinct found in
       record {
         line = line_of_index it.value;
-        listed = sym (index_of_lines (first_sight setup) name is-sight) ∙ ap (option_map line_of_index) it.is;
+        listed = sym (index_of_lines (first_sight setup) name (is-sight setup is)) ∙ ap (option_map line_of_index) it.is;
         handle = same;
         authority = λ grants. authority-same grants it.value.public entry.public it.gives;
         low = low;
@@ -171,15 +167,6 @@ module _ (setup : Setup) (is : IsSetup setup) (world : WorldState) (of : IsOf se
       at false ea true eb c ec h = subst (λ (n : ℕ). entity_at world n ≡ Some (Hierarchy n (hierarchy_value (sight_of world free) n))) (sym (eqb-true handle rh_endorsement eb)) refl
       at false ea false eb true ec h = subst (λ (n : ℕ). entity_at world n ≡ Some (Hierarchy n (hierarchy_value (sight_of world free) n))) (sym (eqb-true handle rh_lockout ec)) refl
       at false ea false eb false ec h = absurd (false≢true h)
-
-  named-hierarchy : (name : Name) (handle : ℕ) → hierarchy_of_name name ≡ Some handle → is_hierarchy handle ≡ true
-  named-hierarchy Empty handle h = absurd (none-some handle h)
-  named-hierarchy (Handle own) handle h = at (is_hierarchy own) refl h
-    where
-      at : (b : Bool) → is_hierarchy own ≡ b → (if b then Some own else None) ≡ Some handle → is_hierarchy handle ≡ true
-      at true e h = ap is_hierarchy (sym (same_Some _ _ h)) ∙ e
-      at false e h = absurd (none-some handle h)
-  named-hierarchy (Hash digest) handle h = absurd (none-some handle h)
 
   -- the handle that the directory lists
   listed-handle : (name : Name) → entity_of_name (directory_of setup) name
@@ -202,13 +189,13 @@ module _ (setup : Setup) (is : IsSetup setup) (world : WorldState) (of : IsOf se
           → entity_of_name (directory_of setup) name ≡ option_or h (option_or (option_map (λ (o : ObjectEntry). o.handle) o) (option_map (λ (p : NvPublic). p.index) (option_map area i)))
           → option_or (option_map (hierarchy_at (sight_of world free)) h) (option_or (option_map object_at o) (option_map index_at i)) ≡ Some found
           → SeenEntity setup world name found
-      first (Some own) hs o os i is listed e =
-          subst (SeenEntity setup world name) (same_Some _ _ e) (record { listed = listed; there = hierarchy-there own (named-hierarchy name own hs) })
-      first None hs (Some object) os i is listed e =
-          subst (SeenEntity setup world name) (same_Some _ _ e) (record { listed = listed; there = (see-object name object os).there })
-      first None hs None os (Some entry) is listed e =
-          subst (SeenEntity setup world name) (same_Some _ _ e) (record { listed = listed; there = (see-index name entry is).there })
-      first None hs None os None is listed e = absurd (none-some found e)
+      first (Some own) hs o object_is i index_is listed e =
+          subst (SeenEntity setup world name) (same_Some _ _ e) (record { listed = listed; there = hierarchy-there own (hierarchy-in setup is name own hs).is })
+      first None hs (Some object) object_is i index_is listed e =
+          subst (SeenEntity setup world name) (same_Some _ _ e) (record { listed = listed; there = (see-object name object object_is).there })
+      first None hs None object_is (Some entry) index_is listed e =
+          subst (SeenEntity setup world name) (same_Some _ _ e) (record { listed = listed; there = (see-index name entry index_is).there })
+      first None hs None object_is None index_is listed e = absurd (none-some found e)
 
   -- ---- what authorizes the reading of an index
 
