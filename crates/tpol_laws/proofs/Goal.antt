@@ -1,6 +1,6 @@
 -- Before its goal, which nothing blocks, a run is served: the machine stops nothing of the goal's command, and the
 -- run finds the reply's authorization right.
-use Rattle.std.proofs.Common.{◌≡◌, ◌≤◌, ◌<◌, ℕ, ◌+◌, ◌^◌, ◌||◌, ◌++◌, Bool, true, false, List, [], ◌∷◌, length, map, nat_eq, if◌then◌else◌, refl, ap, sym, subst, ◌∙◌, arith}
+use Rattle.std.proofs.Common.{◌≡◌, ◌≤◌, ◌<◌, ℕ, ◌+◌, ◌||◌, ◌++◌, true, false, List, [], length, map, nat_eq, if◌then◌else◌, refl, ap, sym, subst, ◌∙◌, arith}
 use Rattle.std.specs.Prelude.{Option, Some, None, option_map}
 use Rattle.std.specs.Int.{to_be_bytes, w32}
 use Rattle.std.specs.List.{flat_map}
@@ -9,14 +9,13 @@ use Rattle.std.proofs.lemmas.Bool.{eq-eqb, false≢true}
 use Rattle.std.proofs.lemmas.Bool.Decides.{nat_tests}
 use Rattle.std.proofs.lemmas.Option.{none-some}
 use Rattle.tpm_auth.specs.SessionMacs.{reply_mac}
-use Rattle.tpm_bindings.specs.declared.last_auth.LastAuth.{LastAuth}
 use Rattle.tpm_bindings.specs.Facts.{last_auth}
 use Rattle.tpm_bindings.specs.State.{SessionState}
 use Rattle.tpm_engine.specs.declared.event.Event.{Event}
-use Rattle.tpm_engine.specs.Answers.{first_stop, own_rule, reply_to, succeeding}
-use Rattle.tpm_engine.specs.Authorization.{authorized_entity, broken_check, field_of, number_of_command, occasion_of, password_area, reply_area, reply_auth, reply_hmac, session_area}
+use Rattle.tpm_engine.specs.Answers.{first_stop, own_rule, succeeding}
+use Rattle.tpm_engine.specs.Authorization.{authorized_entity, broken_check, field_of, occasion_of, password_area, reply_area, reply_auth, reply_hmac, session_area}
 use Rattle.tpm_engine.specs.Events.{Answered}
-use Rattle.tpm_engine.specs.Stops.{apart_stop, handles_from, has_room, room_stop, session_of_area}
+use Rattle.tpm_engine.specs.Stops.{apart_stop, handles_from, has_room, room_stop}
 use Rattle.tpm_engine.specs.Sights.{sight_after}
 use Rattle.tpm_engine.specs.Tables.{TableState}
 use Rattle.tpm_engine.specs.Views.{next_number, session_state, view_of}
@@ -25,10 +24,9 @@ use Rattle.tpm_rules.specs.declared.checks.Use.{Use}
 use Rattle.tpm_rules.specs.AuthValue.{proves}
 use Rattle.tpm_rules.specs.Checks.{first_broken_check}
 use Rattle.tpm_rules.specs.Entity.{Entity, auth_policy_of, auth_value_of, is_duplicate, is_policy_available, written_state}
-use Rattle.tpm_rules.specs.Rule.{or_else, unless}
+use Rattle.tpm_rules.specs.Rule.{unless}
 use Rattle.tpm_session.specs.Slots.{IsSlotHandle, bits_of, free_count, state_at}
 use Rattle.tpm_world.specs.Entities.{entity_at}
-use Rattle.tpm_world.specs.Handles.{area_of, handles_of, policy_session_of}
 use Rattle.tpm_world.specs.Hashes.{cp_hash, joined_names, name_hash, nonce_of_event, rp_hash}
 use Rattle.tpm_world.specs.Plain.{plain_reply}
 use Rattle.tpm_world.specs.World.{sight_of}
@@ -43,7 +41,7 @@ use Rattle.tpol_choose.specs.declared.block.Why.TheVariants.{Deferred, GoalRule}
 use Rattle.tpol_choose.specs.Blocks.{client_of}
 use Rattle.tpol_choose.specs.Clients.{Client}
 use Rattle.tpol_choose.specs.Facts.{fresh_session}
-use Rattle.tpol_choose.specs.Goals.{Judged, authorization_block, broken_check as planned_check, goal_block, goal_cp_hash as chosen_cp_hash, goal_name_hash, goal_use, judged, judged_block, name_list, own_block, proves as is_planned, goal_command as chosen_command}
+use Rattle.tpol_choose.specs.Goals.{Judged, authorization_block, broken_check as planned_check, goal_block, goal_cp_hash as chosen_cp_hash, goal_use, judged, judged_block, name_list, own_block, proves as is_planned}
 use Rattle.tpol_choose.specs.Moves.{rc_of}
 use Rattle.tpol_driver.specs.declared.end.End.TheVariants as ends
 use Rattle.tpol_driver.specs.declared.end.Stage.TheVariants as stages
@@ -71,20 +69,20 @@ use Rattle.tpol_wire.specs.Commands.{FitsCommand, code_of_command, spell_paramet
 use Rattle.tpol_wire.specs.Replies.{PartsAnswer, parts_of, spell_reply}
 use Rattle.tpol_wire.specs.ReplyReading.{reply_reading}
 use Rattle.tpol_wire.proofs.ReplyLaws.{reply_read}
-use Rattle.tpol_laws.specs.Acts.{Run, answer_in}
+use Rattle.tpol_laws.specs.Acts.{Run}
 use Rattle.tpol_laws.specs.Runs.{IsBegun}
 use Rattle.tpol_laws.proofs.Binds.{AreAlike}
 use Rattle.tpol_laws.proofs.Fit.{session-handle, value-short}
 use Rattle.tpol_laws.proofs.GoalAt.{IsGoalAt, IsNameListed, goal-at}
 use Rattle.tpol_laws.proofs.GoalChecks.{auth-alike, is-proved, no-check}
 use Rattle.tpol_laws.proofs.GoalEntities.{IsKept}
-use Rattle.tpol_laws.proofs.GoalMacs.{asks, auth-along, field, field-right, hmac-short, reply-right, right-area, unless-short}
+use Rattle.tpol_laws.proofs.GoalMacs.{asks, auth-along, field-right, hmac-short, reply-right, right-area, unless-short}
 use Rattle.tpol_laws.proofs.GoalShape.{shape-apart, shape-area, shape-code, shape-cp_hash, shape-entity, shape-handles, shape-name_hash, shape-parameters, shape-reply, shape-rule}
 use Rattle.tpol_laws.proofs.GoalWorld.{is-kept}
 use Rattle.tpol_laws.proofs.Heard.{IsAcceptance}
 use Rattle.tpol_laws.proofs.Moved.{carried-out, chooser-now, stands-live}
 use Rattle.tpol_laws.proofs.Passing.{client_on}
-use Rattle.tpol_laws.proofs.Standing.{IsServed, ServesGoal, Stands, chooser_of, judged_after}
+use Rattle.tpol_laws.proofs.Standing.{ServesGoal, judged_after}
 
 -- ---- what a goal has that nothing blocks
 

@@ -1,6 +1,6 @@
 -- Each goal on a machine: its entity and Names, its own rule, the bounds of its command, and its reply.
-use Rattle.std.proofs.Common.{◌≡◌, ◌≤◌, ◌<◌, ◌⊎◌, inl, inr, ℕ, ◌+◌, ◌^◌, ◌||◌, not, Bool, true, false, cond, List, [], ◌∷◌, ◌++◌, length, map, take, drop, nat_eq, nat_le, nat_lt, zero, suc, slice_index_or, if◌then◌else◌, refl, ap, sym, subst, ◌∙◌, arith, length-append}
-use Rattle.std.specs.Prelude.{⊤, Option, Some, None, find, option_map}
+use Rattle.std.proofs.Common.{◌≡◌, ◌≤◌, ◌<◌, ◌⊎◌, inl, inr, ℕ, ◌+◌, ◌^◌, ◌||◌, Bool, true, false, cond, List, [], ◌∷◌, ◌++◌, length, map, take, drop, nat_eq, nat_le, nat_lt, zero, suc, slice_index_or, if◌then◌else◌, refl, ap, sym, subst, ◌∙◌, arith, length-append}
+use Rattle.std.specs.Prelude.{Option, Some, None, find}
 use Rattle.std.specs.Option.{option_map_or}
 use Rattle.std.specs.List.{Contains, flat_map}
 use Rattle.std.proofs.lemmas.Bool.{eq-eqb, false≢true}
@@ -43,9 +43,9 @@ use Rattle.tpol_wire.specs.Replies.{FitsReply, PartsAnswer, parts_of}
 use Rattle.tpm_engine.specs.Stops.{handle_stop, handles_from}
 use Rattle.tpm_engine.specs.Tables.{TableState}
 use Rattle.tpm_engine.proofs.Stopping.{or_else-none}
-use Rattle.tpm_nv.specs.Indices.{counter_rule, index_of}
+use Rattle.tpm_nv.specs.Indices.{counter_rule}
 use Rattle.tpm_nv.specs.Rules.{read_rule, write_rule}
-use Rattle.tpm_rules.specs.Entity.{Index, Object, auth_value_of}
+use Rattle.tpm_rules.specs.Entity.{auth_value_of}
 use Rattle.tpm_rules.specs.NvAuthority.{nv_authority_rule}
 use Rattle.tpm_rules.specs.Objects.{duplicate_rule, hmac_rule, unseal_rule}
 use Rattle.tpm_rules.specs.Rule.{or_else}
@@ -53,12 +53,11 @@ use Rattle.tpm_world.specs.Duplicate.{sensitive_of}
 use Rattle.tpm_world.specs.Entities.{entity_at, name_at}
 use Rattle.tpm_world.specs.Hashes.{joined_names}
 use Rattle.tpm_world.specs.Missing.{missing_index, missing_object}
-use Rattle.tpm_world.specs.Objects.{object_of}
 use Rattle.tpm_world.specs.Plain.{plain_reply, plain_rule}
 use Rattle.tpm_world.specs.World.{sight_of}
 use Rattle.tpol_laws.proofs.Finds.{names-same}
 use Rattle.tpol_laws.proofs.Fit.{index-kind, object-kind}
-use Rattle.tpol_laws.proofs.GoalEntities.{IsIndexAt, IsKept, IsObjectAt, IsThere, index-there, null-there, object-there}
+use Rattle.tpol_laws.proofs.GoalEntities.{IsKept, IsThere, index-there, null-there, object-there}
 use Rattle.tpol_laws.proofs.Heard.{IsAcceptance}
 use Rattle.tpol_laws.proofs.Named.{mapped}
 

@@ -3,7 +3,6 @@ use Rattle.std.proofs.Common.{◌≡◌, ℕ, ◌&&◌, ◌||◌, not, Bool, tru
 use Rattle.std.specs.Bool.{beq}
 use Rattle.std.specs.List.{list_all}
 use Rattle.std.specs.Str.{bytes_eq}
-use Rattle.tpol_base.specs.declared.check.Check.{Check}
 use Rattle.tpol_base.specs.declared.check.Check.TheVariants.{PcrChanged, PolicyFail, Expired, CommandCode, RoleNeedsCode, Locality, Presence, Hashes, NvWritten, AuthValue}
 use Rattle.tpol_tree.specs.declared.facts.Fact.{Fact}
 use Rattle.tpm_bindings.specs.declared.last_auth.LastAuth.{LastAuth}

@@ -1,6 +1,6 @@
 -- What there is at the handles of a goal: what a sight shows and a directory lists is what the machine finds there.
-use Rattle.std.proofs.Common.{◌≡◌, ◌≤◌, ◌<◌, ℕ, ◌/◌, ◌^◌, ◌+◌, Bool, true, false, cond, List, [], ◌∷◌, length, map, nat_eq, nat_lt, if◌then◌else◌, refl, ap, sym, subst, ◌∙◌, arith}
-use Rattle.std.specs.Prelude.{Option, Some, None, find, is_some, option_map, unwrap_or}
+use Rattle.std.proofs.Common.{◌≡◌, ◌≤◌, ◌<◌, ℕ, Bool, false, cond, List, [], ◌∷◌, length, map, nat_eq, refl, ap, sym, subst, ◌∙◌, arith}
+use Rattle.std.specs.Prelude.{Option, Some, None, find, option_map, unwrap_or}
 use Rattle.std.specs.Option.{option_or}
 use Rattle.std.specs.List.{AllByRecursion}
 use Rattle.std.proofs.lemmas.Bool.{eqb-true}
@@ -24,7 +24,7 @@ use Rattle.tpm_engine.specs.Stops.{handle_stop}
 use Rattle.tpm_engine.specs.Tables.{TableState}
 use Rattle.tpm_engine.proofs.Stopping.{map-none}
 use Rattle.tpm_nv.specs.Indices.{index_of}
-use Rattle.tpm_rules.specs.Entity.{Entity, Index, Object}
+use Rattle.tpm_rules.specs.Entity.{Index, Object}
 use Rattle.tpm_world.specs.Entities.{entity_at, entity_of_kind, name_at, name_of_entity}
 use Rattle.tpm_world.specs.Objects.{object_of}
 use Rattle.tpm_world.specs.World.{WorldState, sight_of}
