@@ -44,11 +44,13 @@ use Rattle.tpm_engine.specs.Tables.{TableState}
 use Rattle.tpm_engine.specs.Views.{next_number, session_state, time_of, view_of, world_at}
 use Rattle.tpm_engine.proofs.Stopping.{map-none, or_else-none, unless-none}
 use Rattle.tpol_laws.specs.Acts.{Act, Course, Run, Turn, after_act, after_acts, answer_in, begun, event_in}
-use Rattle.tpol_laws.specs.Runs.{IsRun}
+use Rattle.tpol_laws.specs.Runs.{IsBegun, IsRun}
 use Rattle.tpol_laws.proofs.Answered.{done-deed, done-use, read-back}
 use Rattle.tpol_laws.proofs.Approved.{approve-moved}
+use Rattle.tpol_laws.proofs.Complete.{open-complete}
 use Rattle.tpol_laws.proofs.Finds.{all-at}
 use Rattle.tpol_laws.proofs.Fit.{fits-start}
+use Rattle.tpol_laws.proofs.Goal.{serves-goal}
 use Rattle.tpol_laws.proofs.Kept.{Held, begins}
 use Rattle.tpol_laws.proofs.Moved.{Moved, after_sent, carried-out, plain-moved, turn-sends}
 use Rattle.tpol_laws.proofs.Standing.{AreAlike, ServesGoal, Stands, bind_of, chooser_of, judged_after}
@@ -263,19 +265,27 @@ module _ (run : Run) (is : IsRun run) (first : List Event) (serve : ServesGoal r
 
 -- ---- the whole run
 
-pub path-served : (run : Run) → IsRun run → (first : List Event) → ServesGoal run first → length run.plan.path.moves ≤ 512 → (turns : ℕ)
+pub path-served : (run : Run) (first : List Event) (turns : ℕ) → IsBegun run
     → first_block run.plan.path (sight_after run.setup first) run.plan.grants run.plan.goal run.locality ≡ None → 2 * length run.plan.path.moves + 2 ≤ turns → ServedAfter run turns (begun first)
 unfolding first_block sight_after
-path-served run is first serve short zero opens enough = absurd (omega (arith, enough))
-path-served run is first serve short (suc turns) opens enough =
+path-served run first zero is opens enough = absurd (omega (arith, enough))
+path-served run first (suc turns) is opens enough =
+    let short : length run.plan.path.moves ≤ 512 = is.short in
     let room : length {A = Fact} [] + length run.plan.path.moves ≤ 512 = omega (arith, short) in
     let left : 2 * length run.plan.path.moves + 1 ≤ turns = omega (arith, enough) in
+    let runs : IsRun run = record {
+      setup = is.setup;
+      directory = is.directory;
+      grants = is.grants;
+      moves = is.moves;
+      complete = open-complete run.setup first run.plan run.locality is.setup is.directory opens;
+    } in
     let parts = or_else-none (whole_block (chooser_of run first).sight run.plan.path.outside) (moves_block (chooser_of run first) 1 (fresh_session (sight_after run.setup first)) run.plan.path.moves) opens in
     let free = unless-none (not (nat_eq (free_count (view_of run.setup first).sessions (bits_of (view_of run.setup first).saved)) 0)) _ (map-none _ _ (or_else-none _ _ parts.0).1) in
     let start = start-moved run first (start-allowed (view_of run.setup first) free) in
     one-turn run turns (begun first)
     (subst (ServedAfter run turns) (sym start.moved.is)
-    (moves-served run is first serve run.plan.path.moves turns start.moved.past start.session 1 0 1 (fresh_session (sight_after run.setup first))
+    (moves-served run runs first (serves-goal run is first) run.plan.path.moves turns start.moved.past start.session 1 0 1 (fresh_session (sight_after run.setup first))
     (record {
       stands = start.moved.stands;
       path = λ k. ap (slice_get run.plan.path.moves) (zero-add k);
