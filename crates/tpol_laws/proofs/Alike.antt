@@ -1,10 +1,8 @@
 -- Sessions that rules cannot tell apart: the same rules hold of both.
-use Rattle.std.proofs.Common.{◌≡◌, ℕ, ◌+◌, ◌*◌, ◌==◌, ◌&&◌, ◌||◌, not, Bool, true, false, List, [], ◌∷◌, ◌++◌, fold, map, length, nat_eq, nat_le, bit_and, unsigned_abs, refl, ap, sym, ◌∙◌, arith}
+use Rattle.std.proofs.Common.{◌≡◌, ℕ, ◌+◌, ◌==◌, ◌&&◌, ◌||◌, not, Bool, true, List, [], ◌∷◌, ◌++◌, fold, map, length, nat_eq, bit_and, unsigned_abs, refl, ap, sym, ◌∙◌, arith}
 use Rattle.std.specs.Prelude.{ℤ, Option, Some, None, if◌then◌else◌}
 use Rattle.std.specs.Bool.{beq}
 use Rattle.std.specs.List.{list_any}
-use Rattle.std.specs.Str.{bytes_eq}
-use Rattle.std.proofs.lemmas.List.{map-append}
 use Rattle.std.proofs.lemmas.Slice.Eq.{bytes_eq-Decides}
 use Rattle.tpol_base.specs.declared.digest.Digest32.{Digest32}
 use Rattle.tpol_base.specs.ResponseCode.{of_parameter, rc_command_code, rc_cphash, rc_expired, rc_hash, rc_nonce, rc_nv_uninitialized, rc_pcr_changed, rc_range, rc_signature, rc_value}
@@ -18,7 +16,6 @@ use Rattle.tpol_tree.specs.declared.facts.Fact.{Fact}
 use Rattle.tpol_tree.specs.declared.path.Move.{Move}
 use Rattle.tpol_tree.specs.declared.path.Move.TheVariants.{Assert, Or, Approve, ApproveNv}
 use Rattle.tpm_bindings.specs.declared.last_auth.LastAuth.{LastAuth}
-use Rattle.tpm_bindings.specs.declared.last_auth.LastAuth.TheVariants.{Neither}
 use Rattle.tpm_bindings.specs.Facts.{auth_in, auths_of, code_in, codes_of, cp_hash_in, cp_hashes_of, deadlines_of, in_assertion, is_pcr, is_presence, limits_of, localities_of, locality_in, moves_of, name_hash_in, name_hashes_of, parent_hash_in, parent_hashes_of, same_digest, written_in, written_of}
 use Rattle.tpm_bindings.specs.Held.{all_are, any_of, each_of, listed}
 use Rattle.tpm_bindings.specs.State.{SessionState}

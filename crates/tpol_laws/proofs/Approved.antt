@@ -1,5 +1,5 @@
 -- The two turns of an approval: it is verified, and then made with its ticket.
-use Rattle.std.proofs.Common.{◌≡◌, ◌<◌, ℕ, ◌+◌, true, false, List, [], ◌∷◌, ◌++◌, length, refl, ap, sym, subst, ◌∙◌}
+use Rattle.std.proofs.Common.{◌≡◌, ◌<◌, ℕ, ◌+◌, true, List, ◌∷◌, length, refl, ap, sym, subst, ◌∙◌}
 use Rattle.std.specs.Prelude.{Option, Some, None, option_map, slice_get}
 use Rattle.std.specs.Option.{option_map_or}
 use Rattle.std.proofs.lemmas.Option.{none-some, same_Some}
@@ -14,22 +14,20 @@ use Rattle.tpol_choose.specs.Moves.{approve_block, is_approved_by}
 use Rattle.tpol_digest.specs.Laws.{MoveHasBounds}
 use Rattle.tpol_driver.specs.declared.session.Session.{Session}
 use Rattle.tpol_driver.specs.Answers.{answer_of}
-use Rattle.tpol_driver.specs.Commands.{command_of_move, key_handle, or_null}
+use Rattle.tpol_driver.specs.Commands.{command_of_move, or_null}
 use Rattle.tpol_driver.specs.Driving.{Moving, Standing, goes_on, move_heard}
 use Rattle.tpol_driver.specs.Plans.{is_known_move}
-use Rattle.tpol_goal.specs.Entities.{object_in_sight, object_of_name}
-use Rattle.tpol_hash.specs.Sha256.{sha256_digest}
+use Rattle.tpol_goal.specs.Entities.{object_in_sight}
 use Rattle.tpol_name.specs.declared.entries.DirEntry.{DirEntry}
 use Rattle.tpol_name.specs.declared.entries.ObjectEntry.{ObjectEntry}
 use Rattle.tpol_name.specs.Directories.{directory_of, line_of_object}
-use Rattle.tpol_tree.specs.declared.path.Move.{Move}
 use Rattle.tpol_tree.specs.declared.path.Move.TheVariants.{Approve}
 use Rattle.tpol_wire.specs.declared.auth_area.ReplyAuth.{ReplyAuth}
 use Rattle.tpol_wire.specs.declared.command.Command.{Command}
 use Rattle.tpol_wire.specs.declared.command.Command.TheVariants as commands
 use Rattle.tpol_wire.specs.declared.reply.Reply.{Reply}
 use Rattle.tpol_wire.specs.declared.ticket.Ticket.{Ticket}
-use Rattle.tpol_wire.specs.Commands.{FitsCommand, code_of_command, spelling}
+use Rattle.tpol_wire.specs.Commands.{spelling}
 use Rattle.tpol_wire.specs.Kinds.{TicketFits}
 use Rattle.tpol_wire.specs.ReplyReading.{reply_reading}
 use Rattle.tpm_auth.specs.Signatures.{signature_of}
@@ -43,9 +41,9 @@ use Rattle.tpm_world.specs.Entities.{entity_at}
 use Rattle.tpm_world.specs.Objects.{object_of}
 use Rattle.tpm_world.specs.Missing.{missing_object}
 use Rattle.tpm_world.specs.VerifySignature as verification
-use Rattle.tpm_world.specs.World.{WorldState, sight_of}
+use Rattle.tpm_world.specs.World.{WorldState}
 use Rattle.tpm_engine.specs.declared.event.Event.{Event}
-use Rattle.tpm_engine.specs.Answers.{first_stop, succeeding}
+use Rattle.tpm_engine.specs.Answers.{first_stop}
 use Rattle.tpm_engine.specs.Deeds.{Idle, deed_of, use_of}
 use Rattle.tpm_engine.specs.Events.{Answered, event_of}
 use Rattle.tpm_engine.specs.Sights.{sight_after}

@@ -1,7 +1,6 @@
 -- What becomes of the world and of a session's state by an event of a run: a session starts, is shown a fact, or
 -- nothing is done.
-use Rattle.std.proofs.Common.{◌≡◌, ℕ, Bool, true, List, [], ◌∷◌, ◌++◌, Option, None, Some, if◌then◌else◌, refl, ap, ◌∙◌}
-use Rattle.tpol_base.specs.declared.digest.Digest32.{Digest32}
+use Rattle.std.proofs.Common.{◌≡◌, ℕ, Bool, true, List, [], ◌∷◌, Option, None, if◌then◌else◌, refl, ap, ◌∙◌}
 use Rattle.tpol_name.specs.declared.setup.Setup.{Setup}
 use Rattle.tpol_tree.specs.declared.facts.Fact.{Fact}
 use Rattle.tpm_bindings.specs.State.{SessionState}
@@ -10,7 +9,7 @@ use Rattle.tpm_world.specs.Hashes.{nonce_of_event}
 use Rattle.tpm_world.specs.World.{WorldState, world_of}
 use Rattle.tpm_engine.specs.declared.event.Event.{Event}
 use Rattle.tpm_engine.specs.Deeds.{Deed, Idle, Shows, SessionUse, Starts, deed_of, use_of}
-use Rattle.tpm_engine.specs.Facts.{Moment, moment}
+use Rattle.tpm_engine.specs.Facts.{Moment}
 use Rattle.tpm_engine.specs.Views.{counter_after, counter_of, counter_used, facts_after, facts_of, facts_used, held_after, held_used, indices_after, indices_of, is_held, moment_of, next_number, nonce_after, nonce_of, nonce_used, pcrs_after, pcrs_of, presence_after, presence_of, reset_count_after, reset_count_of, restart_count_after, restart_count_of, sequence_after, sequence_of, session_state, start_after, start_of, time_after, time_of, world_at}
 use Rattle.tpol_laws.proofs.After.{same-number}
 

@@ -1,56 +1,44 @@
 -- One turn of a run that stands where its chooser does: its session starts, an approval is verified, a move is made.
-use Rattle.std.proofs.Common.{◌≡◌, ◌<◌, ◌≤◌, ◌-◌, ℕ, zero, suc, ◌+◌, Bool, true, false, not, List, [], ◌∷◌, ◌++◌, length, map, nat_eq, nat_le, nat_lt, refl, ap, sym, subst, ◌∙◌, arith}
-use Rattle.std.specs.Prelude.{Option, Some, None, is_some, option_map, slice_get, if◌then◌else◌}
-use Rattle.std.specs.Option.{option_map_or, option_or}
-use Rattle.std.proofs.lemmas.Bool.{false≢true}
+use Rattle.std.proofs.Common.{◌≡◌, ◌<◌, ◌≤◌, ◌-◌, ℕ, ◌+◌, true, false, List, [], ◌∷◌, ◌++◌, length, nat_le, nat_lt, refl, ap, sym, subst, ◌∙◌, arith}
+use Rattle.std.specs.Prelude.{Option, Some, None, slice_get, if◌then◌else◌}
+use Rattle.std.specs.Option.{option_map_or}
 use Rattle.std.proofs.lemmas.Bool.Decides.{nat_tests}
 use Rattle.std.proofs.lemmas.List.{map-append}
 use Rattle.std.proofs.lemmas.Option.{none-some}
-use Rattle.tpol_base.specs.declared.command_code.CommandCode.TheVariants as codes
-use Rattle.tpol_base.specs.declared.digest.Digest32.{Digest32}
-use Rattle.tpol_base.specs.declared.name.Name.{Name}
 use Rattle.tpol_base.specs.CommandCode.{number_of_code}
-use Rattle.tpol_choose.specs.Blocks.{client_of}
 use Rattle.tpol_choose.specs.Clients.{Client}
-use Rattle.tpol_choose.specs.Facts.{counter_after, fact_of_move, fresh_session, session_after}
-use Rattle.tpol_choose.specs.Moves.{approve_block, is_approved_by, move_block}
+use Rattle.tpol_choose.specs.Facts.{counter_after, fact_of_move, session_after}
+use Rattle.tpol_choose.specs.Moves.{move_block}
 use Rattle.tpol_digest.specs.Laws.{MoveHasBounds}
 use Rattle.tpol_driver.specs.declared.session.Session.{Session}
 use Rattle.tpol_driver.specs.Answers.{answer_of}
-use Rattle.tpol_driver.specs.Commands.{command_of_move, key_handle, start_command}
-use Rattle.tpol_driver.specs.Driving.{Moving, Standing, Starting, goes_on, heard_on_path, is_verification, move_heard, next_command, sends, start_heard}
+use Rattle.tpol_driver.specs.Commands.{command_of_move}
+use Rattle.tpol_driver.specs.Driving.{Moving, Standing, goes_on, heard_on_path, is_verification, move_heard, next_command}
 use Rattle.tpol_driver.specs.Plans.{is_known_move}
-use Rattle.tpol_goal.specs.Entities.{object_in_sight, object_of_name}
 use Rattle.tpol_name.specs.declared.entries.DirEntry.{DirEntry}
-use Rattle.tpol_name.specs.declared.entries.ObjectEntry.{ObjectEntry}
-use Rattle.tpol_name.specs.declared.setup.Setup.{Setup}
 use Rattle.tpol_name.specs.declared.sight.Sight.{Sight}
 use Rattle.tpol_name.specs.Directories.{directory_of}
 use Rattle.tpol_tree.specs.declared.closed.Assertion.TheVariants.{Secret, Signed}
 use Rattle.tpol_tree.specs.declared.facts.Fact.{Fact}
 use Rattle.tpol_tree.specs.declared.path.Move.{Move}
-use Rattle.tpol_tree.specs.declared.path.Move.TheVariants.{Assert, Or, Approve, ApproveNv}
-use Rattle.tpol_wire.specs.declared.auth_area.ReplyAuth.{ReplyAuth}
+use Rattle.tpol_tree.specs.declared.path.Move.TheVariants.{Assert}
 use Rattle.tpol_wire.specs.declared.command.Command.{Command}
-use Rattle.tpol_wire.specs.declared.command.Command.TheVariants as commands
-use Rattle.tpol_wire.specs.declared.reply.Reply.{Reply}
 use Rattle.tpol_wire.specs.declared.ticket.Ticket.{Ticket}
 use Rattle.tpol_wire.specs.Commands.{FitsCommand, code_of_command, spelling}
 use Rattle.tpol_wire.specs.ReplyReading.{reply_reading}
 use Rattle.tpm_bindings.specs.Facts.{is_pcr}
 use Rattle.tpm_bindings.specs.State.{SessionState}
 use Rattle.tpm_session.specs.Kept.{counter_after as first_counter, with_fact}
-use Rattle.tpm_session.specs.Slots.{IsSlotHandle, bits_of, first_handle, free_count, slot_count, state_at}
+use Rattle.tpm_session.specs.Slots.{IsSlotHandle, bits_of, free_count, state_at}
 use Rattle.tpm_world.specs.Handles.{area_of, is_policy_command}
 use Rattle.tpm_world.specs.World.{WorldState}
 use Rattle.tpm_engine.specs.declared.event.Event.{Event}
 use Rattle.tpm_engine.specs.Answers.{first_stop, succeeding}
-use Rattle.tpm_engine.specs.Deeds.{Deed, Shows, deed_of, plain_deed, use_of}
+use Rattle.tpm_engine.specs.Deeds.{Shows, deed_of, plain_deed, use_of}
 use Rattle.tpm_engine.specs.Events.{Answered, event_of}
-use Rattle.tpm_engine.specs.Facts.{Moment, Shown}
+use Rattle.tpm_engine.specs.Facts.{Shown}
 use Rattle.tpm_engine.specs.Sights.{sight_after}
-use Rattle.tpm_engine.specs.Tables.{TableState}
-use Rattle.tpm_engine.specs.Views.{is_held, live_at, live_slot, next_number, sequence_of, session_state, view_of, world_at}
+use Rattle.tpm_engine.specs.Views.{live_at, live_slot, next_number, session_state, view_of, world_at}
 use Rattle.tpm_engine.proofs.Lookups.{content-table, is_slot_handle}
 use Rattle.tpol_laws.specs.Acts.{Course, Run, Turn, after_act, answer_in, event_in}
 use Rattle.tpol_laws.specs.Runs.{IsRun}

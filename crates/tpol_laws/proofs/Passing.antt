@@ -1,6 +1,6 @@
 -- What nothing blocks for a chooser the machine carries out: each kind of move, by its command, and the fact that
 -- the session is shown binds what the chooser's does.
-use Rattle.std.proofs.Common.{◌≡◌, ◌<◌, ◌≤◌, ℕ, Bool, true, false, List, [], ◌∷◌, ◌++◌, length, refl, ap, sym, subst, ◌∙◌}
+use Rattle.std.proofs.Common.{◌≡◌, ◌<◌, ℕ, true, false, List, [], ◌∷◌, length, refl, ap, sym, subst, ◌∙◌}
 use Rattle.std.specs.Prelude.{ℤ, Option, Some, None, option_map, unwrap_or}
 use Rattle.std.specs.Option.{option_map_or}
 use Rattle.std.proofs.lemmas.Bool.{false≢true}
@@ -12,18 +12,17 @@ use Rattle.tpol_base.specs.declared.compare.Compare.{Compare}
 use Rattle.tpol_base.specs.declared.digest.Digest32.{Digest32}
 use Rattle.tpol_base.specs.declared.name.Name.{Name}
 use Rattle.tpol_base.specs.CommandCode.{number_of_code}
-use Rattle.tpol_choose.specs.declared.block.Why.{Why}
 use Rattle.tpol_choose.specs.Clients.{Client}
 use Rattle.tpol_choose.specs.Entities.{EntityAt, entity_of_name as entity_at_name}
 use Rattle.tpol_choose.specs.Facts.{fact_of_move, name_of_found}
 use Rattle.tpol_choose.specs.Keys.{is_same_block}
-use Rattle.tpol_choose.specs.Moves.{answered, approve_block, assertion_block, index_block, move_block, password_rule, reader_of, reading_rule, secret_block, signed_block, signing_block}
+use Rattle.tpol_choose.specs.Moves.{answered, assertion_block, index_block, move_block, password_rule, reader_of, reading_rule, secret_block, signed_block, signing_block}
 use Rattle.tpol_digest.proofs.Digests.{same_digest as digest-same}
-use Rattle.tpol_driver.specs.Commands.{command_of_assertion, command_of_move, entity_handle, index_authority, index_handle, key_handle, key_of, optional_bytes, or_null, password_area}
+use Rattle.tpol_driver.specs.Commands.{command_of_assertion, command_of_move, index_authority, index_handle, key_of, optional_bytes, or_null, password_area}
 use Rattle.tpol_driver.specs.Driving.{is_verification}
 use Rattle.tpol_goal.specs.declared.goal.Goal.{Goal}
 use Rattle.tpol_goal.specs.declared.grants.Grants.{Grants}
-use Rattle.tpol_goal.specs.Entities.{entity_of_name, index_in_sight, index_of_name, object_in_sight, object_of_name}
+use Rattle.tpol_goal.specs.Entities.{index_in_sight, object_in_sight}
 use Rattle.tpol_goal.specs.Grants.{authority, granted, secret_of}
 use Rattle.tpol_name.specs.declared.entries.DirEntry.{DirEntry}
 use Rattle.tpol_name.specs.declared.entries.IndexEntry.{IndexEntry}
@@ -39,18 +38,15 @@ use Rattle.tpol_tree.specs.declared.path.Move.{Move}
 use Rattle.tpol_tree.specs.declared.path.Move.TheVariants.{Assert, Or, Approve, ApproveNv}
 use Rattle.tpol_wire.specs.declared.command.Command.{Command}
 use Rattle.tpol_wire.specs.declared.command.Command.TheVariants as commands
-use Rattle.tpol_wire.specs.declared.ticket.Ticket.{Ticket}
 use Rattle.tpm_auth.specs.Signatures.{signature_of, signed_hash}
 use Rattle.tpm_auth.specs.Tickets.{verified_ticket}
 use Rattle.tpm_bindings.specs.Merged.{fact_of}
 use Rattle.tpm_bindings.specs.State.{SessionState}
-use Rattle.tpm_nv.specs.Indices.{index_of}
 use Rattle.tpm_pcr.specs.Pcrs.{selection_digest}
 use Rattle.tpm_policy.specs.Judgments.{cp_hash_bytes, is_approval_ticket, is_signature}
-use Rattle.tpm_rules.specs.declared.outcome.Denial.{Denial}
 use Rattle.tpm_rules.specs.Entity.{Entity, Index, Object}
 use Rattle.tpm_rules.specs.NvAuthority.{nv_authority_rule}
-use Rattle.tpm_rules.specs.Objects.{signing_key_rule, verify_signature_rule}
+use Rattle.tpm_rules.specs.Objects.{signing_key_rule}
 use Rattle.tpm_rules.specs.Password.{password_denial}
 use Rattle.tpm_rules.specs.PolicyAuthorize.{approval_hash, policy_authorize_rule}
 use Rattle.tpm_rules.specs.PolicyAuthorizeNv.{policy_authorize_nv_rule}
@@ -63,10 +59,8 @@ use Rattle.tpm_session.specs.Slots.{IsSlotHandle, state_at}
 use Rattle.tpm_world.specs.Entities.{entity_at, name_at}
 use Rattle.tpm_world.specs.Hashes.{proof_of}
 use Rattle.tpm_world.specs.Missing.{missing_index, missing_object}
-use Rattle.tpm_world.specs.Objects.{object_of}
 use Rattle.tpm_world.specs.VerifySignature as verification
 use Rattle.tpm_world.specs.World.{WorldState, sight_of}
-use Rattle.tpm_engine.specs.declared.stop.Stop.{Stop}
 use Rattle.tpm_engine.specs.Answers.{first_stop}
 use Rattle.tpm_engine.specs.Facts.{Moment, moment, shown_by}
 use Rattle.tpm_engine.specs.Stops.{handles_from}
@@ -78,7 +72,7 @@ use Rattle.tpol_laws.proofs.Finds.{area-written}
 use Rattle.tpol_laws.proofs.Own.{IsOf}
 use Rattle.tpol_laws.proofs.SameKeys.{same-mac}
 use Rattle.tpol_laws.proofs.Seen.{ReadBy, SeenEntity, SeenIndex, SeenObject, name-as-is, read-by, see-entity, see-index, see-object}
-use Rattle.tpol_laws.proofs.Unstopped.{entity-there, no-session, password-passes, plain-unstopped, policy-unstopped, session-there, unstopped}
+use Rattle.tpol_laws.proofs.Unstopped.{entity-there, password-passes, plain-unstopped, policy-unstopped, session-there}
 
 -- nothing stops the command, and the session is shown a fact that binds what the move does
 pub record Passes (tables : TableState) (locality own : ℕ) (kept : SessionState) (client : Client) (chosen : SessionState) (act : Move) (command : Command) : Type 0 where

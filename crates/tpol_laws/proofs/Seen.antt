@@ -1,6 +1,6 @@
 -- The entities that a sight shows are those that the directory lists and that the machine has by their handles.
-use Rattle.std.proofs.Common.{◌≡◌, ◌≤◌, ℕ, ◌+◌, ◌*◌, ◌^◌, ◌/◌, ◌||◌, ◌&&◌, not, Bool, true, false, List, [], ◌∷◌, map, nat_eq, nat_lt, refl, ap, sym, subst, ◌∙◌, arith}
-use Rattle.std.specs.Prelude.{Option, Some, None, find, option_map, bit_and, bit_or, if◌then◌else◌}
+use Rattle.std.proofs.Common.{◌≡◌, ◌≤◌, ℕ, ◌*◌, ◌^◌, ◌/◌, ◌||◌, ◌&&◌, not, Bool, true, false, List, [], ◌∷◌, map, nat_eq, nat_lt, refl, ap, sym, subst, ◌∙◌, arith}
+use Rattle.std.specs.Prelude.{Option, Some, None, find, option_map, bit_or, if◌then◌else◌}
 use Rattle.std.specs.Int.{bit_at}
 use Rattle.std.specs.Int.Bits.{or_add_and}
 use Rattle.std.specs.List.{IsDistinct}
@@ -17,7 +17,6 @@ use Rattle.tpol_base.specs.declared.name.Name.TheVariants.{Empty, Handle, Hash}
 use Rattle.tpol_base.specs.Attributes.{has_attribute, nv_authread, nv_written}
 use Rattle.tpol_base.specs.Handle.{kind_of_handle, rh_endorsement, rh_lockout, rh_owner}
 use Rattle.tpol_base.specs.Name.{is_same_name}
-use Rattle.tpol_choose.specs.Clients.{Client}
 use Rattle.tpol_choose.specs.Entities.{EntityAt, hierarchy_at, hierarchy_value, index_at, name_as_is, object_at, entity_of_name as entity_at_name}
 use Rattle.tpol_choose.specs.Moves.{authority_at}
 use Rattle.tpol_goal.specs.declared.grants.Grants.{Grants}
@@ -34,7 +33,7 @@ use Rattle.tpol_name.specs.Directories.{directory_of, line_of_index, line_of_obj
 use Rattle.tpol_name.specs.Setups.{IsIndex, IsObject, IsSetup, IsSight, first_sight}
 use Rattle.tpm_nv.specs.Indices.{index_of}
 use Rattle.tpm_rules.specs.Entity.{Entity, Hierarchy, Pcr, Object, Index}
-use Rattle.tpm_world.specs.Entities.{entity_at, entity_of_kind, name_at, name_of_entity, hierarchy_at as hierarchy_in}
+use Rattle.tpm_world.specs.Entities.{entity_at, entity_of_kind, name_at, name_of_entity}
 use Rattle.tpm_world.specs.Objects.{object_of}
 use Rattle.tpm_world.specs.World.{WorldState, sight_of}
 use Rattle.tpol_laws.proofs.Finds.{by-key, find-each, find-map, find-passes, names-same}

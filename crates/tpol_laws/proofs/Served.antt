@@ -1,6 +1,6 @@
 -- A run whose path nothing blocks is served, where only its own turns come and there are enough of them.
-use Rattle.std.proofs.Common.{◌≡◌, ◌≤◌, ◌<◌, ℕ, zero, suc, ◌+◌, ◌*◌, Bool, true, false, not, List, [], ◌∷◌, ◌++◌, length, map, nat_eq, All, refl, ap, sym, subst, ◌∙◌, arith, length-append, zero-add, replicate}
-use Rattle.std.specs.Prelude.{Option, Some, None, is_some, option_map, slice_get, if◌then◌else◌}
+use Rattle.std.proofs.Common.{◌≡◌, ◌≤◌, ◌<◌, ℕ, zero, suc, ◌+◌, ◌*◌, Bool, true, false, not, List, [], ◌∷◌, length, map, nat_eq, refl, ap, sym, subst, ◌∙◌, arith, length-append, zero-add, replicate}
+use Rattle.std.specs.Prelude.{Option, Some, None, is_some, slice_get, if◌then◌else◌}
 use Rattle.std.specs.Option.{option_or}
 use Rattle.std.proofs.lemmas.Bool.{false≢true}
 use Rattle.tpol_base.specs.declared.command_code.CommandCode.TheVariants as codes
@@ -18,7 +18,7 @@ use Rattle.tpol_driver.specs.declared.end.End.TheVariants as ends
 use Rattle.tpol_driver.specs.declared.session.Session.{Session}
 use Rattle.tpol_driver.specs.Answers.{answer_of}
 use Rattle.tpol_driver.specs.Commands.{start_command}
-use Rattle.tpol_driver.specs.Driving.{Moving, Over, Standing, Starting, after_goal, is_verification, next_command, sends, start_heard}
+use Rattle.tpol_driver.specs.Driving.{Moving, Over, Standing, after_goal, is_verification, next_command, start_heard}
 use Rattle.tpol_driver.specs.GoalUse.{goal_command}
 use Rattle.tpol_driver.specs.Plans.{is_known_move}
 use Rattle.tpol_name.specs.declared.entries.DirEntry.{DirEntry}
@@ -31,19 +31,17 @@ use Rattle.tpol_wire.specs.declared.reply.Reply.{Reply}
 use Rattle.tpol_wire.specs.Commands.{spelling}
 use Rattle.tpol_wire.specs.ReplyReading.{reply_reading}
 use Rattle.tpm_bindings.specs.State.{SessionState}
-use Rattle.tpm_rules.specs.Rule.{or_else, unless}
-use Rattle.tpm_session.specs.Kept.{state_of}
+use Rattle.tpm_rules.specs.Rule.{unless}
 use Rattle.tpm_session.specs.Slots.{bits_of, count_below, free_count, handle_of_slot, is_free, least_below, slot_count}
 use Rattle.tpm_engine.specs.declared.event.Event.{Event}
-use Rattle.tpm_engine.specs.Answers.{first_stop, succeeding}
 use Rattle.tpm_engine.specs.Deeds.{Starts, deed_of, use_of}
 use Rattle.tpm_engine.specs.Events.{Answered, event_of}
-use Rattle.tpm_engine.specs.SessionCommands.{free_slot, start_rule}
+use Rattle.tpm_engine.specs.SessionCommands.{start_rule}
 use Rattle.tpm_engine.specs.Sights.{sight_after}
 use Rattle.tpm_engine.specs.Tables.{TableState}
-use Rattle.tpm_engine.specs.Views.{next_number, session_state, time_of, view_of, world_at}
+use Rattle.tpm_engine.specs.Views.{next_number, session_state, view_of, world_at}
 use Rattle.tpm_engine.proofs.Stopping.{map-none, or_else-none, unless-none}
-use Rattle.tpol_laws.specs.Acts.{Act, Course, Run, Turn, after_act, after_acts, answer_in, begun, event_in}
+use Rattle.tpol_laws.specs.Acts.{Course, Run, Turn, after_act, after_acts, answer_in, begun, event_in}
 use Rattle.tpol_laws.specs.Runs.{IsBegun, IsRun}
 use Rattle.tpol_laws.proofs.Answered.{done-deed, done-use, read-back}
 use Rattle.tpol_laws.proofs.Approved.{approve-moved}

@@ -1,7 +1,7 @@
 -- Where a run stands while only its own turns come: its session has the facts that its path was judged by, in the
 -- world that the path was chosen in.
 use Rattle.std.proofs.Common.{◌≡◌, ℕ, true, List}
-use Rattle.std.specs.Prelude.{Option, None}
+use Rattle.std.specs.Prelude.{None}
 use Rattle.tpol_base.specs.CommandCode.{number_of_code}
 use Rattle.tpol_choose.specs.Blocks.{client_of}
 use Rattle.tpol_choose.specs.Clients.{Client}

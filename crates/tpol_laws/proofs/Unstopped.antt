@@ -1,5 +1,5 @@
 -- Commands that the machine carries out: none of the rules before their own stops them.
-use Rattle.std.proofs.Common.{◌≡◌, ◌<◌, ◌≤◌, ℕ, ◌+◌, ◌/◌, ◌^◌, Bool, true, false, List, [], ◌∷◌, length, nat_eq, nat_lt, refl, ap, sym, ◌∙◌, arith}
+use Rattle.std.proofs.Common.{◌≡◌, ◌<◌, ℕ, ◌+◌, Bool, true, false, [], ◌∷◌, length, nat_lt, refl, ap, sym, ◌∙◌, arith}
 use Rattle.std.specs.Prelude.{Option, Some, None, is_some, option_map, slice_index, if◌then◌else◌}
 use Rattle.std.specs.Option.{option_and_then, option_map_or}
 use Rattle.std.proofs.lemmas.Bool.Decides.{nat_tests}
@@ -17,20 +17,19 @@ use Rattle.tpol_wire.specs.declared.auth_area.AuthArea.{AuthArea}
 use Rattle.tpol_wire.specs.declared.command.Command.{Command}
 use Rattle.tpm_bindings.specs.State.{SessionState}
 use Rattle.tpm_nv.specs.Indices.{index_of}
-use Rattle.tpm_rules.specs.declared.outcome.Denial.{Denial}
 use Rattle.tpm_rules.specs.Entity.{Entity, Index, Object}
 use Rattle.tpm_rules.specs.Password.{password_denial}
 use Rattle.tpm_rules.specs.Rule.{or_else, unless}
 use Rattle.tpm_session.specs.Slots.{IsSlotHandle, is_live, state_at}
 use Rattle.tpm_world.specs.Entities.{entity_at, entity_of_kind, handle_rule, handle_rule_of_kind}
-use Rattle.tpm_world.specs.Handles.{area_of, handles_of, is_policy_command, policy_session_of}
+use Rattle.tpm_world.specs.Handles.{area_of, handles_of, policy_session_of}
 use Rattle.tpm_world.specs.Objects.{object_of}
 use Rattle.tpm_world.specs.World.{WorldState}
 use Rattle.tpm_engine.specs.declared.stop.Stop.{Stop}
 use Rattle.tpm_engine.specs.Answers.{first_stop, own_rule}
-use Rattle.tpm_engine.specs.Authorization.{area_stop, authorization_stop, entity_stop, number_of_command, password_stop}
-use Rattle.tpm_engine.specs.PolicyCommands.{policy_command_rule, policy_rule}
-use Rattle.tpm_engine.specs.Stops.{apart_stop, authorizing_session, handle_stop, handles_from, handles_stop, has_room, refuses, room_stop, session_of_area, session_stop}
+use Rattle.tpm_engine.specs.Authorization.{area_stop, authorization_stop, entity_stop, number_of_command}
+use Rattle.tpm_engine.specs.PolicyCommands.{policy_rule}
+use Rattle.tpm_engine.specs.Stops.{apart_stop, handle_stop, handles_from, handles_stop, has_room, refuses, room_stop, session_of_area, session_stop}
 use Rattle.tpm_engine.specs.Tables.{TableState}
 use Rattle.tpol_laws.proofs.Fit.{session-handle}
 use Rattle.tpol_laws.proofs.Own.{own-is-policy}
