@@ -271,7 +271,7 @@ module _ (setup : Setup) (is : IsSetup setup) (tables : TableState) (of : IsKept
         rule = λ area. ap (λ o. option_map_or (λ (entry : ObjectEntry). unseal_rule entry.public) o (Some missing_object)) at.is;
         fits = λ none area fits. unseal-fits object area at.low at.high fits;
         reply = λ area. subst (IsGoalReply (goals.Unseal object)) (sym (ap (λ o. option_map_or (λ (entry : ObjectEntry). replies.Unseal entry.secret) o (replies.Refused (record { code = missing_object }))) at.is))
-        (unseal-reply object it.value.secret at.secret);
+            (unseal-reply object it.value.secret at.secret);
       })
 
   hmac-at : (key : ℕ) (buffer : List ℕ) (found : Judged) → length buffer ≤ 1024 → judged (sight_of tables.world free) (goals.Hmac key buffer) ≡ Some found → IsGoalAt setup tables free (goals.Hmac key buffer) found
@@ -288,7 +288,7 @@ module _ (setup : Setup) (is : IsSetup setup) (tables : TableState) (of : IsKept
         rule = λ area. ap (λ o. option_map_or (λ (entry : ObjectEntry). hmac_rule entry.public) o (Some missing_object)) at.is;
         fits = λ none area fits. hmac-fits key area buffer at.low at.high fits short;
         reply = λ area. subst (IsGoalReply (goals.Hmac key buffer)) (sym (ap (λ o. option_map_or (λ (entry : ObjectEntry). replies.Hmac (hmac_sha256 entry.secret buffer)) o (replies.Refused (record { code = missing_object }))) at.is))
-        (hmac-reply key buffer (hmac_sha256 it.value.secret buffer));
+            (hmac-reply key buffer (hmac_sha256 it.value.secret buffer));
       })
 
   -- what holds of an index that authorizes itself
@@ -310,12 +310,12 @@ module _ (setup : Setup) (is : IsSetup setup) (tables : TableState) (of : IsKept
         seen = seen-two setup tables free index index _ _ _ _ at.there at.there;
         listed = index-listed index it.value at.there;
         rule = λ area.
-        ap (λ o. option_map_or (λ (entry : IndexEntry). or_else (nv_authority_rule index entry.public (number_of_code codes.NvRead)) (read_rule entry offset size)) o (Some missing_index)) at.is
-        ∙ ap (λ handle. or_else (nv_authority_rule handle it.value.public (number_of_code codes.NvRead)) (read_rule it.value offset size)) (sym at.same);
+            ap (λ o. option_map_or (λ (entry : IndexEntry). or_else (nv_authority_rule index entry.public (number_of_code codes.NvRead)) (read_rule entry offset size)) o (Some missing_index)) at.is
+            ∙ ap (λ handle. or_else (nv_authority_rule handle it.value.public (number_of_code codes.NvRead)) (read_rule it.value offset size)) (sym at.same);
         fits = λ none area fits. read-fits index area size offset at.low at.high fits short
-        (short-offset offset it.value.public.size (read-offset it.value offset size (or_else-none (nv_authority_rule it.value.public.index it.value.public (number_of_code codes.NvRead)) (read_rule it.value offset size) none).1) at.size);
+            (short-offset offset it.value.public.size (read-offset it.value offset size (or_else-none (nv_authority_rule it.value.public.index it.value.public (number_of_code codes.NvRead)) (read_rule it.value offset size) none).1) at.size);
         reply = λ area. subst (IsGoalReply (goals.NvRead index size offset)) (sym (ap (λ o. option_map_or (λ (entry : IndexEntry). replies.NvRead (take size (drop offset entry.content))) o (replies.Refused (record { code = missing_index }))) at.is))
-        (read-reply index size offset it.value.content short);
+            (read-reply index size offset it.value.content short);
       })
 
   write-at : (index offset : ℕ) (bytes : List ℕ) (found : Judged) → length bytes ≤ 1024 → judged (sight_of tables.world free) (goals.NvWrite index offset bytes) ≡ Some found → IsGoalAt setup tables free (goals.NvWrite index offset bytes) found
@@ -330,10 +330,10 @@ module _ (setup : Setup) (is : IsSetup setup) (tables : TableState) (of : IsKept
         seen = seen-two setup tables free index index _ _ _ _ at.there at.there;
         listed = index-listed index it.value at.there;
         rule = λ area.
-        ap (λ o. option_map_or (λ (entry : IndexEntry). or_else (nv_authority_rule index entry.public (number_of_code codes.NvWrite)) (write_rule entry offset (length bytes))) o (Some missing_index)) at.is
-        ∙ ap (λ handle. or_else (nv_authority_rule handle it.value.public (number_of_code codes.NvWrite)) (write_rule it.value offset (length bytes))) (sym at.same);
+            ap (λ o. option_map_or (λ (entry : IndexEntry). or_else (nv_authority_rule index entry.public (number_of_code codes.NvWrite)) (write_rule entry offset (length bytes))) o (Some missing_index)) at.is
+            ∙ ap (λ handle. or_else (nv_authority_rule handle it.value.public (number_of_code codes.NvWrite)) (write_rule it.value offset (length bytes))) (sym at.same);
         fits = λ none area fits. write-fits index area bytes offset at.low at.high fits short
-        (short-offset offset it.value.public.size (write-offset it.value offset (length bytes) (or_else-none (nv_authority_rule it.value.public.index it.value.public (number_of_code codes.NvWrite)) (write_rule it.value offset (length bytes)) none).1) at.size);
+            (short-offset offset it.value.public.size (write-offset it.value offset (length bytes) (or_else-none (nv_authority_rule it.value.public.index it.value.public (number_of_code codes.NvWrite)) (write_rule it.value offset (length bytes)) none).1) at.size);
         reply = λ area. write-reply index offset bytes;
       })
 
@@ -349,8 +349,8 @@ module _ (setup : Setup) (is : IsSetup setup) (tables : TableState) (of : IsKept
         seen = seen-two setup tables free index index _ _ _ _ at.there at.there;
         listed = index-listed index it.value at.there;
         rule = λ area.
-        ap (λ o. option_map_or (λ (entry : IndexEntry). or_else (nv_authority_rule index entry.public (number_of_code codes.NvIncrement)) (counter_rule tables.world.indices entry)) o (Some missing_index)) at.is
-        ∙ ap (λ handle. or_else (nv_authority_rule handle it.value.public (number_of_code codes.NvIncrement)) (counter_rule tables.world.indices it.value)) (sym at.same);
+            ap (λ o. option_map_or (λ (entry : IndexEntry). or_else (nv_authority_rule index entry.public (number_of_code codes.NvIncrement)) (counter_rule tables.world.indices entry)) o (Some missing_index)) at.is
+            ∙ ap (λ handle. or_else (nv_authority_rule handle it.value.public (number_of_code codes.NvIncrement)) (counter_rule tables.world.indices it.value)) (sym at.same);
         fits = λ none area fits. increment-fits index area at.low at.high fits;
         reply = λ area. increment-reply index;
       })
@@ -385,7 +385,7 @@ module _ (setup : Setup) (is : IsSetup setup) (tables : TableState) (of : IsKept
         rule = λ area. ap (λ o. option_map_or (λ (entry : ObjectEntry). duplicate_rule entry.public) o (Some missing_object)) at.is;
         fits = λ none area fits. duplicate-fits object parent area at.low at.high to.low to.kind fits;
         reply = λ area. subst (IsGoalReply (goals.Duplicate object parent)) (sym (ap (λ o. option_map_or (λ (entry : ObjectEntry). replies.Duplicate (sized (sensitive_of entry))) o (replies.Refused (record { code = missing_object }))) at.is))
-        (duplicate-reply object parent it.value at.value.size at.secret);
+            (duplicate-reply object parent it.value at.value.size at.secret);
       })
 
   pub goal-at : (goal : Goal) (found : Judged) → IsGoal goal → IsGoalAmong (map (λ (o : ObjectEntry). o.handle) setup.objects) (map (λ (i : IndexEntry). i.public.index) setup.indices) goal

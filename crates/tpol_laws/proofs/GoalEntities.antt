@@ -198,7 +198,7 @@ module _ (setup : Setup) (is : IsSetup setup) (tables : TableState) (of : IsKept
             ap (name_of_object_or_other (sight_of tables.world free) rh_null) (ap (find (λ (o : ObjectEntry). nat_eq o.handle rh_null)) of.objects ∙ objects)
             ∙ ap (name_of_index_or_handle rh_null) now;
         is_listed = listed-name rh_null None (listed-line rh_null
-        ∙ ap (λ o. option_or (option_map line_of_object o) (option_map line_of_index (find (λ (i : IndexEntry). nat_eq i.public.index rh_null) setup.indices))) objects
-        ∙ ap (option_map line_of_index) indices);
+            ∙ ap (λ o. option_or (option_map line_of_object o) (option_map line_of_index (find (λ (i : IndexEntry). nat_eq i.public.index rh_null) setup.indices))) objects
+            ∙ ap (option_map line_of_index) indices);
         is_free = λ n. refl;
       }
