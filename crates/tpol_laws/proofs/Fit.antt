@@ -48,7 +48,7 @@ session-handle handle slot =
 pub index-kind : (handle : ℕ) → 0x01000000 ≤ handle → handle ≤ 0x01ffffff → is_index handle ≡ true
 index-kind handle low high = grind (arith, nat_tests, low, high)
 
-object-kind : (handle : ℕ) → 0x80000000 ≤ handle → handle ≤ 0x80ffffff → is_object handle ≡ true
+pub object-kind : (handle : ℕ) → 0x80000000 ≤ handle → handle ≤ 0x80ffffff → is_object handle ≡ true
 object-kind handle low high = grind (arith, nat_tests, low, high)
 
 pub index-handle : (setup : Setup) (name : Name) (handle : ℕ) → FoundIndex setup name handle → IsHandle is_index handle
@@ -107,7 +107,7 @@ entity-handle setup name handle (inr (inr index)) = record {
 
 -- ---- authorizations
 
-value-short : (values : List (ℕ × List ℕ)) (handle : ℕ) → All (λ value. IsAuthValue value.1) values → length (secret_of values handle) ≤ 32
+pub value-short : (values : List (ℕ × List ℕ)) (handle : ℕ) → All (λ value. IsAuthValue value.1) values → length (secret_of values handle) ≤ 32
 value-short values handle each = at (find (λ (value : ℕ × List ℕ). nat_eq value.0 handle) values) refl
   where
     at : (o : Option (ℕ × List ℕ)) → find (λ (value : ℕ × List ℕ). nat_eq value.0 handle) values ≡ o → length (unwrap_or (option_map (λ (value : ℕ × List ℕ). value.1) o) []) ≤ 32

@@ -45,16 +45,16 @@ use Rattle.tpm_engine.specs.Authorization.{authorized_entity, password_area, rep
 use Rattle.tpm_engine.specs.Events.{is_success}
 use Rattle.tpm_engine.specs.PolicyCommands.{policy_start, ticket_digest, ticket_of, timeout_of}
 use Rattle.tpm_engine.specs.Tables.{TableState}
-use Rattle.tpm_engine.specs.Views.{indices_of, next_number, view_of}
+use Rattle.tpm_engine.specs.Views.{next_number, view_of}
 use Rattle.tpol_laws.specs.Acts.{Act, Run, after_acts, answer_in, begun, succeeds, turned}
-use Rattle.tpol_laws.specs.Others.{AreOthersApart, AreSecretsOnWritten, AsksWritten, HasGoneOn, SendsOnWritten, place_of}
+use Rattle.tpol_laws.specs.Others.{AreOthersApart, AreSecretsOnWritten, HasGoneOn, place_of}
 use Rattle.tpol_laws.specs.Runs.{IsRun}
 use Rattle.tpol_laws.proofs.Answered.{IsByPassword, on-answer, own-passed, read-back, stop-fails}
 use Rattle.tpol_laws.proofs.Finds.{all-at}
 use Rattle.tpol_laws.proofs.Fit.{fits-start}
 use Rattle.tpol_laws.proofs.Starts.{started}
 use Rattle.tpol_laws.proofs.Own.{IsOwn, own-move}
-use Rattle.tpol_laws.proofs.Step.{IsOn, IsOnPath, acts-on, asks-view, is-of, known-at, some-ticket, verifies, verify-fits}
+use Rattle.tpol_laws.proofs.Step.{IsOn, IsOnPath, acts-on, is-of, known-at, some-ticket, verifies, verify-fits}
 
 -- a reply that is no refusal
 abbrev pub IsAcceptance : Reply → Type 0
@@ -125,7 +125,7 @@ timed world tag name cp_hash policy_ref (Some deadline) small =
 
 -- ---- the reply of each policy command
 
-policy-heard : (tables : TableState) (number : ℕ) (command : Command) → is_policy_command command ≡ true → IsByPassword (area_of command) → IsHeard (number_of_code (code_of_command command)) (succeeding tables number command).reply
+pub policy-heard : (tables : TableState) (number : ℕ) (command : Command) → is_policy_command command ≡ true → IsByPassword (area_of command) → IsHeard (number_of_code (code_of_command command)) (succeeding tables number command).reply
 unfolding ValuesFit Fits spell spell_values
 policy-heard tables number (commands.PolicyNv authority index own auth operand offset operation) policy area =
     read-as _ _ replies.PolicyNv (Some password_area)
@@ -165,17 +165,17 @@ policy-heard tables number command policy area = absurd (false≢true policy)
 
 -- ---- what is heard of it
 
-accepted-place : (own : ℕ) (nonce : Digest32) (sent done at : ℕ) (ticket : Option Ticket) (act : Move) (reply : Reply) (auth : Option ReplyAuth) → IsAcceptance reply → is_verification ticket act ≡ false
-    → place_of (goes_on (record { handle = own; nonce = nonce }) sent done (move_heard ticket act at (answer_of_reply reply auth))) ≡ Some (own, done + 1)
-accepted-place own nonce sent done at ticket act (replies.Refused rc) auth accepts other = absurd accepts
-accepted-place own nonce sent done at ticket act reply auth accepts other =
-    subst (λ b. place_of (goes_on (record { handle = own; nonce = nonce }) sent done (if b then verified at reply else move_heard (Some some-ticket) (Or []) at (answer_of_reply replies.FlushContext None))) ≡ Some (own, done + 1)) (sym other) refl
+accepted-stands : (own : ℕ) (nonce : Digest32) (sent done at : ℕ) (ticket : Option Ticket) (act : Move) (reply : Reply) (auth : Option ReplyAuth) → IsAcceptance reply → is_verification ticket act ≡ false
+    → goes_on (record { handle = own; nonce = nonce }) sent done (move_heard ticket act at (answer_of_reply reply auth)) ≡ Moving (record { handle = own; nonce = nonce }) (sent + 1) None (done + 1)
+accepted-stands own nonce sent done at ticket act (replies.Refused rc) auth accepts other = absurd accepts
+accepted-stands own nonce sent done at ticket act reply auth accepts other =
+    ap (λ b. goes_on (record { handle = own; nonce = nonce }) sent done (if b then verified at reply else move_heard (Some some-ticket) (Or []) at (answer_of_reply replies.FlushContext None))) other
 
-heard-place : (own : ℕ) (nonce : Digest32) (sent done at number : ℕ) (ticket : Option Ticket) (act : Move) (bytes : List ℕ) → IsHeard number bytes → is_verification ticket act ≡ false
-    → place_of (goes_on (record { handle = own; nonce = nonce }) sent done (move_heard ticket act at (answer_of (reply_reading number bytes)))) ≡ Some (own, done + 1)
-heard-place own nonce sent done at number ticket act bytes is other =
-    ap (λ (read : Option (Reply × Option ReplyAuth)). place_of (goes_on (record { handle = own; nonce = nonce }) sent done (move_heard ticket act at (answer_of read)))) is.reads
-    ∙ accepted-place own nonce sent done at ticket act is.reply is.auth is.accepts other
+pub heard-stands : (own : ℕ) (nonce : Digest32) (sent done at number : ℕ) (ticket : Option Ticket) (act : Move) (bytes : List ℕ) → IsHeard number bytes → is_verification ticket act ≡ false
+    → goes_on (record { handle = own; nonce = nonce }) sent done (move_heard ticket act at (answer_of (reply_reading number bytes))) ≡ Moving (record { handle = own; nonce = nonce }) (sent + 1) None (done + 1)
+heard-stands own nonce sent done at number ticket act bytes is other =
+    ap (λ (read : Option (Reply × Option ReplyAuth)). goes_on (record { handle = own; nonce = nonce }) sent done (move_heard ticket act at (answer_of read))) is.reads
+    ∙ accepted-stands own nonce sent done at ticket act is.reply is.auth is.accepts other
 
 module _ (run : Run) (is : IsRun run) (past : List Event) (own : ℕ) (nonce : Digest32) (sent done : ℕ) where
   own-heard : (ticket : Option Ticket) (act : Move) (command : Command) → is_verification ticket act ≡ false → IsOwn (view_of run.setup past).world own act command
@@ -186,8 +186,8 @@ module _ (run : Run) (is : IsRun run) (past : List Event) (own : ℕ) (nonce : D
       → HasGoneOn own done (place_of (goes_on (record { handle = own; nonce = nonce }) sent done (move_heard ticket act (done + 1) (answer_of (reply_reading (number_of_code (code_of_command command)) a.reply))))))
       (view_of run.setup past) (next_number past) run.locality (spelling command) command (read-back command made.fits)
       (λ stop stops success. absurd (false≢true (sym (stop-fails (view_of run.setup past) run.locality command stop stops) ∙ success)))
-      (λ first success. inr (heard-place own nonce sent done (done + 1) (number_of_code (code_of_command command)) ticket act _
-      (policy-heard (view_of run.setup past) (next_number past) command made.policy made.area) other))
+      (λ first success. inr (ap place_of (heard-stands own nonce sent done (done + 1) (number_of_code (code_of_command command)) ticket act _
+      (policy-heard (view_of run.setup past) (next_number past) command made.policy made.area) other)))
 
   verify-heard : (key : Name) (policy_ref : List ℕ) (approved signature : Digest32) (handle : ℕ) (digest : Digest32) → FitsCommand (commands.VerifySignature handle digest signature)
       → is_success (answer_in run past (commands.VerifySignature handle digest signature)).outcome ≡ true
@@ -212,56 +212,54 @@ module _ (run : Run) (is : IsRun run) (past : List Event) (own : ℕ) (nonce : D
       (answer_in run past (command_of_move directory run.plan.grants (record { handle = own; nonce = nonce }) ticket act)).reply)))))
 
   own-goes : (ticket : Option Ticket) (act : Move) → IsOnPath run past own ticket done → MoveHasBounds act → is_known_move (directory_of run.setup) run.plan.grants act ≡ true → is_verification ticket act ≡ false
-      → AsksWritten (indices_of run.setup past) (command_of_move (directory_of run.setup) run.plan.grants (record { handle = own; nonce = nonce }) ticket act) → Goes (directory_of run.setup) ticket act
-  own-goes ticket act on bounds known other asks =
+      → Goes (directory_of run.setup) ticket act
+  own-goes ticket act on bounds known other =
       own-heard ticket act (command_of_move (directory_of run.setup) run.plan.grants (record { handle = own; nonce = nonce }) ticket act) other
-      (own-move run.setup is.setup (view_of run.setup past).world (is-of run.setup past) run.plan.grants is.grants own nonce on.slot ticket act on.fits bounds known other (asks-view run.setup past _ asks))
+      (own-move run.setup is.setup (view_of run.setup past).world (is-of run.setup past) run.plan.grants is.grants own nonce on.slot ticket act on.fits bounds known other)
 
   move-goes : (ticket : Option Ticket) (act : Move) → IsOnPath run past own ticket done → MoveHasBounds act → is_known_move (directory_of run.setup) run.plan.grants act ≡ true
-      → AsksWritten (indices_of run.setup past) (command_of_move (directory_of run.setup) run.plan.grants (record { handle = own; nonce = nonce }) ticket act) → Goes (directory_of run.setup) ticket act
-  move-goes None (Approve key policy_ref approved signature) on bounds known asks =
+      → Goes (directory_of run.setup) ticket act
+  move-goes None (Approve key policy_ref approved signature) on bounds known =
       verify-heard key policy_ref approved signature (key_handle (directory_of run.setup) key) (sha256_digest (approved.bytes ++ policy_ref))
       (verify-fits run is past own nonce sent done key (sha256_digest (approved.bytes ++ policy_ref)) signature (object_of_name (directory_of run.setup) key) refl known)
-  move-goes None (Assert assertion) on bounds known asks = own-goes None (Assert assertion) on bounds known refl asks
-  move-goes None (Or digests) on bounds known asks = own-goes None (Or digests) on bounds known refl asks
-  move-goes None (ApproveNv index approved) on bounds known asks = own-goes None (ApproveNv index approved) on bounds known refl asks
-  move-goes (Some ticket) act on bounds known asks = own-goes (Some ticket) act on bounds known refl asks
+  move-goes None (Assert assertion) on bounds known = own-goes None (Assert assertion) on bounds known refl
+  move-goes None (Or digests) on bounds known = own-goes None (Or digests) on bounds known refl
+  move-goes None (ApproveNv index approved) on bounds known = own-goes None (ApproveNv index approved) on bounds known refl
+  move-goes (Some ticket) act on bounds known = own-goes (Some ticket) act on bounds known refl
 
   path-goes : (ticket : Option Ticket) (o : Option Move) → slice_get run.plan.path.moves done ≡ o → done < length run.plan.path.moves → IsOnPath run past own ticket done
-      → AsksWritten (indices_of run.setup past) (next_command run.plan (record { handle = own; nonce = nonce }) sent ticket o)
       → is_success (answer_in run past (next_command run.plan (record { handle = own; nonce = nonce }) sent ticket o)).outcome ≡ true
       → HasGoneOn own done (place_of (heard_on_path run.plan (record { handle = own; nonce = nonce }) sent ticket done o (answer_of (reply_reading (number_of_code (code_of_command (next_command run.plan (record { handle = own; nonce = nonce }) sent ticket o)))
       (answer_in run past (next_command run.plan (record { handle = own; nonce = nonce }) sent ticket o)).reply))))
-  path-goes ticket None at within on asks success = absurd (left (slice_get_cases run.plan.path.moves done).1)
+  path-goes ticket None at within on success = absurd (left (slice_get_cases run.plan.path.moves done).1)
     where
       left : ((x : Move) × (done < length run.plan.path.moves) × (slice_get run.plan.path.moves done ≡ Some x) × (get_or run.plan.path.moves done x ≡ x)) ⊎ ((length run.plan.path.moves ≤ done) × (slice_get run.plan.path.moves done ≡ None)) → ⊥
       left (inl found) = none-some found.0 (sym at ∙ found.2)
       left (inr beyond) = absurd (omega (arith, within, beyond.0))
-  path-goes ticket (Some act) at within on asks success =
-      subst (λ (d : List DirEntry). is_known_move d run.plan.grants act ≡ true → AsksWritten (indices_of run.setup past) (command_of_move d run.plan.grants (record { handle = own; nonce = nonce }) ticket act) → Goes d ticket act) (sym is.directory)
-      (move-goes ticket act on (all-at MoveHasBounds run.plan.path.moves done act is.moves at)) (known-at run is past own nonce sent done act at) asks success
+  path-goes ticket (Some act) at within on success =
+      subst (λ (d : List DirEntry). is_known_move d run.plan.grants act ≡ true → Goes d ticket act) (sym is.directory)
+      (move-goes ticket act on (all-at MoveHasBounds run.plan.path.moves done act is.moves at)) (known-at run is past own nonce sent done act at) success
 
 -- ---- a run on its path
 
 goes-at : (run : Run) → IsRun run → (past : List Event) (standing : Standing) (own done : ℕ) → IsOn run past standing → place_of standing ≡ Some (own, done) → done < length run.plan.path.moves
-    → SendsOnWritten (indices_of run.setup past) (sends run.plan standing) → succeeds run (record { past = past; standing = standing }) (sends run.plan standing) ≡ true
+    → succeeds run (record { past = past; standing = standing }) (sends run.plan standing) ≡ true
     → HasGoneOn own done (place_of (turned run (record { past = past; standing = standing }) (sends run.plan standing)).standing)
-goes-at run is past Starting own done on at within asks success = absurd (none-some (own, done) at)
-goes-at run is past (Moving session sent ticket now) own done on at within asks success =
+goes-at run is past Starting own done on at within success = absurd (none-some (own, done) at)
+goes-at run is past (Moving session sent ticket now) own done on at within success =
     let same : (session.handle, now) ≡ (own, done) = same_Some _ _ at in
     subst (λ (place : ℕ × ℕ). HasGoneOn place.0 place.1 (place_of (turned run (record { past = past; standing = Moving session sent ticket now }) (sends run.plan (Moving session sent ticket now))).standing)) same
     (path-goes run is past session.handle session.nonce sent now ticket (slice_get run.plan.path.moves now) refl
-    (subst (λ (n : ℕ). n < length run.plan.path.moves) (sym (ap (λ (place : ℕ × ℕ). place.1) same)) within) on asks success)
-goes-at run is past (Closing session end) own done on at within asks success = absurd (none-some (own, done) at)
-goes-at run is past (Over end) own done on at within asks success = absurd (none-some (own, done) at)
+    (subst (λ (n : ℕ). n < length run.plan.path.moves) (sym (ap (λ (place : ℕ × ℕ). place.1) same)) within) on success)
+goes-at run is past (Closing session end) own done on at within success = absurd (none-some (own, done) at)
+goes-at run is past (Over end) own done on at within success = absurd (none-some (own, done) at)
 
 pub success-goes-on : (run : Run) (past : List Event) (acts : List Act) (session done : ℕ) → IsRun run → AreOthersApart run acts (begun past) → AreSecretsOnWritten run acts (begun past)
     → place_of (after_acts run acts (begun past)).standing ≡ Some (session, done) → done < length run.plan.path.moves
-    → SendsOnWritten (indices_of run.setup (after_acts run acts (begun past)).past) (sends run.plan (after_acts run acts (begun past)).standing)
     → succeeds run (after_acts run acts (begun past)) (sends run.plan (after_acts run acts (begun past)).standing) ≡ true
     → HasGoneOn session done (place_of (turned run (after_acts run acts (begun past)) (sends run.plan (after_acts run acts (begun past)).standing)).standing)
-success-goes-on run past acts session done is apart secrets at within asks success =
-    goes-at run is (after_acts run acts (begun past)).past (after_acts run acts (begun past)).standing session done (acts-on run is acts (begun past) tt apart secrets) at within asks success
+success-goes-on run past acts session done is apart secrets at within success =
+    goes-at run is (after_acts run acts (begun past)).past (after_acts run acts (begun past)).standing session done (acts-on run is acts (begun past) tt apart secrets) at within success
 
 -- ---- the start
 

@@ -1,5 +1,5 @@
 -- The entities of a setup that its directory finds by their Names, and the indices as they are later.
-use Rattle.std.proofs.Common.{◌≡◌, ◌≤◌, ◌⊎◌, inl, inr, ℕ, Bool, true, false, cond, List, [], ◌∷◌, map, nat_eq, refl, ap, sym, subst, ◌∙◌, arith}
+use Rattle.std.proofs.Common.{◌≡◌, ◌≤◌, ◌⊎◌, inl, inr, ℕ, Bool, true, false, List, map, nat_eq, refl, ap, sym, subst, ◌∙◌, arith}
 use Rattle.std.specs.Prelude.{Option, Some, None, find, option_map, if◌then◌else◌}
 use Rattle.std.specs.Option.{option_or}
 use Rattle.std.proofs.lemmas.List.Elements.{recursion_from_All}
@@ -18,9 +18,8 @@ use Rattle.tpol_name.specs.declared.sight.Sight.{Sight}
 use Rattle.tpol_name.specs.Areas.{index_name, is_written, object_name, with_written}
 use Rattle.tpol_name.specs.Directories.{directory_of, line_of_index, line_of_object}
 use Rattle.tpol_name.specs.Setups.{IsIndex, IsObject, IsSetup, IsSight, first_sight}
-use Rattle.tpm_nv.specs.Contents.{written_entry}
-use Rattle.tpm_nv.specs.Indices.{changed_at, index_of, written_at}
-use Rattle.tpol_laws.proofs.Finds.{area-twice, area-written, by-key, find-each, find-map, find-passes, names-same}
+use Rattle.tpm_nv.specs.Indices.{index_of}
+use Rattle.tpol_laws.proofs.Finds.{area-written, by-key, find-each, find-map, find-passes, names-same}
 
 -- a look-up that was mapped
 pub record Mapped {A B : Type 0} (f : A → B) (o : Option A) (y : B) : Type 0 where
@@ -59,7 +58,7 @@ module _ (setup : Setup) (is : IsSetup setup) where
   sight : Sight
   sight = first_sight setup
 
-  is-sight : IsSight (first_sight setup)
+  pub is-sight : IsSight (first_sight setup)
   is-sight = record { pcrs = is.pcrs; time = omega (arith, is.time); entities = is.entities }
 
   object-in : (name : Name) (object : ObjectEntry) → object_in_sight (first_sight setup) name ≡ Some object → FoundObject setup name object.handle
@@ -94,7 +93,7 @@ module _ (setup : Setup) (is : IsSetup setup) where
       let it = mapped line_of_index (index_in_sight (first_sight setup) name) entry (index_of_lines (first_sight setup) name is-sight ∙ found) in
       subst (FoundIndex setup name) (ap (λ (e : DirEntry). e.handle) it.gives) (index-in name it.value it.is)
 
-  hierarchy-in : (name : Name) (handle : ℕ) → hierarchy_of_name name ≡ Some handle → FoundHierarchy name handle
+  pub hierarchy-in : (name : Name) (handle : ℕ) → hierarchy_of_name name ≡ Some handle → FoundHierarchy name handle
   hierarchy-in Empty handle h = absurd (none-some handle h)
   hierarchy-in (Handle own) handle h = at (is_hierarchy own) refl h
     where
@@ -121,18 +120,6 @@ module _ (setup : Setup) (is : IsSetup setup) where
 -- the public area of an index once it is written, which never changes
 abbrev pub area : IndexEntry → NvPublic
 area entry = with_written entry.public
-
-map-changed : (handle : ℕ) (change : IndexEntry → IndexEntry) → ((entry : IndexEntry) → area (change entry) ≡ area entry) → (indices : List IndexEntry)
-    → map area (changed_at handle change indices) ≡ map area indices
-map-changed handle change same [] = refl
-map-changed handle change same (e ∷ es) = λ i. by (nat_eq handle e.public.index) i ∷ map-changed handle change same es i
-  where
-    by : (b : Bool) → area (cond b (change e) e) ≡ area e
-    by true = same e
-    by false = refl
-
-pub areas-written : (handle offset : ℕ) (bytes : List ℕ) (indices : List IndexEntry) → map area (written_at handle offset bytes indices) ≡ map area indices
-areas-written handle offset bytes indices = map-changed handle (written_entry offset bytes) (λ entry. area-twice entry.public) indices
 
 -- the index with a handle now, where there was one at first
 pub record Now (handle : ℕ) (now : List IndexEntry) (first : IndexEntry) : Type 0 where

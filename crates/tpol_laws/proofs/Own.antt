@@ -72,7 +72,7 @@ pub record IsOf (setup : Setup) (world : WorldState) : Type 0 where
 
 -- ---- Names as they are
 
-object-range : (handle : ℕ) → 0x80000000 ≤ handle → handle ≤ 0x80ffffff → kind_of_handle handle ≡ Some kinds.Object
+pub object-range : (handle : ℕ) → 0x80000000 ≤ handle → handle ≤ 0x80ffffff → kind_of_handle handle ≡ Some kinds.Object
 object-range handle low high =
     let pcr : nat_lt handle 24 ≡ false = grind (arith, nat_tests, low) in
     let index : is_index handle ≡ false = grind (arith, nat_tests, low, high) in
@@ -135,7 +135,7 @@ pub record IsOwn (world : WorldState) (session : ℕ) (act : Move) (command : Co
   pub fits : FitsCommand command
   pub area : IsByPassword (area_of command)
   pub policy : is_policy_command command ≡ true
-  pub shows : (state : SessionState) → policy_rule world state command ≡ None → ShowsMove world session act (shown_by command)
+  pub shows : (state : SessionState) → policy_rule world state command ≡ None → AsksWritten world.indices command → ShowsMove world session act (shown_by command)
 
 -- a ticket that was answered is within its bounds
 abbrev pub TicketIsFit : Option Ticket → Type 0
@@ -155,7 +155,7 @@ module _ (setup : Setup) (is : IsSetup setup) (world : WorldState) (of : IsOf se
             (authority-handle setup name entry.handle entry.attributes grants found) (index-handle setup name entry.handle found) (area-fits grants (authority grants entry.handle entry.attributes) are) short few;
         area = refl;
         policy = refl;
-        shows = λ state rule.
+        shows = λ state rule asks.
             let it = ruled _ (index_of entry.handle world.indices) _ rule in
             let behind = or_else-none _ _ it.holds in
             let written = unless-none _ _ (or_else-none _ _ behind.1).0 in
@@ -179,7 +179,7 @@ module _ (setup : Setup) (is : IsSetup setup) (world : WorldState) (of : IsOf se
             (authority-handle setup name entry.handle entry.attributes grants found) (index-handle setup name entry.handle found) (area-fits grants (authority grants entry.handle entry.attributes) are);
         area = refl;
         policy = refl;
-        shows = λ state rule.
+        shows = λ state rule asks.
             let it = ruled _ (index_of entry.handle world.indices) _ rule in
             let behind = or_else-none _ _ it.holds in
             let written = unless-none _ _ (or_else-none _ _ behind.1).0 in
@@ -192,21 +192,21 @@ module _ (setup : Setup) (is : IsSetup setup) (world : WorldState) (of : IsOf se
       }
 
   own-secret : (name : Name) (policy_ref : List ℕ) (cp_hash : Option Digest32) (expiration : ℤ) (o : Option ℕ) → entity_of_name (directory_of setup) name ≡ o → is_some o ≡ true
-      → AssertionHasBounds (assertions.Secret name policy_ref cp_hash expiration) → IsWrittenAt world.indices (or_null o)
+      → AssertionHasBounds (assertions.Secret name policy_ref cp_hash expiration)
       → IsOwn world own (Assert (assertions.Secret name policy_ref cp_hash expiration))
       (commands.PolicySecret (or_null o) own (password_area grants (or_null o)) nonce.bytes cp_hash policy_ref expiration)
-  own-secret name policy_ref cp_hash expiration None e known bounds written = absurd (false≢true known)
-  own-secret name policy_ref cp_hash expiration (Some handle) e known bounds written =
+  own-secret name policy_ref cp_hash expiration None e known bounds = absurd (false≢true known)
+  own-secret name policy_ref cp_hash expiration (Some handle) e known bounds =
       let found = entity-found setup is name handle e in
       record {
         fits = fits-secret own (session-handle own slot) handle (password_area grants handle) nonce cp_hash policy_ref expiration (entity-handle setup name handle found) (area-fits grants handle are) bounds.1 bounds.2;
         area = refl;
         policy = refl;
-        shows = λ state rule. record {
+        shows = λ state rule asks. record {
           fact = _;
           is = refl;
           same = λ now same. ap (λ n. two_hashes 0x151 (name_bytes n) policy_ref)
-              (ap (λ w. name_at w handle) same ∙ entity-name-at setup world name handle of found written);
+              (ap (λ w. name_at w handle) same ∙ entity-name-at setup world name handle of found asks);
         };
       }
 
@@ -222,7 +222,7 @@ module _ (setup : Setup) (is : IsSetup setup) (world : WorldState) (of : IsOf se
         fits = fits-signed own (session-handle own slot) entry.handle nonce cp_hash policy_ref expiration _ (object-handle setup name entry.handle found) bounds.1 bounds.2;
         area = tt;
         policy = refl;
-        shows = λ state rule. record {
+        shows = λ state rule asks. record {
           fact = _;
           is = refl;
           same = λ now same. ap (λ n. two_hashes 0x160 (name_bytes n) policy_ref)
@@ -235,7 +235,7 @@ module _ (setup : Setup) (is : IsSetup setup) (world : WorldState) (of : IsOf se
     fits = fits-pcr own (session-handle own slot) digest mask few;
     area = tt;
     policy = refl;
-    shows = λ state rule.
+    shows = λ state rule asks.
         let right = unless-none _ _ (or_else-none _ _ rule).1 in
         let bytes : digest.bytes ≡ (selection_digest world.pcrs.values mask).bytes = (bytes_eq-Decides digest.bytes (selection_digest world.pcrs.values mask).bytes).0 right in
         record {
@@ -247,93 +247,91 @@ module _ (setup : Setup) (is : IsSetup setup) (world : WorldState) (of : IsOf se
   }
 
   own-assertion : (assertion : Assertion) → AssertionHasBounds assertion → is_known_assertion (directory_of setup) grants assertion ≡ true
-      → AsksWritten world.indices (command_of_assertion (directory_of setup) grants (record { handle = own; nonce = nonce }) assertion)
       → IsOwn world own (Assert assertion) (command_of_assertion (directory_of setup) grants (record { handle = own; nonce = nonce }) assertion)
-  own-assertion (assertions.Pcr mask digest values) bounds known asks = own-pcr mask digest values bounds
-  own-assertion (assertions.Nv index operand offset operation) bounds known asks = own-nv index operand offset operation (index_of_name (directory_of setup) index) refl known bounds.1 bounds.2
-  own-assertion (assertions.Secret entity policy_ref cp_hash expiration) bounds known asks =
-      own-secret entity policy_ref cp_hash expiration (entity_of_name (directory_of setup) entity) refl known bounds asks
-  own-assertion (assertions.Signed key policy_ref cp_hash expiration) bounds known asks =
+  own-assertion (assertions.Pcr mask digest values) bounds known = own-pcr mask digest values bounds
+  own-assertion (assertions.Nv index operand offset operation) bounds known = own-nv index operand offset operation (index_of_name (directory_of setup) index) refl known bounds.1 bounds.2
+  own-assertion (assertions.Secret entity policy_ref cp_hash expiration) bounds known =
+      own-secret entity policy_ref cp_hash expiration (entity_of_name (directory_of setup) entity) refl known bounds
+  own-assertion (assertions.Signed key policy_ref cp_hash expiration) bounds known =
       own-signed key policy_ref cp_hash expiration (object_of_name (directory_of setup) key) refl known bounds
-  own-assertion (assertions.CounterTimer operand offset operation) bounds known asks = record {
+  own-assertion (assertions.CounterTimer operand offset operation) bounds known = record {
     fits = fits-counter_timer own (session-handle own slot) operand offset operation bounds.0 bounds.1;
     area = tt;
     policy = refl;
-    shows = λ state rule. record { fact = _; is = refl; same = λ now same. refl };
+    shows = λ state rule asks. record { fact = _; is = refl; same = λ now same. refl };
   }
-  own-assertion (assertions.CommandCode code) bounds known asks = record {
+  own-assertion (assertions.CommandCode code) bounds known = record {
     fits = fits-code own (session-handle own slot) code bounds;
     area = tt;
     policy = refl;
-    shows = λ state rule. record { fact = _; is = refl; same = λ now same. refl };
+    shows = λ state rule asks. record { fact = _; is = refl; same = λ now same. refl };
   }
-  own-assertion (assertions.Locality localities) bounds known asks = record {
+  own-assertion (assertions.Locality localities) bounds known = record {
     fits = fits-locality own (session-handle own slot) localities bounds.1;
     area = tt;
     policy = refl;
-    shows = λ state rule. record { fact = _; is = refl; same = λ now same. refl };
+    shows = λ state rule asks. record { fact = _; is = refl; same = λ now same. refl };
   }
-  own-assertion (assertions.CpHash digest) bounds known asks = record {
+  own-assertion (assertions.CpHash digest) bounds known = record {
     fits = fits-cp_hash own (session-handle own slot) digest;
     area = tt;
     policy = refl;
-    shows = λ state rule. record { fact = _; is = refl; same = λ now same. refl };
+    shows = λ state rule asks. record { fact = _; is = refl; same = λ now same. refl };
   }
-  own-assertion (assertions.NameHash digest) bounds known asks = record {
+  own-assertion (assertions.NameHash digest) bounds known = record {
     fits = fits-name_hash own (session-handle own slot) digest;
     area = tt;
     policy = refl;
-    shows = λ state rule. record { fact = _; is = refl; same = λ now same. refl };
+    shows = λ state rule asks. record { fact = _; is = refl; same = λ now same. refl };
   }
-  own-assertion (assertions.NvWritten written) bounds known asks = record {
+  own-assertion (assertions.NvWritten written) bounds known = record {
     fits = fits-nv_written own (session-handle own slot) written;
     area = tt;
     policy = refl;
-    shows = λ state rule. record { fact = _; is = refl; same = λ now same. refl };
+    shows = λ state rule asks. record { fact = _; is = refl; same = λ now same. refl };
   }
-  own-assertion assertions.AuthValue bounds known asks = record {
+  own-assertion assertions.AuthValue bounds known = record {
     fits = fits-auth_value own (session-handle own slot);
     area = tt;
     policy = refl;
-    shows = λ state rule. record { fact = _; is = refl; same = λ now same. refl };
+    shows = λ state rule asks. record { fact = _; is = refl; same = λ now same. refl };
   }
-  own-assertion assertions.Password bounds known asks = record {
+  own-assertion assertions.Password bounds known = record {
     fits = fits-password own (session-handle own slot);
     area = tt;
     policy = refl;
-    shows = λ state rule. record { fact = _; is = refl; same = λ now same. refl };
+    shows = λ state rule asks. record { fact = _; is = refl; same = λ now same. refl };
   }
-  own-assertion assertions.PhysicalPresence bounds known asks = record {
+  own-assertion assertions.PhysicalPresence bounds known = record {
     fits = fits-presence own (session-handle own slot);
     area = tt;
     policy = refl;
-    shows = λ state rule. record { fact = _; is = refl; same = λ now same. refl };
+    shows = λ state rule asks. record { fact = _; is = refl; same = λ now same. refl };
   }
-  own-assertion (assertions.Duplication object parent include) bounds known asks = record {
+  own-assertion (assertions.Duplication object parent include) bounds known = record {
     fits = fits-duplication own (session-handle own slot) object parent include bounds.0 bounds.1;
     area = tt;
     policy = refl;
-    shows = λ state rule. record { fact = _; is = refl; same = λ now same. refl };
+    shows = λ state rule asks. record { fact = _; is = refl; same = λ now same. refl };
   }
 
   pub own-move : (ticket : Option Ticket) (act : Move) → TicketIsFit ticket → MoveHasBounds act → is_known_move (directory_of setup) grants act ≡ true → is_verification ticket act ≡ false
-      → AsksWritten world.indices (command_of_move (directory_of setup) grants (record { handle = own; nonce = nonce }) ticket act)
       → IsOwn world own act (command_of_move (directory_of setup) grants (record { handle = own; nonce = nonce }) ticket act)
-  own-move ticket (Assert assertion) fits bounds known verifies asks = own-assertion assertion bounds known asks
-  own-move ticket (Or digests) fits bounds known verifies asks = record {
+  own-move ticket (Assert assertion) fits bounds known verifies = own-assertion assertion bounds known
+  own-move ticket (Or digests) fits bounds known verifies = record {
     fits = fits-or own (session-handle own slot) digests bounds.0 bounds.1;
     area = tt;
     policy = refl;
-    shows = λ state rule. record { fact = _; is = refl; same = λ now same. refl };
+    shows = λ state rule asks. record { fact = _; is = refl; same = λ now same. refl };
   }
-  own-move None (Approve key policy_ref approved signature) fits bounds known verifies asks = absurd (false≢true (sym verifies))
-  own-move (Some ticket) (Approve key policy_ref approved signature) fits bounds known verifies asks = record {
+  own-move None (Approve key policy_ref approved signature) fits bounds known verifies = absurd (false≢true (sym verifies))
+  own-move (Some ticket) (Approve key policy_ref approved signature) fits bounds known verifies = record {
     fits = fits-authorize own (session-handle own slot) approved policy_ref key ticket bounds.1 bounds.0 fits;
     area = tt;
     policy = refl;
-    shows = λ state rule. record { fact = _; is = refl; same = λ now same. refl };
+    shows = λ state rule asks. record { fact = _; is = refl; same = λ now same. refl };
   }
-  own-move ticket (ApproveNv index approved) fits bounds known verifies asks = own-authorize_nv index approved (index_of_name (directory_of setup) index) refl known
+  own-move ticket (ApproveNv index approved) fits bounds known verifies = own-authorize_nv index approved (index_of_name (directory_of setup) index) refl known
 
 -- ---- its rules
 

@@ -45,6 +45,7 @@ pub record IsStart (tables : TableState) (number slot : ℕ) (nonce : Digest32) 
   pub free : is_free tables.sessions (bits_of tables.saved) slot ≡ true
   pub reads : reply_reading (number_of_code codes.StartAuthSession) (spell_reply (started_reply tables number) None) ≡ Some (replies.StartAuthSession (handle_of_slot slot) nonce, None)
   pub deed : started_by (spell_reply (started_reply tables number) None) ≡ Starts (handle_of_slot slot)
+  pub fresh : nonce ≡ nonce_of_event tables.world.seed number
 
 pub record Start (tables : TableState) (number : ℕ) : Type 0 where
   pub slot : ℕ
@@ -76,6 +77,7 @@ started tables number none =
             free = least.passes;
             reads = reads;
             deed = ap (λ (f : Option (Reply × Option ReplyAuth)). option_map_or Starts (option_and_then (λ p. started_session p.0) f) Idle) reads;
+            fresh = refl;
           };
         }
 

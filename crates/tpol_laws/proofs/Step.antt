@@ -2,7 +2,6 @@
 -- keeps it.
 use Rattle.std.proofs.Common.{◌≡◌, ℕ, ◌+◌, ◌<◌, ◌≤◌, true, false, List, [], ◌∷◌, ◌++◌, length, map, not, take, refl, ap, sym, subst, ◌∙◌, add-one, arith}
 use Rattle.std.specs.Prelude.{Option, Some, None, is_some, option_map, slice_get, if◌then◌else◌, ⊤}
-use Rattle.std.specs.Int.{to_be_bytes, w64}
 use Rattle.std.specs.List.{list_all, fold}
 use Rattle.std.proofs.lemmas.List.Elements.{All-from_recursion}
 use Rattle.std.specs.Option.{option_map_or}
@@ -27,7 +26,6 @@ use Rattle.tpol_driver.specs.Plans.{is_known_move}
 use Rattle.tpol_goal.specs.Entities.{object_of_name}
 use Rattle.tpol_hash.specs.Sha256.{sha256_digest}
 use Rattle.tpol_name.specs.declared.entries.DirEntry.{DirEntry}
-use Rattle.tpol_name.specs.declared.entries.IndexEntry.{IndexEntry}
 use Rattle.tpol_name.specs.declared.entries.ObjectEntry.{ObjectEntry}
 use Rattle.tpol_name.specs.declared.setup.Setup.{Setup}
 use Rattle.tpol_name.specs.Directories.{directory_of}
@@ -45,7 +43,6 @@ use Rattle.tpol_wire.specs.Kinds.{Fits, TicketFits}
 use Rattle.tpol_wire.specs.Replies.{FitsReply, spell_reply}
 use Rattle.tpol_wire.specs.ReplyReading.{reply_reading}
 use Rattle.tpol_wire.proofs.ReplyLaws.{reply_read}
-use Rattle.tpm_nv.specs.Indices.{count_after}
 use Rattle.tpm_session.specs.Slots.{IsSlotHandle, handle_of_slot}
 use Rattle.tpm_world.specs.Handles.{area_of}
 use Rattle.tpm_world.specs.Objects.{object_of}
@@ -58,11 +55,11 @@ use Rattle.tpm_world.specs.World.{WorldState}
 use Rattle.tpm_engine.specs.declared.event.Event.{Event}
 use Rattle.tpm_engine.specs.Answers.{first_stop, stopped, succeeding}
 use Rattle.tpm_engine.specs.Calls.{Call, event_by}
-use Rattle.tpm_engine.specs.Deeds.{Deed, Idle, Passes, Shifts, Resets, Extends, Writes, Increments, Starts, Ends as EndsDeed, Restarts, Saves, Loads, Shows, deed_of, plain_deed}
+use Rattle.tpm_engine.specs.Deeds.{Shows, plain_deed}
 use Rattle.tpm_engine.specs.Events.{event_of}
 use Rattle.tpm_engine.specs.Facts.{Moment, Shown}
 use Rattle.tpm_engine.specs.Tables.{TableState}
-use Rattle.tpm_engine.specs.Views.{facts_of, indices_after, indices_of, is_held, moment_of, next_number, view_of, world_at}
+use Rattle.tpm_engine.specs.Views.{facts_of, indices_of, is_held, moment_of, next_number, view_of, world_at}
 use Rattle.tpol_laws.specs.Acts.{Act, Course, Other, Run, Turn, after_act, after_acts, answer_in, begun, event_in, turned}
 use Rattle.tpol_laws.specs.Others.{AreOthersApart, AreSecretsOnWritten, AsksWritten, LeavesAlone, SendsOnWritten, TurnsOnWritten, place_of}
 use Rattle.tpol_laws.specs.Runs.{IsRun}
@@ -72,31 +69,12 @@ use Rattle.tpol_laws.proofs.Calm.{others-stay}
 use Rattle.tpol_laws.proofs.Codes.{HasCode, IsCode, first-coded, policy-own-coded, start-coded, verify-coded}
 use Rattle.tpol_laws.proofs.Finds.{all-at, both as and-both, tests}
 use Rattle.tpol_laws.proofs.Fit.{fits-start, fits-verify, object-handle}
-use Rattle.tpol_laws.proofs.Named.{area, areas-written, object-found}
+use Rattle.tpol_laws.proofs.Lasting.{areas-same}
+use Rattle.tpol_laws.proofs.Named.{object-found}
 use Rattle.tpol_laws.proofs.Own.{IsOf, IsOwn, TicketIsFit, own-is-policy, own-move, rule-passed, ruled}
 use Rattle.tpol_laws.proofs.Starts.{started}
 
 -- ---- the machine's world
-
-deed-areas : (deed : Deed) (indices : List IndexEntry) → map area (indices_after deed indices) ≡ map area indices
-deed-areas Idle indices = refl
-deed-areas (Passes ms) indices = refl
-deed-areas (Shifts on) indices = refl
-deed-areas Resets indices = refl
-deed-areas (Extends pcr digest) indices = refl
-deed-areas (Writes index offset bytes) indices = areas-written index offset bytes indices
-deed-areas (Increments index) indices = areas-written index 0 (to_be_bytes w64 (count_after index indices)) indices
-deed-areas (Starts session) indices = refl
-deed-areas (EndsDeed session) indices = refl
-deed-areas (Restarts session) indices = refl
-deed-areas (Saves session) indices = refl
-deed-areas (Loads session) indices = refl
-deed-areas (Shows session fact) indices = refl
-
-pub areas-same : (setup : Setup) (past : List Event) → map area (indices_of setup past) ≡ map area setup.indices
-unfolding indices_of
-areas-same setup [] = refl
-areas-same setup (event ∷ past) = deed-areas (deed_of event) (indices_of setup past) ∙ areas-same setup past
 
 pub is-of : (setup : Setup) (past : List Event) → IsOf setup (view_of setup past).world
 unfolding view_of world_at
@@ -189,14 +167,14 @@ goal-on run past session (ends.BadReply stage) = tt
 module _ (run : Run) (is : IsRun run) (past : List Event) (own : ℕ) (nonce : Digest32) (sent done : ℕ) where
   -- a policy command that nothing stops
   own-done : (ticket : Option Ticket) (act : Move) (command : Command) → slice_get run.plan.path.moves done ≡ Some act → IsOnPath run past own ticket done
-      → IsOwn (view_of run.setup past).world own act command → first_stop (view_of run.setup past) run.locality command ≡ None
+      → IsOwn (view_of run.setup past).world own act command → AsksWritten (view_of run.setup past).world.indices command → first_stop (view_of run.setup past) run.locality command ≡ None
       → IsOnPath run (event_of run.client run.locality (spelling command) (succeeding (view_of run.setup past) (next_number past) command) ∷ past) own None (done + 1)
   unfolding view_of
-  own-done ticket act command at on made first =
+  own-done ticket act command at on made asks first =
       let reads = read-back command made.fits in
       let rule = own-passed (view_of run.setup past) run.locality command first in
       let passed = rule-passed (view_of run.setup past) command made.policy rule in
-      let shows = made.shows passed.state passed.holds in
+      let shows = made.shows passed.state passed.holds asks in
       let deed = done-deed (view_of run.setup past) (next_number past) run.client run.locality (spelling command) command reads
       ∙ ap (λ (o : Option Shown). option_map_or (λ (shown : Shown). Shows shown.0 shown.1) o (plain_deed command (succeeding (view_of run.setup past) (next_number past) command).reply)) shows.is in
       let uses = done-use (view_of run.setup past) (next_number past) run.client run.locality (spelling command) command reads ∙ password-use (area_of command) made.area in
@@ -204,16 +182,16 @@ module _ (run : Run) (is : IsRun run) (past : List Event) (own : ℕ) (nonce : D
       (shows.same (moment_of run.setup past own) refl)
 
   own-turn : (ticket : Option Ticket) (act : Move) (command : Command) (number : ℕ) → slice_get run.plan.path.moves done ≡ Some act → IsOnPath run past own ticket done → is_verification ticket act ≡ false
-      → IsOwn (view_of run.setup past).world own act command
+      → IsOwn (view_of run.setup past).world own act command → AsksWritten (view_of run.setup past).world.indices command
       → IsOn run (event_in run past command ∷ past) (goes_on (record { handle = own; nonce = nonce }) sent done (move_heard ticket act (done + 1) (answer_of (reply_reading number (answer_in run past command).reply))))
-  own-turn ticket act command number at on other made =
+  own-turn ticket act command number at on other made asks =
       on-answer (λ a. IsOn run (event_of run.client run.locality (spelling command) a ∷ past) (goes_on (record { handle = own; nonce = nonce }) sent done (move_heard ticket act (done + 1) (answer_of (reply_reading number a.reply)))))
       (view_of run.setup past) (next_number past) run.locality (spelling command) command (read-back command made.fits)
       (λ stop stops. denied-on run _ own nonce sent done (done + 1) ticket act number stop.code
       (stop-code (first_stop (view_of run.setup past) run.locality command) stop
       (first-coded (view_of run.setup past) run.locality command
       (subst HasCode (sym (own-is-policy (view_of run.setup past) command made.policy)) (policy-own-coded (view_of run.setup past) command))) stops))
-      (λ first. accepted-on run _ own nonce sent done (done + 1) ticket act _ other (own-done ticket act command at on made first))
+      (λ first. accepted-on run _ own nonce sent done (done + 1) ticket act _ other (own-done ticket act command at on made asks first))
 
 -- ---- VerifySignature, which makes the ticket
 
@@ -228,13 +206,16 @@ unfolding ValuesFit Fits
 ticket-reply ticket fits = ((fits, tt), refl)
 
 -- what the machine answers to it is heard as a ticket that fits
-pub record Verifies (reply : List ℕ) : Type 0 where
+pub record Verifies (world : WorldState) (key : ℕ) (digest : Digest32) (reply : List ℕ) : Type 0 where
+  pub object : ObjectEntry
+  pub held : object_of key world.objects ≡ Some object
   pub ticket : Ticket
+  pub made : ticket ≡ verification.ticket_of world digest object
   pub fits : TicketFits ticket
   pub reads : reply_reading (number_of_code codes.VerifySignature) reply ≡ Some (replies.VerifySignature ticket, None)
 
 pub verifies : (tables : TableState) (number key : ℕ) (digest signature : Digest32) → verification.rule tables.world key digest signature ≡ None
-    → Verifies (succeeding tables number (commands.VerifySignature key digest signature)).reply
+    → Verifies tables.world key digest (succeeding tables number (commands.VerifySignature key digest signature)).reply
 verifies tables number key digest signature rule =
     let it = ruled _ (object_of key tables.world.objects) _ rule in
     let ticket = verification.ticket_of tables.world digest it.value in
@@ -244,7 +225,10 @@ verifies tables number key digest signature rule =
     let read : reply_reading (number_of_code codes.VerifySignature) (spell_reply (replies.VerifySignature ticket) None) ≡ Some (replies.VerifySignature ticket, None) =
     reply_read (number_of_code codes.VerifySignature) _ (replies.VerifySignature ticket) None (record { whole = refl; fits = ticket-reply ticket fits; answers = refl }) in
     record {
+      object = it.value;
+      held = it.is;
       ticket = ticket;
+      made = refl;
       fits = fits;
       reads = ap (λ (r : Reply). reply_reading (number_of_code codes.VerifySignature) (spell_reply r None)) same ∙ read;
     }
@@ -303,7 +287,7 @@ module _ (run : Run) (is : IsRun run) (past : List Event) (own : ℕ) (nonce : D
       (answer_in run past (command_of_move (directory_of run.setup) run.plan.grants (record { handle = own; nonce = nonce }) ticket act)).reply))))
   own-step ticket act at on bounds known other asks =
       own-turn run is past own nonce sent done ticket act (command_of_move (directory_of run.setup) run.plan.grants (record { handle = own; nonce = nonce }) ticket act) _ at on other
-      (own-move run.setup is.setup (view_of run.setup past).world (is-of run.setup past) run.plan.grants is.grants own nonce on.slot ticket act on.fits bounds known other (asks-view run.setup past _ asks))
+      (own-move run.setup is.setup (view_of run.setup past).world (is-of run.setup past) run.plan.grants is.grants own nonce on.slot ticket act on.fits bounds known other) (asks-view run.setup past _ asks)
 
   move-step : (ticket : Option Ticket) (act : Move) → slice_get run.plan.path.moves done ≡ Some act → IsOnPath run past own ticket done
       → MoveHasBounds act → is_known_move (directory_of run.setup) run.plan.grants act ≡ true

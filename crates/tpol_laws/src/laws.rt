@@ -1,6 +1,6 @@
 //! What the definitions promise together: functions without a body, whose clauses are the laws.
 
-ghost use Rattle.std.specs.Prelude.{◌≡◌, ◌≤◌, ◌<◌, ◌+◌, ◌*◌, ℕ, List, None, Some, length, map, option_map, take, true};
+ghost use Rattle.std.specs.Prelude.{◌≡◌, ◌≤◌, ◌<◌, ◌+◌, ◌*◌, ℕ, List, None, Some, length, map, option_map, replicate, take, true};
 ghost use Rattle.std.specs.List.{Contains};
 ghost use Rattle.tpol_choose.specs.Blocks.{first_block};
 ghost use Rattle.tpol_digest.specs.Digest.{digest_of_moves, policy_digest};
@@ -8,7 +8,8 @@ ghost use Rattle.tpol_digest.specs.Paths.{paths_of};
 ghost use Rattle.tpol_digest.specs.Sound.{moves_of_facts};
 ghost use Rattle.tpol_digest.specs.Update.{update_of};
 ghost use Rattle.tpol_driver.specs.declared.plan.Plan.{Plan};
-ghost use Rattle.tpol_driver.specs.Driving.{Starting, sends};
+ghost use Rattle.tpol_driver.specs.declared.end.End.TheVariants.{Served};
+ghost use Rattle.tpol_driver.specs.Driving.{Over, Starting, sends};
 ghost use Rattle.tpol_driver.specs.Plans.{is_complete};
 ghost use Rattle.tpol_driver.specs.States.{is_over};
 ghost use Rattle.tpol_name.specs.declared.setup.Setup.{Setup as SetupOf};
@@ -18,10 +19,10 @@ ghost use Rattle.tpol_tree.specs.declared.closed.Closed.{Closed};
 ghost use Rattle.tpol_tree.specs.declared.path.ApprovedDoc.{ApprovedDoc};
 ghost use Rattle.tpm_engine.specs.declared.event.Event.{Event as EventOf};
 ghost use Rattle.tpm_engine.specs.Sights.{sight_after};
-ghost use Rattle.tpm_engine.specs.Views.{facts_of, indices_of};
+ghost use Rattle.tpm_engine.specs.Views.{facts_of};
 ghost use Rattle.tpol_laws.specs.Acts.{Act, Run, Turn, after_act, after_acts, begun, succeeds, turns_in};
-ghost use Rattle.tpol_laws.specs.Others.{AreOthersApart, AreSecretsOnWritten, HasGoneOn, SendsOnWritten, place_of};
-ghost use Rattle.tpol_laws.specs.Runs.{IsRun};
+ghost use Rattle.tpol_laws.specs.Others.{AreOthersApart, AreSecretsOnWritten, HasGoneOn, place_of};
+ghost use Rattle.tpol_laws.specs.Runs.{IsBegun, IsRun};
 
 /// A path that nothing stops on the machine as it is now is one whose commands can all be made: it is not outside,
 /// each Name on it is in the directory with its kind, and each key that signs is granted.
@@ -29,6 +30,15 @@ pub fn a_path_that_can_is_complete()
     ensures { (setup : SetupOf) (past : List EventOf) (plan : Plan) (locality : ℕ)
         → IsSetup setup → plan.directory ≡ directory_of setup
         → first_block plan.path (sight_after setup past) plan.grants plan.goal locality ≡ None → is_complete plan ≡ true }
+{}
+
+/// A run whose path nothing blocks on the machine as it is at the run's begin is over, and served, after as many
+/// turns as it has commands at most, where only its own turns come: two for each move, the start and the goal.
+pub fn a_path_that_can_is_served()
+    ensures { (run : Run) (past : List EventOf) (turns : ℕ)
+        → IsBegun run → first_block run.plan.path (sight_after run.setup past) run.plan.grants run.plan.goal run.locality ≡ None
+        → 2 * length run.plan.path.moves + 2 ≤ turns
+        → (bytes : List ℕ) × ((after_acts run (replicate turns Turn) (begun past)).standing ≡ Over (Served bytes)) }
 {}
 
 /// A run is over after as many turns as it has commands at most, whatever others do: two for each move, and the
@@ -48,7 +58,6 @@ pub fn a_run_goes_on()
     ensures goes_on { (run : Run) (past : List EventOf) (acts : List Act) (session done : ℕ)
         → IsRun run → AreOthersApart run acts (begun past) → AreSecretsOnWritten run acts (begun past)
         → place_of (after_acts run acts (begun past)).standing ≡ Some (session, done) → done < length run.plan.path.moves
-        → SendsOnWritten (indices_of run.setup (after_acts run acts (begun past)).past) (sends run.plan (after_acts run acts (begun past)).standing)
         → succeeds run (after_acts run acts (begun past)) (sends run.plan (after_acts run acts (begun past)).standing) ≡ true
         → HasGoneOn session done (place_of (after_act run (after_acts run acts (begun past)) Turn).standing) }
 {}

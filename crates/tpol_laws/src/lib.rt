@@ -11,6 +11,14 @@
 //! - `IsSetup`: the clause `setup` of `read_scene`. The directory is that of `directory`, its clause `lines`. The
 //!   sight is that of `Machine::sight`, its clause `view`.
 //!
+//! `a_path_that_can_is_served`
+//! - `IsBegun.setup`, `IsBegun.grants`: the clauses `setup` and `clients` of `read_scene`.
+//! - `IsBegun.fits`, `IsBegun.among`: its clause `script`, for the goal of a run that is begun.
+//! - `IsBegun.directory`, `IsBegun.moves`: as for the laws below.
+//! - `IsBegun.short`: the clause `within` of `check_paths`.
+//! - That nothing blocks the path: for a path that `choose` answers, its clause `chosen`, over the machine's sight
+//!   at the run's begin.
+//!
 //! `a_run_ends`: none.
 //!
 //! `a_run_goes_on`, `session_digest_is_compiled`
@@ -31,5 +39,6 @@
 mod laws;
 
 pub use laws::{
-    a_path_that_can_is_complete, a_run_ends, a_run_goes_on, session_digest_is_compiled,
+    a_path_that_can_is_complete, a_path_that_can_is_served, a_run_ends, a_run_goes_on,
+    session_digest_is_compiled,
 };
