@@ -12,7 +12,7 @@ use Rattle.tpol_json.specs.Values.{is_within_limit}
 use Rattle.tpol_json.specs.declared.fault.MemberKind.TheVariants.{TooMany}
 use Rattle.tpol_json.specs.declared.place.Place.{Place}
 use Rattle.tpol_name.specs.Setups.{IsAuthValue}
-use Rattle.tpol_scene.specs.Clients.{ClientList, Values, client_in, clients_in, has_value, is_client, key_in, key_item, keys_in, new_client_in, new_target_in, secret_in, secret_item, secrets_in}
+use Rattle.tpol_scene.specs.Clients.{ClientList, Values, client_in, clients_in, grant_in, grant_target, grant_value_in, grants_in, has_value, is_client, new_client_in, new_target_in}
 use Rattle.tpol_scene.specs.Conditions.{AreClients}
 use Rattle.tpol_scene.specs.Faults.{kind_of, read_as}
 use Rattle.tpol_scene.specs.Members.{needed, optional}
@@ -20,8 +20,9 @@ use Rattle.tpol_scene.specs.Targets.{target_in}
 use Rattle.tpol_scene.specs.Values.{object_in, u32_in, bytes_up_to, auth_in}
 use Rattle.tpol_scene.specs.declared.entities.Entities.{Entities}
 use Rattle.tpol_scene.specs.declared.fault.SceneKind.TheVariants.{Twice}
+use Rattle.tpol_scene.specs.declared.grants.GrantKind.{GrantKind}
+use Rattle.tpol_scene.specs.declared.grants.GrantKind.TheVariants.{Secret, Key}
 use Rattle.tpol_scene.specs.declared.targets.Target.{Target}
-use Rattle.tpol_scene.specs.declared.targets.Target.TheVariants.{Entity, Object}
 use Rattle.tpol_scene.proofs.EntryLemmas.{handles-push}
 use Rattle.tpol_scene.proofs.ValueLemmas.{any_ok, auth_ok, empty_auth, list_counted, list_ok, needed_ok, optional_ok, refuted, short_ok, tested}
 
@@ -60,40 +61,30 @@ new_target_ok entities target values d place =
     all_then (λ _. ⊤) (IsNewHandle values) (target_in entities target d place) _ (any_ok _)
     (λ handle _. refuted (IsNewHandle values) (has_value values handle) handle Twice place (λ e. e))
 
-abbrev IsKey : List ℕ → Type 0
-IsKey bytes = length bytes ≤ 128
+-- what a value of each kind is
+abbrev IsGrant : GrantKind → List ℕ → Type 0
+IsGrant Secret bytes = IsAuthValue bytes
+IsGrant Key bytes = length bytes ≤ 128
 
-secret_ok : (entities : Entities) (values : Values) (index : ℕ) (d : Data) (place : Place) → ValuesFit IsAuthValue values
-    → AllFound (ValuesFit IsAuthValue) (secret_item entities values index d place)
-unfolding secret_in
-secret_ok entities values index d place fit =
-    all_then (λ _. ⊤) (ValuesFit IsAuthValue) (object_in d place) _ (any_ok _) (λ is_object _.
-    all_then (IsNewHandle values) (ValuesFit IsAuthValue) (needed (new_target_in entities Entity values) (codes "path") d place) _
-    (needed_ok (IsNewHandle values) (new_target_in entities Entity values) (new_target_ok entities Entity values) (codes "path") d place) (λ handle new.
-    all_then IsAuthValue (ValuesFit IsAuthValue) (optional auth_in [] (codes "auth") d place) _
-    (optional_ok IsAuthValue auth_in [] empty_auth auth_ok (codes "auth") d place) (λ auth is_auth.
-    one_more IsAuthValue values handle auth fit new is_auth)))
+grant_value_ok : (kind : GrantKind) (d : Data) (place : Place) → AllFound (IsGrant kind) (grant_value_in kind d place)
+grant_value_ok Secret d place = optional_ok IsAuthValue auth_in [] empty_auth auth_ok (codes "auth") d place
+grant_value_ok Key d place = needed_ok (λ bytes. length bytes ≤ 128) (bytes_up_to 128) (short_ok 128) (codes "key") d place
 
-key_ok : (entities : Entities) (values : Values) (index : ℕ) (d : Data) (place : Place) → ValuesFit IsKey values
-    → AllFound (ValuesFit IsKey) (key_item entities values index d place)
-unfolding key_in
-key_ok entities values index d place fit =
-    all_then (λ _. ⊤) (ValuesFit IsKey) (object_in d place) _ (any_ok _) (λ is_object _.
-    all_then (IsNewHandle values) (ValuesFit IsKey) (needed (new_target_in entities Object values) (codes "path") d place) _
-    (needed_ok (IsNewHandle values) (new_target_in entities Object values) (new_target_ok entities Object values) (codes "path") d place) (λ handle new.
-    all_then IsKey (ValuesFit IsKey) (needed (bytes_up_to 128) (codes "key") d place) _
-    (needed_ok IsKey (bytes_up_to 128) (short_ok 128) (codes "key") d place) (λ key short.
-    one_more IsKey values handle key fit new short)))
+grant_ok : (entities : Entities) (kind : GrantKind) (values : Values) (index : ℕ) (d : Data) (place : Place) → ValuesFit (IsGrant kind) values
+    → AllFound (ValuesFit (IsGrant kind)) (grant_in entities kind values index d place)
+unfolding grant_in
+grant_ok entities kind values index d place fit =
+    all_then (λ _. ⊤) (ValuesFit (IsGrant kind)) (object_in d place) _ (any_ok _) (λ is_object _.
+    all_then (IsNewHandle values) (ValuesFit (IsGrant kind)) (needed (new_target_in entities (grant_target kind) values) (codes "path") d place) _
+    (needed_ok (IsNewHandle values) (new_target_in entities (grant_target kind) values) (new_target_ok entities (grant_target kind) values) (codes "path") d place) (λ handle new.
+    all_then (IsGrant kind) (ValuesFit (IsGrant kind)) (grant_value_in kind d place) _ (grant_value_ok kind d place) (λ value so.
+    one_more (IsGrant kind) values handle value fit new so)))
 
-secrets_ok : (entities : Entities) (d : Data) (place : Place) → AllFound (ValuesFit IsAuthValue) (optional (secrets_in entities) [] (codes "secrets") d place)
-secrets_ok entities d place =
-    optional_ok (ValuesFit IsAuthValue) (secrets_in entities) [] (no_values IsAuthValue)
-    (list_ok (ValuesFit IsAuthValue) (secret_item entities) (secret_ok entities) [] (no_values IsAuthValue)) (codes "secrets") d place
-
-keys_ok : (entities : Entities) (d : Data) (place : Place) → AllFound (ValuesFit IsKey) (optional (keys_in entities) [] (codes "keys") d place)
-keys_ok entities d place =
-    optional_ok (ValuesFit IsKey) (keys_in entities) [] (no_values IsKey)
-    (list_ok (ValuesFit IsKey) (key_item entities) (key_ok entities) [] (no_values IsKey)) (codes "keys") d place
+grants_ok : (entities : Entities) (kind : GrantKind) (name : List ℕ) (d : Data) (place : Place)
+    → AllFound (ValuesFit (IsGrant kind)) (optional (grants_in entities kind) [] name d place)
+grants_ok entities kind name d place =
+    optional_ok (ValuesFit (IsGrant kind)) (grants_in entities kind) [] (no_values (IsGrant kind))
+    (list_ok (ValuesFit (IsGrant kind)) (grant_in entities kind) (grant_ok entities kind) [] (no_values (IsGrant kind))) name d place
 
 -- ---- clients
 
@@ -115,7 +106,7 @@ new_client_ok clients d place =
     (λ client _. refuted (IsNewClient clients) (is_client clients client) client Twice place (λ e. e))
 
 client_more : (n : ℕ) (clients : ClientList) (client : ℕ) (secrets keys : Values) → n < 64 → ClientsCounted n clients → IsNewClient clients client
-    → ValuesFit IsAuthValue secrets → ValuesFit IsKey keys → ClientsCounted (suc n) (clients ++ (client, record { secrets = secrets; keys = keys }) ∷ [])
+    → ValuesFit (IsGrant Secret) secrets → ValuesFit (IsGrant Key) keys → ClientsCounted (suc n) (clients ++ (client, record { secrets = secrets; keys = keys }) ∷ [])
 client_more n clients client secrets keys less counted new fit_secrets fit_keys = record {
   fit = record {
     numbers = handles-push number_of clients (client, record { secrets = secrets; keys = keys }) counted.fit.numbers new;
@@ -135,8 +126,8 @@ client_ok entities clients index d place counted =
     all_then (λ _. ⊤) Q (object_in d place) _ (any_ok _) (λ is_object _.
     all_then (IsNewClient clients) Q (needed (new_client_in clients) (codes "client") d place) _
     (needed_ok (IsNewClient clients) (new_client_in clients) (new_client_ok clients) (codes "client") d place) (λ client new.
-    all_then (ValuesFit IsAuthValue) Q (optional (secrets_in entities) [] (codes "secrets") d place) _ (secrets_ok entities d place) (λ secrets fit_secrets.
-    all_then (ValuesFit IsKey) Q (optional (keys_in entities) [] (codes "keys") d place) _ (keys_ok entities d place) (λ keys fit_keys.
+    all_then (ValuesFit (IsGrant Secret)) Q (optional (grants_in entities Secret) [] (codes "secrets") d place) _ (grants_ok entities Secret (codes "secrets") d place) (λ secrets fit_secrets.
+    all_then (ValuesFit (IsGrant Key)) Q (optional (grants_in entities Key) [] (codes "keys") d place) _ (grants_ok entities Key (codes "keys") d place) (λ keys fit_keys.
     client_more index clients client secrets keys less counted new fit_secrets fit_keys)))))
 
 abbrev pub AreFewClients : ClientList → Type 0

@@ -11,14 +11,15 @@ use Rattle.tpol_name.specs.Paths.{is_same_path}
 use Rattle.tpol_name.specs.declared.entries.IndexEntry.{IndexEntry}
 use Rattle.tpol_name.specs.declared.entries.ObjectEntry.{ObjectEntry}
 use Rattle.tpol_scene.specs.Conditions.{HasOffset}
-use Rattle.tpol_scene.specs.Goals.{duplicate_in, goal_by, goal_command_in, goal_in, goal_index_in, goal_object_in, hmac_in, nv_increment_in, nv_read_in, nv_write_in, offset_in, unseal_in}
+use Rattle.tpol_scene.specs.Goals.{duplicate_in, goal_by, goal_command_in, goal_in, hmac_in, nv_read_in, nv_write_in, offset_in, path_target}
 use Rattle.tpol_scene.specs.Members.{needed, optional}
 use Rattle.tpol_scene.specs.Targets.{handle_at, handle_or_bad, target_in}
 use Rattle.tpol_scene.specs.Values.{object_in, text_in, unsigned_in, bytes_up_to}
 use Rattle.tpol_scene.specs.declared.entities.Entities.{Entities}
 use Rattle.tpol_scene.specs.declared.goals.GoalCommand.{GoalCommand}
 use Rattle.tpol_scene.specs.declared.goals.GoalCommand.TheVariants.{Unseal, Hmac, NvRead, NvWrite, NvIncrement, Duplicate}
-use Rattle.tpol_scene.specs.declared.targets.Target.TheVariants.{Object, Index}
+use Rattle.tpol_scene.specs.declared.targets.Target.{Target}
+use Rattle.tpol_scene.specs.declared.targets.Target.TheVariants.{Entity, Object, Index}
 use Rattle.tpol_scene.proofs.ValueLemmas.{any_ok, needed_ok, optional_ok, short_ok, unsigned_ok}
 
 -- ---- what is found is there
@@ -67,11 +68,16 @@ index_ok entities d place =
     all_then (λ _. ⊤) (Contains (indices_of entities)) (text_in d place) _ (any_ok _)
     (λ path _. handle_ok (Contains (indices_of entities)) (handle_at entities Index path) place (index_there entities path))
 
-goal_object_ok : (entities : Entities) (d : Data) (place : Place) → AllFound (Contains (objects_of entities)) (goal_object_in entities d place)
-goal_object_ok entities d place = needed_ok (Contains (objects_of entities)) (target_in entities Object) (object_ok entities) (codes "path") d place
+-- what a path names stands among the objects, or the indices, where one of them is wanted
+abbrev IsNamed : Entities → Target → ℕ → Type 0
+IsNamed entities Entity handle = ⊤
+IsNamed entities Object handle = Contains (objects_of entities) handle
+IsNamed entities Index handle = Contains (indices_of entities) handle
 
-goal_index_ok : (entities : Entities) (d : Data) (place : Place) → AllFound (Contains (indices_of entities)) (goal_index_in entities d place)
-goal_index_ok entities d place = needed_ok (Contains (indices_of entities)) (target_in entities Index) (index_ok entities) (codes "path") d place
+target_ok : (entities : Entities) (target : Target) (d : Data) (place : Place) → AllFound (IsNamed entities target) (target_in entities target d place)
+target_ok entities Entity d place = any_ok _
+target_ok entities Object d place = object_ok entities d place
+target_ok entities Index d place = index_ok entities d place
 
 -- ---- bounds
 
@@ -110,40 +116,25 @@ pub record GoalFits (objects indices : List ℕ) (goal : Goal) : Type 0 where
 abbrev pub FitsEntities : Entities → Goal → Type 0
 FitsEntities entities goal = GoalFits (objects_of entities) (indices_of entities) goal
 
-unseal_ok : (entities : Entities) (d : Data) (place : Place) → AllFound (FitsEntities entities) (unseal_in entities d place)
-unfolding unseal_in
-unseal_ok entities d place =
-    all_then (Contains (objects_of entities)) (FitsEntities entities) (goal_object_in entities d place) _ (goal_object_ok entities d place) (λ object there.
-    record { fits = tt; offset = tt; among = there })
-
-hmac_ok : (entities : Entities) (d : Data) (place : Place) → AllFound (FitsEntities entities) (hmac_in entities d place)
+hmac_ok : (entities : Entities) (key : ℕ) → Contains (objects_of entities) key → (d : Data) (place : Place) → AllFound (FitsEntities entities) (hmac_in key d place)
 unfolding hmac_in
-hmac_ok entities d place =
-    all_then (Contains (objects_of entities)) (FitsEntities entities) (goal_object_in entities d place) _ (goal_object_ok entities d place) (λ key there.
+hmac_ok entities key there d place =
     all_then IsShort (FitsEntities entities) (needed (bytes_up_to 1024) (codes "buffer") d place) _ (bytes_ok (codes "buffer") d place) (λ buffer short.
-    record { fits = short; offset = tt; among = there }))
+    record { fits = short; offset = tt; among = there })
 
-nv_read_ok : (entities : Entities) (d : Data) (place : Place) → AllFound (FitsEntities entities) (nv_read_in entities d place)
+nv_read_ok : (entities : Entities) (index : ℕ) → Contains (indices_of entities) index → (d : Data) (place : Place) → AllFound (FitsEntities entities) (nv_read_in index d place)
 unfolding nv_read_in
-nv_read_ok entities d place =
-    all_then (Contains (indices_of entities)) (FitsEntities entities) (goal_index_in entities d place) _ (goal_index_ok entities d place) (λ index there.
+nv_read_ok entities index there d place =
     all_then IsSize (FitsEntities entities) (needed (unsigned_in 0 1024) (codes "size") d place) _ (size_ok d place) (λ size small.
     all_then IsOffset (FitsEntities entities) (offset_in d place) _ (offset_ok d place) (λ offset less.
-    record { fits = small; offset = less; among = there })))
+    record { fits = small; offset = less; among = there }))
 
-nv_write_ok : (entities : Entities) (d : Data) (place : Place) → AllFound (FitsEntities entities) (nv_write_in entities d place)
+nv_write_ok : (entities : Entities) (index : ℕ) → Contains (indices_of entities) index → (d : Data) (place : Place) → AllFound (FitsEntities entities) (nv_write_in index d place)
 unfolding nv_write_in
-nv_write_ok entities d place =
-    all_then (Contains (indices_of entities)) (FitsEntities entities) (goal_index_in entities d place) _ (goal_index_ok entities d place) (λ index there.
+nv_write_ok entities index there d place =
     all_then IsShort (FitsEntities entities) (needed (bytes_up_to 1024) (codes "bytes") d place) _ (bytes_ok (codes "bytes") d place) (λ bytes short.
     all_then IsOffset (FitsEntities entities) (offset_in d place) _ (offset_ok d place) (λ offset less.
-    record { fits = short; offset = less; among = there })))
-
-nv_increment_ok : (entities : Entities) (d : Data) (place : Place) → AllFound (FitsEntities entities) (nv_increment_in entities d place)
-unfolding nv_increment_in
-nv_increment_ok entities d place =
-    all_then (Contains (indices_of entities)) (FitsEntities entities) (goal_index_in entities d place) _ (goal_index_ok entities d place) (λ index there.
-    record { fits = tt; offset = tt; among = there })
+    record { fits = short; offset = less; among = there }))
 
 abbrev IsParent : Entities → ℕ → Type 0
 IsParent entities parent = (parent ≡ rh_null) ⊎ Contains (objects_of entities) parent
@@ -151,26 +142,28 @@ IsParent entities parent = (parent ≡ rh_null) ⊎ Contains (objects_of entitie
 parent_there : (entities : Entities) (d : Data) (place : Place) → AllFound (IsParent entities) (target_in entities Object d place)
 parent_there entities d place = all_map (Contains (objects_of entities)) (IsParent entities) (target_in entities Object d place) (object_ok entities d place) (λ parent there. inr there)
 
-duplicate_ok : (entities : Entities) (d : Data) (place : Place) → AllFound (FitsEntities entities) (duplicate_in entities d place)
+duplicate_ok : (entities : Entities) (object : ℕ) → Contains (objects_of entities) object → (d : Data) (place : Place) → AllFound (FitsEntities entities) (duplicate_in entities object d place)
 unfolding duplicate_in
-duplicate_ok entities d place =
-    all_then (Contains (objects_of entities)) (FitsEntities entities) (goal_object_in entities d place) _ (goal_object_ok entities d place) (λ object there.
+duplicate_ok entities object there d place =
     all_then (IsParent entities) (FitsEntities entities) (optional (target_in entities Object) rh_null (codes "parent") d place) _
     (optional_ok (IsParent entities) (target_in entities Object) rh_null (inl refl) (parent_there entities) (codes "parent") d place) (λ parent is_parent.
-    record { fits = tt; offset = tt; among = (there, is_parent) }))
+    record { fits = tt; offset = tt; among = (there, is_parent) })
 
-by_command_ok : (command : GoalCommand) (entities : Entities) (d : Data) (place : Place) → AllFound (FitsEntities entities) (goal_by command entities d place)
+by_command_ok : (command : GoalCommand) (entities : Entities) (handle : ℕ) → IsNamed entities (path_target command) handle → (d : Data) (place : Place)
+    → AllFound (FitsEntities entities) (goal_by command entities handle d place)
 unfolding goal_by
-by_command_ok Unseal entities d place = unseal_ok entities d place
-by_command_ok Hmac entities d place = hmac_ok entities d place
-by_command_ok NvRead entities d place = nv_read_ok entities d place
-by_command_ok NvWrite entities d place = nv_write_ok entities d place
-by_command_ok NvIncrement entities d place = nv_increment_ok entities d place
-by_command_ok Duplicate entities d place = duplicate_ok entities d place
+by_command_ok Unseal entities object there d place = record { fits = tt; offset = tt; among = there }
+by_command_ok Hmac entities key there d place = hmac_ok entities key there d place
+by_command_ok NvRead entities index there d place = nv_read_ok entities index there d place
+by_command_ok NvWrite entities index there d place = nv_write_ok entities index there d place
+by_command_ok NvIncrement entities index there d place = record { fits = tt; offset = tt; among = there }
+by_command_ok Duplicate entities object there d place = duplicate_ok entities object there d place
 
 pub goal_ok : (entities : Entities) (d : Data) (place : Place) → AllFound (FitsEntities entities) (goal_in entities d place)
 unfolding goal_in
 goal_ok entities d place =
     all_then (λ _. ⊤) (FitsEntities entities) (object_in d place) _ (any_ok _) (λ is_object _.
     all_then (λ _. ⊤) (FitsEntities entities) (needed goal_command_in (codes "command") d place) _ (any_ok _) (λ command _.
-    by_command_ok command entities d place))
+    all_then (IsNamed entities (path_target command)) (FitsEntities entities) (needed (target_in entities (path_target command)) (codes "path") d place) _
+    (needed_ok (IsNamed entities (path_target command)) (target_in entities (path_target command)) (target_ok entities (path_target command)) (codes "path") d place) (λ handle there.
+    by_command_ok command entities handle there d place)))

@@ -11,7 +11,7 @@ use Rattle.tpol_scene.specs.Entities.{entity_in, entities_in, no_entities}
 use Rattle.tpol_scene.specs.Faults.{Fault, Found, first_of}
 use Rattle.tpol_scene.specs.Lists.{faults_of, list_faults, optional_faults, optional_kept}
 use Rattle.tpol_scene.specs.Members.{optional}
-use Rattle.tpol_scene.specs.Pcrs.{pcr_item, pcrs_in, zero_bank}
+use Rattle.tpol_scene.specs.Pcrs.{pcr_in, pcrs_in, zero_bank}
 use Rattle.tpol_scene.specs.Scenes.{authorities_in, authorities_faults, cast_faults, cast_in, cast_kept, entities_kept, scene_faults, scene_in, start_faults, start_in, time_in, times_in, times_faults}
 use Rattle.tpol_scene.specs.Scripts.{event_in, no_events, script_in}
 use Rattle.tpol_scene.specs.Values.{object_in, u32_in, truth_in, digest_in, auth_in}
@@ -51,8 +51,8 @@ leads-start : (d : Data) (place : Place) → Leads (start_faults d place) (start
 unfolding start_in
 leads-start d place =
     leads-then (authorities_faults d place) _ (authorities_in d place) _ (leads-authorities d place) (λ authorities.
-    leads-then (optional_faults (list_faults pcr_item zero_bank) (codes "pcrs") d place) _ (optional pcrs_in zero_bank (codes "pcrs") d place) _
-    (leads-optional pcr_item zero_bank (codes "pcrs") d place) (λ bank.
+    leads-then (optional_faults (list_faults pcr_in zero_bank) (codes "pcrs") d place) _ (optional pcrs_in zero_bank (codes "pcrs") d place) _
+    (leads-optional pcr_in zero_bank (codes "pcrs") d place) (λ bank.
     leads-member (optional u32_in 0 (codes "pcrCounter") d place) _ _ (λ pcr_counter.
     leads-end _ (times_in d place) _ (leads-times d place))))
 

@@ -25,7 +25,7 @@ use Rattle.tpol_json.specs.Values.{is_within_limit}
 use Rattle.tpol_scene.specs.Faults.{read_as}
 use Rattle.tpol_scene.specs.Kinds.{kind_in, least_handle, greatest_handle}
 use Rattle.tpol_scene.specs.Members.{needed, optional}
-use Rattle.tpol_scene.specs.Pcrs.{new_pcr_in, pcr_in, pcr_item, pcrs_in, zero_bank}
+use Rattle.tpol_scene.specs.Pcrs.{new_pcr_in, pcr_in, pcrs_in, zero_bank}
 use Rattle.tpol_scene.specs.Scenes.{authorities_in, start_in, times_in, time_in}
 use Rattle.tpol_base.specs.Digest.{zero_digest}
 use Rattle.tpol_scene.specs.Values.{object_in, text_in, unsigned_in, u32_in, truth_in, digest_in, bytes_up_to, empty_or_32, auth_in}
@@ -259,7 +259,7 @@ entities_ok d place =
 abbrev IsWhole : PcrBank → Type 0
 IsWhole bank = length bank.values ≡ 24
 
-pcr_ok : (bank : PcrBank) (index : ℕ) (d : Data) (place : Place) → IsWhole bank → AllFound IsWhole (pcr_item bank index d place)
+pcr_ok : (bank : PcrBank) (index : ℕ) (d : Data) (place : Place) → IsWhole bank → AllFound IsWhole (pcr_in bank index d place)
 unfolding pcr_in
 pcr_ok bank index d place whole =
     all_then (λ _. ⊤) IsWhole (object_in d place) _ (any_ok _) (λ is_object _.
@@ -268,7 +268,7 @@ pcr_ok bank index d place whole =
     length-set bank.values pcr digest ∙ whole)))
 
 pcrs_ok : (d : Data) (place : Place) → AllFound IsWhole (optional pcrs_in zero_bank (codes "pcrs") d place)
-pcrs_ok d place = optional_ok IsWhole pcrs_in zero_bank refl (list_ok IsWhole pcr_item pcr_ok zero_bank refl) (codes "pcrs") d place
+pcrs_ok d place = optional_ok IsWhole pcrs_in zero_bank refl (list_ok IsWhole pcr_in pcr_ok zero_bank refl) (codes "pcrs") d place
 
 record AuthoritiesFit (authorities : Authorities) : Type 0 where
   pub owner : IsAuthValue authorities.owner

@@ -7,6 +7,8 @@ use Rattle.tpol_goal.specs.declared.grants.Grants.{Grants}
 use Rattle.tpol_json.specs.Values.{is_within_limit}
 use Rattle.tpol_json.specs.declared.place.Place.{Place}
 use Rattle.tpol_scene.specs.declared.entities.Entities.{Entities}
+use Rattle.tpol_scene.specs.declared.grants.GrantKind.{GrantKind}
+use Rattle.tpol_scene.specs.declared.grants.GrantKind.TheVariants.{Secret, Key}
 use Rattle.tpol_scene.specs.declared.targets.Target.{Target}
 use Rattle.tpol_scene.specs.declared.targets.Target.TheVariants.{Entity, Object}
 use Rattle.tpol_scene.specs.declared.fault.SceneKind.TheVariants.{NoSuchClient, Twice}
@@ -29,33 +31,26 @@ new_target_in entities target values d place = do
   handle ← target_in entities target d place
   if has_value values handle then bad Twice place else Ok handle
 
--- an item of `secrets`: the authorization value of a hierarchy, an object or an index
-unfoldable pub secret_in : Entities → Values → Data → Place → Found Values
-secret_in entities secrets d place = do
+-- what a grant of each kind is for
+abbrev pub grant_target : GrantKind → Target
+grant_target Secret = Entity
+grant_target Key = Object
+
+-- its value: an authorization value, or an HMAC key
+abbrev pub grant_value_in : GrantKind → Data → Place → Found (List ℕ)
+grant_value_in Secret d place = optional auth_in [] (codes "auth") d place
+grant_value_in Key d place = needed (bytes_up_to 128) (codes "key") d place
+
+-- an item of `secrets` or of `keys`
+unfoldable pub grant_in : Entities → GrantKind → ItemReading Values
+grant_in entities kind values index d place = do
   is_object ← object_in d place
-  handle ← needed (new_target_in entities Entity secrets) (codes "path") d place
-  auth ← optional auth_in [] (codes "auth") d place
-  Ok (secrets ++ (handle, auth) ∷ [])
+  handle ← needed (new_target_in entities (grant_target kind) values) (codes "path") d place
+  value ← grant_value_in kind d place
+  Ok (values ++ (handle, value) ∷ [])
 
--- an item of `keys`: the HMAC key of an object
-unfoldable pub key_in : Entities → Values → Data → Place → Found Values
-key_in entities keys d place = do
-  is_object ← object_in d place
-  handle ← needed (new_target_in entities Object keys) (codes "path") d place
-  key ← needed (bytes_up_to 128) (codes "key") d place
-  Ok (keys ++ (handle, key) ∷ [])
-
-abbrev pub secret_item : Entities → ItemReading Values
-secret_item entities secrets index d place = secret_in entities secrets d place
-
-abbrev pub key_item : Entities → ItemReading Values
-key_item entities keys index d place = key_in entities keys d place
-
-abbrev pub secrets_in : Entities → Data → Place → Found Values
-secrets_in entities = list_in (secret_item entities) []
-
-abbrev pub keys_in : Entities → Data → Place → Found Values
-keys_in entities = list_in (key_item entities) []
+abbrev pub grants_in : Entities → GrantKind → Data → Place → Found Values
+grants_in entities kind = list_in (grant_in entities kind) []
 
 -- the clients by their numbers
 abbrev pub ClientList : Type 0
@@ -82,8 +77,8 @@ client_in entities clients index d place = do
   is_within ← read_as (is_within_limit 64 index place)
   is_object ← object_in d place
   client ← needed (new_client_in clients) (codes "client") d place
-  secrets ← optional (secrets_in entities) [] (codes "secrets") d place
-  keys ← optional (keys_in entities) [] (codes "keys") d place
+  secrets ← optional (grants_in entities Secret) [] (codes "secrets") d place
+  keys ← optional (grants_in entities Key) [] (codes "keys") d place
   Ok (clients ++ (client, record { secrets = secrets; keys = keys }) ∷ [])
 
 -- a list of clients

@@ -10,6 +10,7 @@ use Rattle.tpol_json.specs.declared.place.Place.{Place}
 use Rattle.tpol_scene.specs.declared.entities.Entities.{Entities}
 use Rattle.tpol_scene.specs.declared.goals.GoalCommand.{GoalCommand}
 use Rattle.tpol_scene.specs.declared.goals.GoalCommand.TheVariants.{Unseal, Hmac, NvRead, NvWrite, NvIncrement, Duplicate}
+use Rattle.tpol_scene.specs.declared.targets.Target.{Target}
 use Rattle.tpol_scene.specs.declared.targets.Target.TheVariants.{Object, Index}
 use Rattle.tpol_scene.specs.declared.fault.SceneKind.TheVariants.{UnknownKind}
 use Rattle.tpol_scene.specs.Faults.{Found, bad, read_as}
@@ -32,61 +33,52 @@ abbrev pub goal_command_in : Data → Place → Found GoalCommand
 goal_command_in d place =
     read_as (one_word (codes "TPM2_CC_") goal_commands d place) >>= λ command. known_command command place
 
--- the object, or the index, that the goal's `path` names
-abbrev pub goal_object_in : Entities → Data → Place → Found ℕ
-goal_object_in entities d place = needed (target_in entities Object) (codes "path") d place
-
-abbrev pub goal_index_in : Entities → Data → Place → Found ℕ
-goal_index_in entities d place = needed (target_in entities Index) (codes "path") d place
+-- what `path` names in a goal of each command: an object, or an index
+abbrev pub path_target : GoalCommand → Target
+path_target Unseal = Object
+path_target Hmac = Object
+path_target NvRead = Index
+path_target NvWrite = Index
+path_target NvIncrement = Index
+path_target Duplicate = Object
 
 -- an offset in an index's content
 abbrev pub offset_in : Data → Place → Found ℕ
 offset_in d place = optional (unsigned_in 0 65535) 0 (codes "offset") d place
 
-unfoldable pub unseal_in : Entities → Data → Place → Found Goal
-unseal_in entities d place = goal_object_in entities d place >>= λ object. Ok (goals.Unseal object)
+unfoldable pub hmac_in : ℕ → Data → Place → Found Goal
+hmac_in key d place = needed (bytes_up_to 1024) (codes "buffer") d place >>= λ buffer. Ok (goals.Hmac key buffer)
 
-unfoldable pub hmac_in : Entities → Data → Place → Found Goal
-hmac_in entities d place = do
-  key ← goal_object_in entities d place
-  buffer ← needed (bytes_up_to 1024) (codes "buffer") d place
-  Ok (goals.Hmac key buffer)
-
-unfoldable pub nv_read_in : Entities → Data → Place → Found Goal
-nv_read_in entities d place = do
-  index ← goal_index_in entities d place
+unfoldable pub nv_read_in : ℕ → Data → Place → Found Goal
+nv_read_in index d place = do
   size ← needed (unsigned_in 0 1024) (codes "size") d place
   offset ← offset_in d place
   Ok (goals.NvRead index size offset)
 
-unfoldable pub nv_write_in : Entities → Data → Place → Found Goal
-nv_write_in entities d place = do
-  index ← goal_index_in entities d place
+unfoldable pub nv_write_in : ℕ → Data → Place → Found Goal
+nv_write_in index d place = do
   bytes ← needed (bytes_up_to 1024) (codes "bytes") d place
   offset ← offset_in d place
   Ok (goals.NvWrite index offset bytes)
 
-unfoldable pub nv_increment_in : Entities → Data → Place → Found Goal
-nv_increment_in entities d place = goal_index_in entities d place >>= λ index. Ok (goals.NvIncrement index)
-
 -- without a parent the object is for the null hierarchy
-unfoldable pub duplicate_in : Entities → Data → Place → Found Goal
-duplicate_in entities d place = do
-  object ← goal_object_in entities d place
+unfoldable pub duplicate_in : Entities → ℕ → Data → Place → Found Goal
+duplicate_in entities object d place = do
   parent ← optional (target_in entities Object) rh_null (codes "parent") d place
   Ok (goals.Duplicate object parent)
 
--- what stands in a goal behind its command
-unfoldable pub goal_by : GoalCommand → Entities → Data → Place → Found Goal
-goal_by Unseal entities d place = unseal_in entities d place
-goal_by Hmac entities d place = hmac_in entities d place
-goal_by NvRead entities d place = nv_read_in entities d place
-goal_by NvWrite entities d place = nv_write_in entities d place
-goal_by NvIncrement entities d place = nv_increment_in entities d place
-goal_by Duplicate entities d place = duplicate_in entities d place
+-- what stands in a goal behind its command and its path, which names the entity with this handle
+unfoldable pub goal_by : GoalCommand → Entities → ℕ → Data → Place → Found Goal
+goal_by Unseal entities object d place = Ok (goals.Unseal object)
+goal_by Hmac entities key d place = hmac_in key d place
+goal_by NvRead entities index d place = nv_read_in index d place
+goal_by NvWrite entities index d place = nv_write_in index d place
+goal_by NvIncrement entities index d place = Ok (goals.NvIncrement index)
+goal_by Duplicate entities object d place = duplicate_in entities object d place
 
 unfoldable pub goal_in : Entities → Data → Place → Found Goal
 goal_in entities d place = do
   is_object ← object_in d place
   command ← needed goal_command_in (codes "command") d place
-  goal_by command entities d place
+  handle ← needed (target_in entities (path_target command)) (codes "path") d place
+  goal_by command entities handle d place

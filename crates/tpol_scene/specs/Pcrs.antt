@@ -23,16 +23,13 @@ new_pcr_in bank d place = do
   if list_any (λ given. given == pcr) bank.given then bad Twice place else Ok pcr
 
 -- an item of `pcrs`: a PCR and its value
-unfoldable pub pcr_in : PcrBank → Data → Place → Found PcrBank
-pcr_in bank d place = do
+unfoldable pub pcr_in : ItemReading PcrBank
+pcr_in bank index d place = do
   is_object ← object_in d place
   pcr ← needed (new_pcr_in bank) (codes "pcr") d place
   digest ← needed digest_in (codes "digest") d place
   Ok (record { values = slice_set bank.values pcr digest; given = bank.given ++ pcr ∷ [] })
 
-abbrev pub pcr_item : ItemReading PcrBank
-pcr_item bank index d place = pcr_in bank d place
-
 -- a list of PCRs with their values; the others are zero
 abbrev pub pcrs_in : Data → Place → Found PcrBank
-pcrs_in = list_in pcr_item zero_bank
+pcrs_in = list_in pcr_in zero_bank

@@ -23,7 +23,7 @@ use Rattle.tpol_scene.specs.Entities.{entity_in, entities_in, no_entities}
 use Rattle.tpol_scene.specs.Faults.{Fault, Found, first_of}
 use Rattle.tpol_scene.specs.Lists.{faults_of, list_faults, optional_faults, optional_kept}
 use Rattle.tpol_scene.specs.Members.{optional}
-use Rattle.tpol_scene.specs.Pcrs.{pcr_item, pcrs_in, zero_bank}
+use Rattle.tpol_scene.specs.Pcrs.{pcr_in, pcrs_in, zero_bank}
 use Rattle.tpol_scene.specs.Scripts.{event_in, no_events, script_in}
 use Rattle.tpol_scene.specs.Values.{object_in, unsigned_in, u32_in, truth_in, digest_in, auth_in}
 
@@ -124,7 +124,7 @@ times_faults d place =
 abbrev pub start_faults : Data → Place → List Fault
 start_faults d place =
     authorities_faults d place
-    ++ (optional_faults (list_faults pcr_item zero_bank) (codes "pcrs") d place
+    ++ (optional_faults (list_faults pcr_in zero_bank) (codes "pcrs") d place
     ++ (faults_of (optional u32_in 0 (codes "pcrCounter") d place)
     ++ times_faults d place))
 

@@ -1,21 +1,21 @@
 //! The entities of a scene.
 
 ghost use Rattle.std.specs.Prelude.{◌≡◌, codes, OnOk};
-ghost use Rattle.serde_json.specs.View.{view, items_view};
-ghost use Rattle.tpol_scene.specs.Entities.{entities_in, entity_by, entity_in, index_behind, no_entities, object_behind, policies_with};
+ghost use Rattle.serde_json.specs.View.{view};
+ghost use Rattle.tpol_scene.specs.Entities.{entities_in, entity_by, index_behind, no_entities, object_behind, policies_with};
 ghost use Rattle.tpol_scene.specs.Faults.{Gives, Leaves};
-ghost use Rattle.tpol_json.specs.Members.{items_from};
 ghost use Rattle.tpol_scene.specs.Members.{optional};
 
 use crate::entries::{read_index, read_object};
 use crate::fault::PartFault;
 use crate::heading::{Heading, NamedPolicy, read_heading};
 use crate::kinds::EntityKind;
+use crate::lists::{ItemReader, optional_list};
 use serde_json::Value;
 use std::alloc::Global;
 use tpol_base::attributes::{OBJECT_SIGN, OBJECT_USER_WITH_AUTH};
 use tpol_base::{NoMemory, Sequence, Text};
-use tpol_json::{Place, PlaceRef, check_limit, items, member};
+use tpol_json::{Place, PlaceRef, check_limit};
 use tpol_name::{Indices, Objects, Scheme};
 
 /// The most entities of a scene.
@@ -51,10 +51,8 @@ pub fn optional_entities(
 ) -> Result<Entities, PartFault>
     ensures { Gives result (optional entities_in no_entities (codes "entities") (view value.now) place.now) }
 {
-    match member(value, "entities") {
-        Some(entities) => entities_of(alloc, entities, &place.member("entities")),
-        None => Ok(no_entities(alloc)),
-    }
+    let start = no_entities(alloc);
+    optional_list(alloc, &EntityReader, start, value, "entities", place)
 }
 
 fn no_entities(alloc: Global) -> Entities
@@ -67,41 +65,28 @@ fn no_entities(alloc: Global) -> Entities
     }
 }
 
-fn entities_of(alloc: Global, value: &Value, place: &PlaceRef<'_>) -> Result<Entities, PartFault>
-    ensures { Gives result (entities_in (view value.now) place.now) }
-{
-    let items = items(alloc, value, place)?;
-    entities_of_items(alloc, items, place)
-}
+// Reads entities, each beside those before it.
+#[derive(Clone, Copy)]
+struct EntityReader;
 
-fn entities_of_items(
-    alloc: Global,
-    items: &[Value],
-    place: &PlaceRef<'_>,
-) -> Result<Entities, PartFault>
-    ensures { Gives result (items_from entity_in no_entities 0 (items_view items.now) place.now) }
-{
-    let mut entities = no_entities(alloc);
-    for (index, item) in items.iter().enumerate() {
-        read_entity(alloc, &mut entities, index, item, &(&*place).item(index))?;
+impl ItemReader<Entities> for EntityReader {
+    ghost use Rattle.tpol_scene.specs.Entities.{entity_in};
+
+    ghost reading = { λ _. entity_in };
+
+    #[tactic(auto, unfolding(crate::specs::Entities::entity_in))]
+    fn read_item(
+        &self,
+        alloc: Global,
+        entities: &mut Entities,
+        index: usize,
+        item: &Value,
+        place: &PlaceRef<'_>,
+    ) -> Result<(), PartFault> {
+        check_limit(alloc, index, ENTITIES, place)?;
+        let heading = read_heading(alloc, entities, item, place)?;
+        add_entity(alloc, entities, heading, item, place)
     }
-    Ok(entities)
-}
-
-// Adds the entity that stands at this position.
-#[tactic(auto, unfolding(crate::specs::Entities::entity_in))]
-fn read_entity(
-    alloc: Global,
-    entities: &mut Entities,
-    index: usize,
-    item: &Value,
-    place: &PlaceRef<'_>,
-) -> Result<(), PartFault>
-    ensures { Leaves result entities.new (entity_in entities.old index (view item.now) place.now) }
-{
-    check_limit(alloc, index, ENTITIES, place)?;
-    let heading = read_heading(alloc, entities, item, place)?;
-    add_entity(alloc, entities, heading, item, place)
 }
 
 #[tactic(auto, unfolding(crate::specs::Entities::entity_by))]

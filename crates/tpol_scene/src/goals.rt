@@ -1,10 +1,10 @@
 //! The goals of a scene.
 
-ghost use Rattle.std.specs.Prelude.{codes};
+ghost use Rattle.std.specs.Prelude.{◌≡◌, codes};
 ghost use Rattle.serde_json.specs.View.{view};
 ghost use Rattle.tpol_base.specs.Handle.{rh_null};
 ghost use Rattle.tpol_scene.specs.Faults.{Gives};
-ghost use Rattle.tpol_scene.specs.Goals.{duplicate_in, goal_by, goal_command_in, goal_in, goal_index_in, goal_object_in, hmac_in, nv_increment_in, nv_read_in, nv_write_in, offset_in, unseal_in};
+ghost use Rattle.tpol_scene.specs.Goals.{duplicate_in, goal_by, goal_command_in, goal_in, hmac_in, nv_read_in, nv_write_in, offset_in, path_target};
 ghost use Rattle.tpol_scene.specs.declared.targets.Target.TheVariants as targets;
 ghost use Rattle.tpol_scene.specs.Members.{needed, optional};
 ghost use Rattle.tpol_scene.specs.Targets.{target_in};
@@ -62,7 +62,9 @@ fn goal_of(
 {
     check_object(alloc, value, place)?;
     let command = needed_command(alloc, value, place)?;
-    goal_by(alloc, command, entities, value, place)
+    let target = path_target(command);
+    let handle = needed_target(alloc, entities, target, value, "path", place)?;
+    goal_by(alloc, command, entities, handle, value, place)
 }
 
 fn needed_command(
@@ -98,50 +100,42 @@ fn goal_command(
     }
 }
 
-// What stands in a goal behind its command.
+// What `path` names in a goal of the command.
+fn path_target(command: GoalCommand) -> Target
+    ensures { result ≡ path_target command }
+{
+    match command {
+        GoalCommand::Unseal | GoalCommand::Hmac | GoalCommand::Duplicate => Target::Object,
+        GoalCommand::NvRead | GoalCommand::NvWrite | GoalCommand::NvIncrement => Target::Index,
+    }
+}
+
+// What stands in a goal behind its command and its path, which names the entity with this handle.
 #[tactic(auto, unfolding(crate::specs::Goals::goal_by))]
 fn goal_by(
     alloc: Global,
     command: GoalCommand,
     entities: &Entities,
+    handle: u32,
     value: &Value,
     place: &PlaceRef<'_>,
 ) -> Result<Goal, PartFault>
-    ensures { Gives result (goal_by command entities.now (view value.now) place.now) }
+    ensures { Gives result (goal_by command entities.now handle (view value.now) place.now) }
 {
     match command {
-        GoalCommand::Unseal => unseal(alloc, entities, value, place),
-        GoalCommand::Hmac => hmac(alloc, entities, value, place),
-        GoalCommand::NvRead => nv_read(alloc, entities, value, place),
-        GoalCommand::NvWrite => nv_write(alloc, entities, value, place),
-        GoalCommand::NvIncrement => nv_increment(alloc, entities, value, place),
-        GoalCommand::Duplicate => duplicate(alloc, entities, value, place),
+        GoalCommand::Unseal => Ok(Goal::Unseal { object: handle }),
+        GoalCommand::Hmac => hmac(alloc, handle, value, place),
+        GoalCommand::NvRead => nv_read(alloc, handle, value, place),
+        GoalCommand::NvWrite => nv_write(alloc, handle, value, place),
+        GoalCommand::NvIncrement => Ok(Goal::NvIncrement { index: handle }),
+        GoalCommand::Duplicate => duplicate(alloc, entities, handle, value, place),
     }
 }
 
-#[tactic(auto, unfolding(crate::specs::Goals::unseal_in))]
-fn unseal(
-    alloc: Global,
-    entities: &Entities,
-    value: &Value,
-    place: &PlaceRef<'_>,
-) -> Result<Goal, PartFault>
-    ensures { Gives result (unseal_in entities.now (view value.now) place.now) }
-{
-    let object = needed_object(alloc, entities, value, place)?;
-    Ok(Goal::Unseal { object })
-}
-
 #[tactic(auto, unfolding(crate::specs::Goals::hmac_in))]
-fn hmac(
-    alloc: Global,
-    entities: &Entities,
-    value: &Value,
-    place: &PlaceRef<'_>,
-) -> Result<Goal, PartFault>
-    ensures { Gives result (hmac_in entities.now (view value.now) place.now) }
+fn hmac(alloc: Global, key: u32, value: &Value, place: &PlaceRef<'_>) -> Result<Goal, PartFault>
+    ensures { Gives result (hmac_in key (view value.now) place.now) }
 {
-    let key = needed_object(alloc, entities, value, place)?;
     let buffer = needed_bytes(alloc, value, "buffer", place)?;
     Ok(Goal::Hmac { key, buffer })
 }
@@ -149,13 +143,12 @@ fn hmac(
 #[tactic(auto, unfolding(crate::specs::Goals::nv_read_in))]
 fn nv_read(
     alloc: Global,
-    entities: &Entities,
+    index: u32,
     value: &Value,
     place: &PlaceRef<'_>,
 ) -> Result<Goal, PartFault>
-    ensures { Gives result (nv_read_in entities.now (view value.now) place.now) }
+    ensures { Gives result (nv_read_in index (view value.now) place.now) }
 {
-    let index = needed_index(alloc, entities, value, place)?;
     let size = needed_size(alloc, value, place)?;
     let offset = optional_offset(alloc, value, place)?;
     Ok(Goal::NvRead {
@@ -168,13 +161,12 @@ fn nv_read(
 #[tactic(auto, unfolding(crate::specs::Goals::nv_write_in))]
 fn nv_write(
     alloc: Global,
-    entities: &Entities,
+    index: u32,
     value: &Value,
     place: &PlaceRef<'_>,
 ) -> Result<Goal, PartFault>
-    ensures { Gives result (nv_write_in entities.now (view value.now) place.now) }
+    ensures { Gives result (nv_write_in index (view value.now) place.now) }
 {
-    let index = needed_index(alloc, entities, value, place)?;
     let bytes = needed_bytes(alloc, value, "bytes", place)?;
     let offset = optional_offset(alloc, value, place)?;
     Ok(Goal::NvWrite {
@@ -184,55 +176,18 @@ fn nv_write(
     })
 }
 
-#[tactic(auto, unfolding(crate::specs::Goals::nv_increment_in))]
-fn nv_increment(
-    alloc: Global,
-    entities: &Entities,
-    value: &Value,
-    place: &PlaceRef<'_>,
-) -> Result<Goal, PartFault>
-    ensures { Gives result (nv_increment_in entities.now (view value.now) place.now) }
-{
-    let index = needed_index(alloc, entities, value, place)?;
-    Ok(Goal::NvIncrement { index })
-}
-
 #[tactic(auto, unfolding(crate::specs::Goals::duplicate_in))]
 fn duplicate(
     alloc: Global,
     entities: &Entities,
+    object: u32,
     value: &Value,
     place: &PlaceRef<'_>,
 ) -> Result<Goal, PartFault>
-    ensures { Gives result (duplicate_in entities.now (view value.now) place.now) }
+    ensures { Gives result (duplicate_in entities.now object (view value.now) place.now) }
 {
-    let object = needed_object(alloc, entities, value, place)?;
     let parent = optional_parent(alloc, entities, value, place)?;
     Ok(Goal::Duplicate { object, parent })
-}
-
-// The object that `path` names.
-fn needed_object(
-    alloc: Global,
-    entities: &Entities,
-    value: &Value,
-    place: &PlaceRef<'_>,
-) -> Result<u32, PartFault>
-    ensures { Gives result (goal_object_in entities.now (view value.now) place.now) }
-{
-    needed_target(alloc, entities, Target::Object, value, "path", place)
-}
-
-// The index that `path` names.
-fn needed_index(
-    alloc: Global,
-    entities: &Entities,
-    value: &Value,
-    place: &PlaceRef<'_>,
-) -> Result<u32, PartFault>
-    ensures { Gives result (goal_index_in entities.now (view value.now) place.now) }
-{
-    needed_target(alloc, entities, Target::Index, value, "path", place)
 }
 
 // The object that `parent` names, without it the null hierarchy.

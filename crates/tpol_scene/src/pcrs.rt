@@ -2,20 +2,20 @@
 
 ghost use Rattle.std.specs.Prelude.{◌≡◌, ◌<◌, ◌==◌, codes, IfOk};
 ghost use Rattle.std.specs.List.{list_any};
-ghost use Rattle.serde_json.specs.View.{view, items_view};
-ghost use Rattle.tpol_scene.specs.Faults.{Gives, Leaves};
-ghost use Rattle.tpol_json.specs.Members.{items_from};
+ghost use Rattle.serde_json.specs.View.{view};
+ghost use Rattle.tpol_scene.specs.Faults.{Gives};
 ghost use Rattle.tpol_scene.specs.Members.{needed, optional};
-ghost use Rattle.tpol_scene.specs.Pcrs.{new_pcr_in, pcr_in, pcr_item, pcrs_in, zero_bank};
+ghost use Rattle.tpol_scene.specs.Pcrs.{new_pcr_in, pcrs_in, zero_bank};
 ghost use Rattle.tpol_scene.specs.Values.{digest_in};
 
 use crate::SceneKind;
 use crate::fault::{PartFault, refuse};
+use crate::lists::{ItemReader, optional_list};
 use crate::members::zero_digest;
 use serde_json::Value;
 use std::alloc::Global;
 use tpol_base::{Blob, Digest32, pcr};
-use tpol_json::{PlaceRef, check_object, digest, items, member, needed, unsigned};
+use tpol_json::{PlaceRef, check_object, digest, needed, unsigned};
 
 /// The values of the PCRs 0 to 23, and the numbers of those that were given one.
 #[derive(Drop)]
@@ -33,10 +33,7 @@ pub fn optional_pcrs(
 ) -> Result<PcrBank, PartFault>
     ensures { Gives result (optional pcrs_in zero_bank (codes "pcrs") (view value.now) place.now) }
 {
-    match member(value, "pcrs") {
-        Some(pcrs) => pcrs_of(alloc, pcrs, &place.member("pcrs")),
-        None => Ok(zero_bank(alloc)),
-    }
+    optional_list(alloc, &PcrReader, zero_bank(alloc), value, "pcrs", place)
 }
 
 fn zero_bank(alloc: Global) -> PcrBank
@@ -48,39 +45,31 @@ fn zero_bank(alloc: Global) -> PcrBank
     }
 }
 
-fn pcrs_of(alloc: Global, value: &Value, place: &PlaceRef<'_>) -> Result<PcrBank, PartFault>
-    ensures { Gives result (pcrs_in (view value.now) place.now) }
-{
-    let items = items(alloc, value, place)?;
-    pcrs_of_items(alloc, items, place)
-}
+// Reads the values of PCRs into a bank.
+#[derive(Clone, Copy)]
+struct PcrReader;
 
-fn pcrs_of_items(alloc: Global, items: &[Value], place: &PlaceRef<'_>) -> Result<PcrBank, PartFault>
-    ensures { Gives result (items_from pcr_item zero_bank 0 (items_view items.now) place.now) }
-{
-    let mut bank = zero_bank(alloc);
-    for (index, item) in items.iter().enumerate() {
-        read_pcr(alloc, &mut bank, item, &(&*place).item(index))?;
+impl ItemReader<PcrBank> for PcrReader {
+    ghost use Rattle.tpol_scene.specs.Pcrs.{pcr_in};
+
+    ghost reading = { λ _. pcr_in };
+
+    #[tactic(auto, unfolding(crate::specs::Pcrs::pcr_in))]
+    fn read_item(
+        &self,
+        alloc: Global,
+        bank: &mut PcrBank,
+        _index: usize,
+        item: &Value,
+        place: &PlaceRef<'_>,
+    ) -> Result<(), PartFault> {
+        check_object(alloc, item, place)?;
+        let pcr = needed_pcr(alloc, bank, item, place)?;
+        let digest = needed_digest(alloc, item, place)?;
+        bank.given.push(pcr)?;
+        bank.values[pcr as usize] = digest;
+        Ok(())
     }
-    Ok(bank)
-}
-
-// Gives a PCR the value that an item says.
-#[tactic(auto, unfolding(crate::specs::Pcrs::pcr_in))]
-fn read_pcr(
-    alloc: Global,
-    bank: &mut PcrBank,
-    item: &Value,
-    place: &PlaceRef<'_>,
-) -> Result<(), PartFault>
-    ensures { Leaves result bank.new (pcr_in bank.old (view item.now) place.now) }
-{
-    check_object(alloc, item, place)?;
-    let pcr = needed_pcr(alloc, bank, item, place)?;
-    let digest = needed_digest(alloc, item, place)?;
-    bank.given.push(pcr)?;
-    bank.values[pcr as usize] = digest;
-    Ok(())
 }
 
 fn needed_pcr(

@@ -1,20 +1,20 @@
 //! The script of a scene.
 
 ghost use Rattle.std.specs.Prelude.{◌≡◌, codes, OnOk};
-ghost use Rattle.serde_json.specs.View.{view, items_view};
-ghost use Rattle.tpol_json.specs.Members.{items_from};
-ghost use Rattle.tpol_scene.specs.Faults.{Gives, Leaves};
+ghost use Rattle.serde_json.specs.View.{view};
+ghost use Rattle.tpol_scene.specs.Faults.{Gives};
 ghost use Rattle.tpol_scene.specs.Members.{optional};
-ghost use Rattle.tpol_scene.specs.Scripts.{event_in, no_events, script_in, with_event};
+ghost use Rattle.tpol_scene.specs.Scripts.{no_events, script_in, with_event};
 
 use crate::cast::Cast;
 use crate::events::{event_by, needed_event_kind};
 use crate::fault::PartFault;
+use crate::lists::{ItemReader, optional_list};
 use serde_json::Value;
 use std::alloc::Global;
 use tpol_base::{Blob, NoMemory, Sequence, Text};
 use tpol_goal::Goal;
-use tpol_json::{Place, PlaceRef, check_limit, check_object, items, member};
+use tpol_json::{Place, PlaceRef, check_limit, check_object};
 
 /// The most events of a scene.
 const EVENTS: usize = 4096;
@@ -71,10 +71,8 @@ pub fn optional_script(
 ) -> Result<ScriptFront, PartFault>
     ensures { Gives result (optional (script_in cast.now) no_events (codes "script") (view value.now) place.now) }
 {
-    match member(value, "script") {
-        Some(script) => script_of(alloc, cast, script, &place.member("script")),
-        None => Ok(no_events(alloc)),
-    }
+    let reader = EventReader { cast };
+    optional_list(alloc, &reader, no_events(alloc), value, "script", place)
 }
 
 fn no_events(alloc: Global) -> ScriptFront
@@ -86,51 +84,33 @@ fn no_events(alloc: Global) -> ScriptFront
     }
 }
 
-fn script_of(
-    alloc: Global,
-    cast: &Cast,
-    value: &Value,
-    place: &PlaceRef<'_>,
-) -> Result<ScriptFront, PartFault>
-    ensures { Gives result (script_in cast.now (view value.now) place.now) }
-{
-    let items = items(alloc, value, place)?;
-    script_of_items(alloc, cast, items, place)
+// Reads events, which name entities and clients of this cast.
+#[derive(Clone, Copy)]
+struct EventReader<'a> {
+    cast: &'a Cast,
 }
 
-fn script_of_items(
-    alloc: Global,
-    cast: &Cast,
-    items: &[Value],
-    place: &PlaceRef<'_>,
-) -> Result<ScriptFront, PartFault>
-    ensures { Gives result (items_from (event_in cast.now) no_events 0 (items_view items.now) place.now) }
-{
-    let mut front = no_events(alloc);
-    for (index, item) in items.iter().enumerate() {
-        read_event(alloc, cast, &mut front, index, item, &(&*place).item(index))?;
+impl<'a> ItemReader<ScriptFront> for EventReader<'a> {
+    ghost use Rattle.tpol_scene.specs.Scripts.{event_in};
+
+    ghost reading = { λ reader. event_in reader.cast.now };
+
+    #[tactic(auto, unfolding(crate::specs::Scripts::event_in))]
+    fn read_item(
+        &self,
+        alloc: Global,
+        front: &mut ScriptFront,
+        index: usize,
+        item: &Value,
+        place: &PlaceRef<'_>,
+    ) -> Result<(), PartFault> {
+        check_limit(alloc, index, EVENTS, place)?;
+        check_object(alloc, item, place)?;
+        let kind = needed_event_kind(alloc, item, place)?;
+        let event = event_by(alloc, kind, self.cast, front.runs.as_slice(), item, place)?;
+        add_event(front, event)?;
+        Ok(())
     }
-    Ok(front)
-}
-
-// Adds the event that stands at this position.
-#[tactic(auto, unfolding(crate::specs::Scripts::event_in))]
-fn read_event(
-    alloc: Global,
-    cast: &Cast,
-    front: &mut ScriptFront,
-    index: usize,
-    item: &Value,
-    place: &PlaceRef<'_>,
-) -> Result<(), PartFault>
-    ensures { Leaves result front.new (event_in cast.now front.old index (view item.now) place.now) }
-{
-    check_limit(alloc, index, EVENTS, place)?;
-    check_object(alloc, item, place)?;
-    let kind = needed_event_kind(alloc, item, place)?;
-    let event = event_by(alloc, kind, cast, front.runs.as_slice(), item, place)?;
-    add_event(front, event)?;
-    Ok(())
 }
 
 fn add_event(front: &mut ScriptFront, event: ScriptEvent) -> Result<(), NoMemory>

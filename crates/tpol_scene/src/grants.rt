@@ -1,0 +1,139 @@
+//! What a client may use: authorization values and HMAC keys, each by the handle of what it is for.
+
+ghost use Rattle.std.specs.Prelude.{◌≡◌, [], codes};
+ghost use Rattle.serde_json.specs.View.{view};
+ghost use Rattle.tpol_scene.specs.Clients.{grant_target, grant_value_in, grants_in, has_value, new_target_in};
+ghost use Rattle.tpol_scene.specs.Faults.{Gives};
+ghost use Rattle.tpol_scene.specs.Members.{needed, optional};
+ghost use Rattle.tpol_scene.specs.Values.{bytes_up_to};
+
+use crate::SceneKind;
+use crate::entities::Entities;
+use crate::fault::{PartFault, refuse};
+use crate::lists::{ItemReader, optional_list};
+use crate::members::optional_auth;
+use crate::targets::{Target, target_of};
+use serde_json::Value;
+use std::alloc::Global;
+use tpol_base::{Blob, Sequence};
+use tpol_goal::Secrets;
+use tpol_json::{PlaceRef, bytes_up_to, check_object, needed};
+
+/// The most bytes of an HMAC key.
+const MAX_KEY: usize = 128;
+
+/// What is granted: the authorization value of a hierarchy, an object or an index; the HMAC key of an object.
+#[derive(Clone, Copy)]
+pub enum GrantKind {
+    Secret,
+    Key,
+}
+
+/// A member that lists grants of a kind, for these entities. Without it there are none.
+pub fn optional_grants(
+    alloc: Global,
+    entities: &Entities,
+    kind: GrantKind,
+    item: &Value,
+    name: &str,
+    place: &PlaceRef<'_>,
+) -> Result<Secrets, PartFault>
+    ensures { Gives result (optional (grants_in entities.now kind) [] name.now (view item.now) place.now) }
+{
+    let reader = GrantReader { entities, kind };
+    optional_list(alloc, &reader, Sequence::new(alloc), item, name, place)
+}
+
+// Reads grants of a kind, for these entities.
+#[derive(Clone, Copy)]
+struct GrantReader<'a> {
+    entities: &'a Entities,
+    kind: GrantKind,
+}
+
+impl<'a> ItemReader<Secrets> for GrantReader<'a> {
+    ghost use Rattle.tpol_scene.specs.Clients.{grant_in};
+
+    ghost reading = { λ reader. grant_in reader.entities.now reader.kind };
+
+    #[tactic(auto, unfolding(crate::specs::Clients::grant_in))]
+    fn read_item(
+        &self,
+        alloc: Global,
+        values: &mut Secrets,
+        _index: usize,
+        item: &Value,
+        place: &PlaceRef<'_>,
+    ) -> Result<(), PartFault> {
+        check_object(alloc, item, place)?;
+        let target = grant_target(self.kind);
+        let handle = needed_new_target(
+            alloc,
+            self.entities,
+            target,
+            values.as_slice(),
+            item,
+            place,
+        )?;
+        let value = grant_value(alloc, self.kind, item, place)?;
+        values.push((handle, value))?;
+        Ok(())
+    }
+}
+
+fn grant_target(kind: GrantKind) -> Target
+    ensures { result ≡ grant_target kind }
+{
+    match kind {
+        GrantKind::Secret => Target::Entity,
+        GrantKind::Key => Target::Object,
+    }
+}
+
+fn grant_value(
+    alloc: Global,
+    kind: GrantKind,
+    item: &Value,
+    place: &PlaceRef<'_>,
+) -> Result<Blob, PartFault>
+    ensures { Gives result (grant_value_in kind (view item.now) place.now) }
+{
+    match kind {
+        GrantKind::Secret => optional_auth(alloc, item, "auth", place),
+        GrantKind::Key => needed_key(alloc, item, place),
+    }
+}
+
+// An HMAC key: at most 128 bytes.
+fn needed_key(alloc: Global, item: &Value, place: &PlaceRef<'_>) -> Result<Blob, PartFault>
+    ensures { Gives result (needed (bytes_up_to 128) (codes "key") (view item.now) place.now) }
+{
+    let (key, place) = needed(alloc, item, "key", place)?;
+    Ok(bytes_up_to(alloc, key, MAX_KEY, &place)?)
+}
+
+// The handle of the entity that `path` names, for which no value was granted before.
+fn needed_new_target(
+    alloc: Global,
+    entities: &Entities,
+    target: Target,
+    values: &[(u32, Blob)],
+    item: &Value,
+    place: &PlaceRef<'_>,
+) -> Result<u32, PartFault>
+    ensures { Gives result (needed (new_target_in entities.now target values.now) (codes "path") (view item.now) place.now) }
+{
+    let (path, place) = needed(alloc, item, "path", place)?;
+    let handle = target_of(alloc, entities, target, path, &place)?;
+    if has_value(values, handle) {
+        refuse(alloc, SceneKind::Twice, &place)
+    } else {
+        Ok(handle)
+    }
+}
+
+fn has_value(values: &[(u32, Blob)], handle: u32) -> bool
+    ensures { result ≡ has_value values.now handle }
+{
+    values.iter().any(|value| value.0 == handle)
+}
