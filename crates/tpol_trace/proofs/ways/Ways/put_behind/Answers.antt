@@ -1,4 +1,4 @@
-use Rattle.std.proofs.Common.{◌<◌, ◌≤◌, ◌+◌, ◌≡◌, ℕ, List, Option, Some, None, length, get_or, refl, ◌∙◌, subst, arith}
+use Rattle.std.proofs.Common.{◌<◌, ◌≡◌, ℕ, List, Option, Some, None, length, get_or, refl, ◌∙◌, subst, arith}
 use Rattle.std.proofs.lemmas.List.{length-set}
 use Rattle.tpol_trace.specs.Windows.{IsIn}
 use Rattle.tpol_trace.proofs.Entries.{put_table}
@@ -14,12 +14,11 @@ loop-k-preserved c =
     let size = c.loop-k.invariant.0 in
     let all = c.requires in
     let less : c.loop-k.k < length c.args.facts.now =
-        let inside = c.args.self.now.inside in
-        let to = c.lower-window.ensures.to in
-        let here = c.loop-k-test.true in
-        omega (arith, inside, to, here, all)
-    in
-    (
+    let inside = c.args.self.now.inside in
+    let to = c.lower-window.ensures.to in
+    let here = c.loop-k-test.true in
+    omega (arith, inside, to, here, all)
+    in (
       length-set c.loop-k.self.first.items c.loop-k.k c.go_on.result ∙ size,
       λ within. put_more c.loop-k.self c.args.self.now _ c.args.facts.now c.args.act.now c.index-facts-k.result c.loop-k.k c.index.result.now c.go_on.result (c.loop-k.invariant.1 within) less (size ∙ all) c.index-facts-k.is c.index.ensures c.go_on.ensures refl refl,
     )
