@@ -18,10 +18,11 @@ use Rattle.tpol_trace.specs.declared.ways.Ways.{Ways}
 use Rattle.tpol_trace.specs.Openings.{first_index}
 use Rattle.tpol_trace.specs.Matching.{matches_approval, matches_last, last_facts}
 use Rattle.tpol_trace.specs.Same.{are_same}
-use Rattle.tpol_trace.specs.Tables.{Asks, AllAsk, IsApproval, move_of_element, goes_by, goes, AreInside, capped, earlier, kept, IsTable, IsEverywhere}
+use Rattle.tpol_trace.specs.Tables.{Asks, AllAsk, IsApproval, move_of_element, goes_by, goes, AreInside, capped, earlier, kept, IsTable, IsEverywhere, IsWithin}
 use Rattle.tpol_trace.proofs.Firsts.{first_index-either, first_index-kept, first_index-map, capped-kept, capped-earlier}
 use Rattle.tpol_trace.proofs.Matched.{same_length}
 use Rattle.tpol_trace.proofs.Deciding.{same_Decides}
+use Rattle.tpol_trace.proofs.Steps.{before_window, kept_none, past_window}
 
 -- a test that holds of some number below another
 abbrev any_to : (ℕ → Bool) → ℕ → Bool
@@ -155,6 +156,7 @@ module _ (approvals : List ApprovedDoc) (level : ℕ) (facts : List Move) (act :
         ∙ sym (best (length facts) (omega arith))
         ∙ ap capped (sym (first_index-kept true (λ way. goes approvals level facts k (followed_by (outside_path act) way)) (λ way. any_to (hit approvals enters act facts way.moves) (length facts)) ways (goes_outside k ways)))
         ∙ ap capped (sym (first_index-map (goes approvals level facts k) (followed_by (outside_path act)) ways));
+    window = h.window;
   }
 
 earlier_none : (o : Option ℕ) → o ≡ earlier o None
@@ -162,6 +164,34 @@ earlier_none None = refl
 earlier_none (Some i) = refl
 
 module _ (approvals : List ApprovedDoc) (enters : Bool) (act : Move) where
+  -- one more fact behind which no way begins
+  best_left : (facts : List Move) (table : Ways) (k : ℕ) → get_or table.first.items (suc k) None ≡ None → best_to approvals enters act facts table (suc k) ≡ best_to approvals enters act facts table k
+  best_left facts table k none =
+      ap (λ way. earlier (best_to approvals enters act facts table k) (kept (approves_at approvals enters act facts k) way)) none
+      ∙ ap (earlier (best_to approvals enters act facts table k)) (kept_none (approves_at approvals enters act facts k))
+      ∙ sym (earlier_none (best_to approvals enters act facts table k))
+
+  -- before the window there is none
+  pub best_start : (facts : List Move) (table : Ways) (k : ℕ) → IsWithin table → k ≤ table.window.from - 1 → None ≡ best_to approvals enters act facts table k
+  best_start facts table zero within h = refl
+  best_start facts table (suc k) within h =
+      best_start facts table k within (omega arith)
+      ∙ sym (best_left facts table k (before_window table within (suc k) (omega arith)))
+
+  best_past : (facts : List Move) (table : Ways) (k n : ℕ) → IsWithin table → table.window.to - 1 ≤ k → k ≤ n → best_to approvals enters act facts table n ≡ best_to approvals enters act facts table k
+  best_past facts table k zero within h less =
+      let e : zero ≡ k = omega arith in
+      ap (best_to approvals enters act facts table) e
+  best_past facts table k (suc n) within h less =
+      ⊎_elim (λ lower. best_left facts table n (past_window table within (suc n) (omega arith)) ∙ best_past facts table k n within h (omega arith)) (λ not. let e : suc n ≡ k = omega arith in ap (best_to approvals enters act facts table) e) (cases_lt k (suc n))
+
+  -- and past it no other
+  pub best_end : (facts : List Move) (table : Ways) (k n : ℕ) → IsWithin table → table.window.to - 1 ≤ k → table.window.to - 1 ≤ n → best_to approvals enters act facts table k ≡ best_to approvals enters act facts table n
+  best_end facts table k n within h i =
+      let last = table.window.to - 1 in
+      best_past facts table last k within (omega arith) h
+      ∙ sym (best_past facts table last n within (omega arith) i)
+
   -- the fact that is read
   approves_read : (asked : List Asked) (moves : List Move) (k : ℕ) (one : Asked) (result : Bool) → AllAsk asked moves → k < length asked → one ≡ get_or asked k one → ((fact : Move) → Asks one fact → result ≡ matches_approval approvals enters act fact) → result ≡ approves_at approvals enters act moves k
   approves_read [] moves k one result h less is f = absurd (omega arith)

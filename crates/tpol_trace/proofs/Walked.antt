@@ -32,6 +32,7 @@ use Rattle.tpol_digest.proofs.Walks.{product-one, product-append, product-betwee
 use Rattle.tpol_trace.specs.declared.ways.Ways.{Ways}
 use Rattle.tpol_trace.specs.Matching.{documents_before, matches_last, last_facts}
 use Rattle.tpol_trace.specs.Tables.{IsApproval, move_of_element, goes_by, goes, AreInside, capped, IsTable}
+use Rattle.tpol_trace.specs.Windows.{IsIn}
 use Rattle.tpol_trace.proofs.Firsts.{first_index-kept, first_index-map}
 use Rattle.tpol_trace.proofs.Deciding.{Decides-by}
 
@@ -99,6 +100,7 @@ module _ (approvals : List ApprovedDoc) (facts : List Move) where
         t.first k within
         ∙ ap capped (sym (first_index-kept true (λ way. goes approvals other facts k (f way)) (goes approvals level facts k) ways (each k ways)))
         ∙ ap capped (sym (first_index-map (goes approvals other facts k) f ways));
+    window = t.window;
   }
     where
       each : (k : ℕ) (some : List Path) → AllByRecursion (λ way. goes approvals other facts k (f way) ≡ goes approvals level facts k way) some
@@ -127,11 +129,12 @@ module _ (approvals : List ApprovedDoc) (facts : List Move) where
       subst (IsTable approvals (suc level) facts table) (sym (product-between (Document name) act paths ways)) (table_map level (suc level) (followed_by (path_of_step (Document name))) table (product paths (map (followed_by (path_of_move act)) ways)) (λ k way. document_by level k name way way.outside) t)
 
   -- the same table in other memory, and at another level where no way is outside
-  pub same_table : (level : ℕ) (table copy : Ways) (ways : List Path) → copy.first.items ≡ table.first.items → copy.count ≡ table.count → IsTable approvals level facts table ways → IsTable approvals level facts copy ways
-  same_table level table copy ways items number t = record {
+  pub same_table : (level : ℕ) (table copy : Ways) (ways : List Path) → copy.first.items ≡ table.first.items → copy.count ≡ table.count → copy.window ≡ table.window → IsTable approvals level facts table ways → IsTable approvals level facts copy ways
+  same_table level table copy ways items number places t = record {
     count = number ∙ t.count;
     size = ap length items ∙ t.size;
     first = λ k within. ap (λ (x : List (Option ℕ)). get_or x k None) items ∙ t.first k within;
+    window = λ k way e. subst (λ w. IsIn w k) (sym places) (t.window k way (ap (λ (x : List (Option ℕ)). get_or x k None) (sym items) ∙ e));
   }
 
   levels_by : (level other k : ℕ) (way : Path) (outside : Bool) → outside ≡ false → goes_by outside approvals level facts k way ≡ goes_by outside approvals other facts k way
@@ -143,6 +146,7 @@ module _ (approvals : List ApprovedDoc) (facts : List Move) where
     count = t.count;
     size = t.size;
     first = λ k within. t.first k within ∙ ap capped (first_index-kept true (goes approvals level facts k) (goes approvals other facts k) ways (each k ways inside));
+    window = t.window;
   }
     where
       each : (k : ℕ) (some : List Path) → AreInside some → AllByRecursion (λ way. goes approvals level facts k way ≡ goes approvals other facts k way) some

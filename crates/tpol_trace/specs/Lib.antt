@@ -3,3 +3,4 @@ pub mod Matching
 pub mod Openings
 pub mod Same
 pub mod Tables
+pub mod Windows

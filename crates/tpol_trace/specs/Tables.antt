@@ -17,6 +17,7 @@ use Rattle.tpol_trace.specs.declared.ways.Ways.{Ways}
 use Rattle.tpol_trace.specs.Matching.{documents_before, matches_last, last_facts}
 use Rattle.tpol_trace.specs.Openings.{first_index}
 use Rattle.tpol_trace.specs.Same.{approved_of, are_same}
+use Rattle.tpol_trace.specs.Windows.{IsIn}
 
 -- what is kept of a move
 pub record Asks (asked : Asked) (act : Move) : Type 0 where
@@ -62,17 +63,23 @@ AreInside ways = AllByRecursion (λ way. way.outside ≡ false) ways
 abbrev pub capped : Option ℕ → Option ℕ
 capped index = option_map (λ i. min i 65536) index
 
+-- ways begin at the places of the window alone
+abbrev pub IsWithin : Ways → Type 0
+IsWithin table = (k way : ℕ) → slice_index_or table.first.items k None ≡ Some way → IsIn table.window k
+
 -- for each number of facts that went before, the first of the ways that goes all facts after them
 pub record IsTable (approvals : List ApprovedDoc) (level : ℕ) (facts : List Move) (table : Ways) (ways : List Path) : Type 0 where
   pub count : table.count ≡ min (length ways) 65536
   pub size : length table.first.items ≡ length facts + 1
   pub first : (k : ℕ) → k ≤ length facts → slice_index_or table.first.items k None ≡ capped (first_index (goes approvals level facts k) ways)
+  pub window : IsWithin table
 
 -- so many ways for n facts, of which the first is the same whatever went before
 pub record IsEverywhere (table : Ways) (n : ℕ) (way : Option ℕ) (number : ℕ) : Type 0 where
   pub count : table.count ≡ number
   pub size : length table.first.items ≡ n + 1
   pub first : (k : ℕ) → k ≤ n → slice_index_or table.first.items k None ≡ way
+  pub window : IsWithin table
 
 -- the lesser of two places
 abbrev pub earlier : Option ℕ → Option ℕ → Option ℕ

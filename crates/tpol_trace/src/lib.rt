@@ -15,6 +15,7 @@ mod open;
 mod tests;
 mod walk;
 mod ways;
+mod window;
 
 pub use answer::{Events, Opening};
 pub use laws::{chains_agree, facts_open, facts_open_without_approvals};

@@ -202,8 +202,9 @@ fn outside_ways(walk: &Walk<'_>, element: &ClosedElement, behind: &Ways) -> Resu
         (spec.product (spec.outside_paths element.now) ways)) }
 {
     let approval = Asked::not_approving(update_of_approval(walk.alloc, element)?);
+    let window = behind.window.lower();
     let mut first = None;
-    for k in 0..walk.facts.len() {
+    for k in window.from..window.to {
         if approves_outside(walk, element, &approval, &walk.facts[k]) {
             first = earlier(first, behind.first[k + 1]);
         }

@@ -87,7 +87,7 @@ add_branches-returns-in_ok-ways-in-More-clause-table t c =
     rw c.in-More.is (λ moves act position ways done asks inside behind found.
     let paths = paths_at within approvals elements d in
     let here = map (between (Branch position branch.name) act) paths in
-    let copied = same_table approvals moves levels c.args.behind.now c.in_ok-copy-in-More.field-0 (map (followed_by (path_of_move act)) ways) c.in_ok-copy-in-More.ensures.0 c.in_ok-copy-in-More.ensures.1 behind in
+    let copied = same_table approvals moves levels c.args.behind.now c.in_ok-copy-in-More.field-0 (map (followed_by (path_of_move act)) ways) c.in_ok-copy-in-More.ensures.0 c.in_ok-copy-in-More.ensures.1 c.in_ok-copy-in-More.ensures.2 behind in
     let inner = c.in_ok-ways-in-More.ensures.table moves (map (followed_by (path_of_move act)) ways) asks (inside_map (followed_by (path_of_move act)) (λ p h. h) ways inside) copied in
     let same : IsTable approvals levels moves c.in_ok-ways-in-More.ways (product paths (map (followed_by (path_of_move act)) ways)) = subst (λ (b : ClosedBranch). IsTable approvals levels moves c.in_ok-ways-in-More.ways (product (paths_at within approvals b.policy.elements d) (map (followed_by (path_of_move act)) ways))) c.deref.ensures inner in
     let joined = c.append.ensures.both approvals levels moves done (product here ways) found (branch_table approvals moves levels position branch.name act c.in_ok-ways-in-More.ways paths ways same) in
@@ -134,7 +134,7 @@ add_documents-loop-document-preserved t c =
         ap (λ x. length x.first.items) w.found-is ∙ w.append.ensures.size ∙ c.loop-document.invariant.0,
         λ moves ways done asks inside behind found.
             let n : suc (levels - 1) ≡ levels = omega (arith, c.if-walk-eq0.false) in
-            let used = used_table approvals moves (levels - 1) element c.requires.approval document _ w.in_ok-ways.ways ways refl (sym c.accepts.ensures ∙ w.if-accepts.true) (λ act hashed approved. w.in_ok-ways.ensures.table moves (map (followed_by (path_of_move act)) ways) asks (inside_map (followed_by (path_of_move act)) (λ p h. h) ways inside) (w.put_behind.ensures.behind approvals (levels - 1) moves act ways asks (w.approving.ensures act (w.in_ok-update.ensures ∙ sym hashed) approved) inside (same_table approvals moves (levels - 1) c.args.behind.now w.in_ok-behind.behind ways w.in_ok-behind.ensures.0 w.in_ok-behind.ensures.1 (other_level approvals moves levels (levels - 1) c.args.behind.now ways inside behind)))) in
+            let used = used_table approvals moves (levels - 1) element c.requires.approval document _ w.in_ok-ways.ways ways refl (sym c.accepts.ensures ∙ w.if-accepts.true) (λ act hashed approved. w.in_ok-ways.ensures.table moves (map (followed_by (path_of_move act)) ways) asks (inside_map (followed_by (path_of_move act)) (λ p h. h) ways inside) (w.put_behind.ensures.behind approvals (levels - 1) moves act ways asks (w.approving.ensures act (w.in_ok-update.ensures ∙ sym hashed) approved) inside (same_table approvals moves (levels - 1) c.args.behind.now w.in_ok-behind.behind ways w.in_ok-behind.ensures.0 w.in_ok-behind.ensures.1 w.in_ok-behind.ensures.2 (other_level approvals moves levels (levels - 1) c.args.behind.now ways inside behind)))) in
             let here = subst (λ l. IsTable approvals l moves w.in_ok-ways.ways (product (paths_by_approval (approval_of element document) document (document_paths approvals l document)) ways)) n used in
             subst (λ x. IsTable approvals levels moves x (done ++ product (approved_paths (document_paths approvals levels) (take (i + 1) approvals) element) ways)) (sym w.found-is) (documents_table approvals moves levels element i document w.append.new.self done ways c.loop-document-test.true c.document-item.is (w.append.ensures.both approvals levels moves (done ++ product (approved_paths (document_paths approvals levels) (take i approvals) element) ways) (product (paths_by_approval (approval_of element document) document (document_paths approvals levels document)) ways) (c.loop-document.invariant.1 moves ways done asks inside behind found) here)),
       )
