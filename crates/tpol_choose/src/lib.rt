@@ -19,6 +19,7 @@ mod choosing;
 mod client;
 mod commands;
 mod counting;
+mod demands;
 mod entity_at;
 mod goal;
 mod goal_hashes;

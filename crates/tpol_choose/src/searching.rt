@@ -67,7 +67,7 @@ fn search_elements<'a>(
         → result ≡ spec.search_ways (client_of_lent walk.now.client) (spec.search_ahead (client_of_lent walk.now.client) walk.now.approvals.now ahead.now)
         state passed (at.element_list_ways walk.now.approvals.now walk.now.levels elements.now before) }
 {
-    if track.is_lost() {
+    if track.is_hopeless(&walk.client) {
         return pass_over(walk, elements, ahead, passed);
     }
     match elements {
