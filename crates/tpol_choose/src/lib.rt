@@ -11,6 +11,7 @@ mod act;
 mod ahead;
 mod answer;
 mod approving;
+mod assert_move;
 mod at_position;
 mod binding;
 mod block;

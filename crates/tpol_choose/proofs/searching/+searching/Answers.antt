@@ -15,7 +15,7 @@ use Rattle.tpol_choose.specs.Acts.{move_of}
 use Rattle.tpol_choose.specs.Ahead.{ways_ahead}
 use Rattle.tpol_choose.specs.Lent.{client_of_lent}
 use Rattle.tpol_choose.specs.Searches.{search_ahead, search_rest, search_ways}
-use Rattle.tpol_choose.specs.Tracks.{track_after}
+use Rattle.tpol_choose.specs.Tracks.{IsTrack, track_after}
 use Rattle.tpol_choose.proofs.Going.{along_nothing}
 use Rattle.tpol_choose.proofs.Loads.{share, share_some, entered_lighter}
 use Rattle.tpol_choose.proofs.SearchLaws.{ahead_hopeless, elements_hopeless, entered, found_first, left, next_left, none_left, outside_hopeless, passed_first, ways_by_move, ways_by_step, ways_one, ways_one_move, ways_product}
@@ -64,10 +64,10 @@ search_element-returns-in-Assert t c =
     let ahead = c.args.ahead.now in
     let passed = c.args.passed in
     let act = Assert c.in-Assert.assertion in
-    let after = c.digest_after_element-after.ensures ∙ ap (λ e. digest_at_element e c.args.before) c.in-Assert.is in
+    let step = c.new-step.ensures in
     rw c.in-Assert.is (λ state h.
-    c.search_elements.ensures (track_after client state act) (c.after-next.ensures state h)
-    ∙ ap (λ d. search_ways client (search_ahead client documents ahead) (track_after client state act) passed (element_list_ways documents levels rest d)) after
+    c.search_elements.ensures (track_after client state act) (subst (λ a. IsTrack c.after-next.result (track_after client state (Assert a))) step.assertion (c.after-next.ensures state h))
+    ∙ ap (λ d. search_ways client (search_ahead client documents ahead) (track_after client state act) passed (element_list_ways documents levels rest d)) step.after
     ∙ sym (ways_one_move client (search_rest client documents levels rest (digest_at_element (closed.Assert c.in-Assert.assertion) c.args.before) ahead) state passed act))
 
 pub search_element-returns-in-Or : goal.search_element-returns-in-Or
@@ -104,7 +104,7 @@ search_element-returns-in-Authorize t c = λ state h.
       | inr q ↦ subst (λ e. approval_ways documents levels e ≡ element_ways documents levels e d) (sym q.1) refl
     ] in
     c.search_approvals.ensures state h
-    ∙ ap (λ e. search_ways client (search_rest client documents levels rest e ahead) state passed (approval_ways documents levels element)) c.digest_after_element-after-in-Authorize.ensures
+    ∙ ap (λ e. search_ways client (search_rest client documents levels rest e ahead) state passed (approval_ways documents levels element)) c.digest_after_element-after.ensures
     ∙ ap (search_ways client (search_rest client documents levels rest (digest_at_element element d) ahead) state passed) same
 
 -- ---- branches
