@@ -4,6 +4,7 @@ pub mod Counts
 pub mod Ends
 pub mod Found
 pub mod Going
+pub mod Hopeless
 pub mod Judging
 pub mod Loads
 pub mod Nothing

@@ -1,6 +1,6 @@
 -- A search through lists of ways that are made of parts.
-use Rattle.std.proofs.Common.{◌≡◌, ◌≢◌, ℕ, ◌+◌, ◌-◌, ◌*◌, ◌<◌, ◌≤◌, ◌++◌, min, Bool, true, false, List, [], ◌∷◌, map, fold, length, drop, get_or, Option, Some, None, refl, sym, ap, ◌∙◌, drop-cons, add-one, arith}
-use Rattle.std.specs.Prelude.{◌||◌, ◌==◌, All, is_none, is_some, not, if◌then◌else◌}
+use Rattle.std.proofs.Common.{◌≡◌, ◌≢◌, ℕ, ◌+◌, ◌-◌, ◌*◌, ◌<◌, ◌≤◌, ◌++◌, min, Bool, true, false, List, [], ◌∷◌, map, length, drop, get_or, Option, Some, None, refl, sym, ap, ◌∙◌, drop-cons, add-one, arith}
+use Rattle.std.specs.Prelude.{◌==◌, All, is_none, not, if◌then◌else◌}
 use Rattle.std.specs.List.{AllByRecursion}
 use Rattle.std.proofs.lemmas.List.{drop_all}
 use Rattle.std.proofs.lemmas.List.Elements.{recursion_from_All}
@@ -15,7 +15,6 @@ use Rattle.tpol_digest.proofs.Documents.{document_paths-some}
 use Rattle.tpol_digest.proofs.Extents.{extent_at-positive}
 use Rattle.tpol_digest.proofs.Measures.{document_agrees, extent_at-measures}
 use Rattle.tpol_digest.proofs.Positions.{part, some_way}
-use Rattle.tpol_name.specs.declared.sight.Sight.{Sight}
 use Rattle.tpol_tree.specs.Closed.{HasBranchCounts}
 use Rattle.tpol_tree.specs.declared.closed.ClosedElement.{ClosedElement}
 use Rattle.tpol_tree.specs.declared.closed.ClosedElement.TheVariants.{Assert, Or, Authorize, AuthorizeNv}
@@ -28,7 +27,6 @@ use Rattle.tpol_tree.specs.declared.path.PathStep.{PathStep}
 use Rattle.tpol_tree.specs.declared.path.PathStep.TheVariants.{Document}
 use Rattle.tpol_choose.specs.declared.ahead.Ahead.{Ahead}
 use Rattle.tpol_choose.specs.declared.ahead.Ahead.TheVariants.{Nothing, After'}
-use Rattle.tpol_choose.specs.declared.block.Block.{Block}
 use Rattle.tpol_choose.specs.declared.block.Why.TheVariants.{NoSession}
 use Rattle.tpol_choose.specs.declared.searching.Search.{Search}
 use Rattle.tpol_choose.specs.declared.searching.Search.TheVariants.{Found, Passed}
@@ -38,11 +36,13 @@ use Rattle.tpol_choose.specs.Blocks.{block_of, block_on, moves_block, whole_bloc
 use Rattle.tpol_choose.specs.Clients.{Client}
 use Rattle.tpol_choose.specs.Counts.{IsCount}
 use Rattle.tpol_choose.specs.Facts.{fresh_session}
+use Rattle.tpol_choose.specs.Hopes.{is_hopeless}
 use Rattle.tpol_choose.specs.Searches.{IsCounted, go_on, passed_more, search_ahead, search_end, search_ways}
-use Rattle.tpol_choose.specs.Tracks.{TrackState, block_at_end, fresh_track, is_lost, track_after, track_along}
+use Rattle.tpol_choose.specs.Tracks.{TrackState, block_at_end, fresh_track, track_after, track_along}
 use Rattle.tpol_choose.proofs.Counted.{count_both}
 use Rattle.tpol_choose.proofs.Ends.{path_ends}
 use Rattle.tpol_choose.proofs.Going.{along_both, along_between, along_closed, along_move}
+use Rattle.tpol_choose.proofs.Hopeless.{hopeless_after, hopeless_along, hopeless_end, hopeless_outside}
 use Rattle.tpol_choose.proofs.Loads.{mul_some}
 
 go_on_nowhere : (s : Search) → go_on s (λ n. Passed n) ≡ s
@@ -113,60 +113,22 @@ module _ (client : Client) (behind : TrackState → ℕ → Search) where
   passed_first track n more xs ys h =
       ways_append track n xs ys ∙ ap (λ s. go_on s (λ m. search_ways client behind track m ys)) h
 
--- ---- where something stands in the way already
-
-or_true : (b : Bool) → (b || true) ≡ true
-or_true true = refl
-or_true false = refl
-
-lost_by : (o : Bool) (b c : Option Block) → (o || is_some b) ≡ true → (is_some b ≡ true → is_some c ≡ true) → (p : Bool) → ((o || p) || is_some c) ≡ true
-lost_by true b c h f p = refl
-lost_by false b c h f true = refl
-lost_by false b c h f false = f h
-
-still_blocked : (b c : Option Block) → is_some b ≡ true → is_some (or_else b c) ≡ true
-still_blocked None c h = absurd cc
-still_blocked (Some block) c h = refl
-
-lost_moves : (client : Client) (track : TrackState) (moves : List Move) → is_some track.block ≡ true → is_some (fold (track_after client) track moves).block ≡ true
-lost_moves client track [] h = h
-lost_moves client track (act ∷ rest) h =
-    lost_moves client (track_after client track act) rest (still_blocked track.block _ h)
-
-lost_more : (o : Bool) (b c : Option Block) → (o || is_some b) ≡ true → (o || is_some (or_else b c)) ≡ true
-lost_more true b c h = refl
-lost_more false b c h = still_blocked b c h
-
-lost_after : (client : Client) (track : TrackState) (act : Move) → is_lost track ≡ true → is_lost (track_after client track act) ≡ true
-lost_after client track act h = lost_more track.outside track.block _ h
-
-pub lost_along : (client : Client) (track : TrackState) (way : Path) → is_lost track ≡ true → is_lost (track_along client track way) ≡ true
-lost_along client track way h =
-    lost_by track.outside track.block (fold (track_after client) track way.moves).block h (lost_moves client track way.moves) way.outside
-
-lost_at_end : (w b g : Option Block) → is_some b ≡ true → is_none (or_else w (or_else b g)) ≡ false
-lost_at_end (Some x) b g h = refl
-lost_at_end None (Some x) g h = refl
-lost_at_end None None g h = absurd cc
-
-lost_end : (sight : Sight) (o : Bool) (b g : Option Block) → (o || is_some b) ≡ true → is_none (or_else (whole_block sight o) (or_else b g)) ≡ false
-lost_end sight true b g h = refl
-lost_end sight false b g h = lost_at_end (whole_block sight false) b g h
+-- ---- where something stands in the way of all ways
 
 -- all ways are passed over, where those behind each are
-module _ (client : Client) (behind : TrackState → ℕ → Search) (c : ℕ) (passes : (t : TrackState) (m : ℕ) → is_lost t ≡ true → behind t m ≡ Passed (passed_more m c)) where
-  ways_lost : (track : TrackState) (n : ℕ) (ways : List Path) → is_lost track ≡ true → n ≤ 65537 → search_ways client behind track n ways ≡ Passed (passed_more n (length ways * c))
-  ways_lost track n [] h few = ap Passed (omega arith)
-  ways_lost track n (way ∷ ways) h few =
-      ap (λ s. go_on s (λ m. search_ways client behind track m ways)) (passes (track_along client track way) n (lost_along client track way h))
-      ∙ ways_lost track (passed_more n c) ways h (omega arith)
+module _ (client : Client) (behind : TrackState → ℕ → Search) (c : ℕ) (passes : (t : TrackState) (m : ℕ) → is_hopeless client t ≡ true → behind t m ≡ Passed (passed_more m c)) where
+  ways_hopeless : (track : TrackState) (n : ℕ) (ways : List Path) → is_hopeless client track ≡ true → n ≤ 65537 → search_ways client behind track n ways ≡ Passed (passed_more n (length ways * c))
+  ways_hopeless track n [] h few = ap Passed (omega arith)
+  ways_hopeless track n (way ∷ ways) h few =
+      ap (λ s. go_on s (λ m. search_ways client behind track m ways)) (passes (track_along client track way) n (hopeless_along client track way h))
+      ∙ ways_hopeless track (passed_more n c) ways h (omega arith)
       ∙ ap Passed (omega arith)
 
-  pub all_lost : (track : TrackState) (n : ℕ) (ways : List Path) → is_lost track ≡ true → 1 ≤ length ways → search_ways client behind track n ways ≡ Passed (passed_more n (length ways * c))
-  all_lost track n [] h some = absurd (omega arith)
-  all_lost track n (way ∷ ways) h some =
-      ap (λ s. go_on s (λ m. search_ways client behind track m ways)) (passes (track_along client track way) n (lost_along client track way h))
-      ∙ ways_lost track (passed_more n c) ways h (omega arith)
+  pub all_hopeless : (track : TrackState) (n : ℕ) (ways : List Path) → is_hopeless client track ≡ true → 1 ≤ length ways → search_ways client behind track n ways ≡ Passed (passed_more n (length ways * c))
+  all_hopeless track n [] h some = absurd (omega arith)
+  all_hopeless track n (way ∷ ways) h some =
+      ap (λ s. go_on s (λ m. search_ways client behind track m ways)) (passes (track_along client track way) n (hopeless_along client track way h))
+      ∙ ways_hopeless track (passed_more n c) ways h (omega arith)
       ∙ ap Passed (omega arith)
 
 module _ (client : Client) (documents : List ApprovedDoc) (approved : All (λ document. HasBranchCounts document.closed.elements) documents) where
@@ -175,16 +137,16 @@ module _ (client : Client) (documents : List ApprovedDoc) (approved : All (λ do
       (extent_at-measures _ _ documents (document_agrees documents (recursion_from_All (λ document. HasBranchCounts document.closed.elements) documents approved) levels) elements d h).count
 
   -- the ways through elements and what comes behind them are passed over
-  pub elements_lost : (behind : TrackState → ℕ → Search) (c : ℕ) → ((t : TrackState) (m : ℕ) → is_lost t ≡ true → behind t m ≡ Passed (passed_more m c)) → (levels : ℕ) (elements : ClosedElements) (d : Digest32) (track : TrackState) (n : ℕ) → HasBranchCounts elements → is_lost track ≡ true → search_ways client behind track n (element_list_ways documents levels elements d) ≡ Passed (passed_more n ((extent_at (document_extent documents levels) documents elements).paths * c))
-  elements_lost behind c passes levels elements d track n h lost =
-      all_lost client behind c passes track n (element_list_ways documents levels elements d) lost (some_way documents approved levels elements d h)
+  pub elements_hopeless : (behind : TrackState → ℕ → Search) (c : ℕ) → ((t : TrackState) (m : ℕ) → is_hopeless client t ≡ true → behind t m ≡ Passed (passed_more m c)) → (levels : ℕ) (elements : ClosedElements) (d : Digest32) (track : TrackState) (n : ℕ) → HasBranchCounts elements → is_hopeless client track ≡ true → search_ways client behind track n (element_list_ways documents levels elements d) ≡ Passed (passed_more n ((extent_at (document_extent documents levels) documents elements).paths * c))
+  elements_hopeless behind c passes levels elements d track n h hopeless =
+      all_hopeless client behind c passes track n (element_list_ways documents levels elements d) hopeless (some_way documents approved levels elements d h)
       ∙ ap (λ k. Passed (passed_more n (k * c))) (ways_are levels elements d h)
 
-  pub ahead_lost : (ahead : Ahead) → HasBranchCountsAhead ahead → (track : TrackState) (n : ℕ) → is_lost track ≡ true → search_ahead client documents ahead track n ≡ Passed (passed_more n (ways_ahead documents ahead))
-  ahead_lost Nothing h track n lost =
-      ap (λ b. if b then Found n else Passed (passed_more n 1)) (lost_end client.sight track.outside track.block _ lost)
-  ahead_lost (After' act rest before levels p ahead) h track n lost =
-      elements_lost (search_ahead client documents ahead) (ways_ahead documents ahead) (ahead_lost ahead h.1) levels rest.now before (track_after client track (move_of act)) n h.0 (lost_after client track (move_of act) lost)
+  pub ahead_hopeless : (ahead : Ahead) → HasBranchCountsAhead ahead → (track : TrackState) (n : ℕ) → is_hopeless client track ≡ true → search_ahead client documents ahead track n ≡ Passed (passed_more n (ways_ahead documents ahead))
+  ahead_hopeless Nothing h track n hopeless =
+      ap (λ b. if b then Found n else Passed (passed_more n 1)) (hopeless_end client track hopeless)
+  ahead_hopeless (After' act rest before levels p ahead) h track n hopeless =
+      elements_hopeless (search_ahead client documents ahead) (ways_ahead documents ahead) (ahead_hopeless ahead h.1) levels rest.now before (track_after client track (move_of act)) n h.0 (hopeless_after client track (move_of act) hopeless)
 
   rest_some : (ahead : Ahead) → HasBranchCountsAhead ahead → 1 ≤ ways_ahead documents ahead
   rest_some Nothing h = omega arith
@@ -198,20 +160,16 @@ module _ (client : Client) (documents : List ApprovedDoc) (approved : All (λ do
       let behind : FullExtent = record { paths = ways_ahead documents ahead; moves = 0 } in
       (count_both first others (min (first * others) 65537) full behind counted (record { paths = e }) (extent_at-positive (document_extent documents levels) documents elements h) (rest_some ahead k) refl).paths
 
-  outside_along : (track : TrackState) (act : Move) → is_lost (track_along client track (outside_path act)) ≡ true
-  outside_along track act =
-      ap (λ o. o || is_some (track_along client track (outside_path act)).block) (or_true track.outside)
-
   -- the way by a policy that no listed document has is passed over
-  pub outside_lost : (behind : TrackState → ℕ → Search) (c : ℕ) → ((t : TrackState) (m : ℕ) → is_lost t ≡ true → behind t m ≡ Passed (passed_more m c)) → (element : ClosedElement) (track : TrackState) (n : ℕ) → length (outside_paths element) ≡ 1 → search_ways client behind track n (outside_paths element) ≡ Passed (passed_more n c)
-  outside_lost behind c passes (Authorize key policy_ref) track n h =
+  pub outside_hopeless : (behind : TrackState → ℕ → Search) (c : ℕ) → ((t : TrackState) (m : ℕ) → is_hopeless client t ≡ true → behind t m ≡ Passed (passed_more m c)) → (element : ClosedElement) (track : TrackState) (n : ℕ) → length (outside_paths element) ≡ 1 → search_ways client behind track n (outside_paths element) ≡ Passed (passed_more n c)
+  outside_hopeless behind c passes (Authorize key policy_ref) track n h =
       let act = Approve key policy_ref zero_digest zero_digest in
-      ways_one client behind track n (outside_path act) ∙ passes (track_along client track (outside_path act)) n (outside_along track act)
-  outside_lost behind c passes (AuthorizeNv index) track n h =
+      ways_one client behind track n (outside_path act) ∙ passes (track_along client track (outside_path act)) n (hopeless_outside client track act)
+  outside_hopeless behind c passes (AuthorizeNv index) track n h =
       let act = ApproveNv index zero_digest in
-      ways_one client behind track n (outside_path act) ∙ passes (track_along client track (outside_path act)) n (outside_along track act)
-  outside_lost behind c passes (Assert assertion) track n h = absurd (omega arith)
-  outside_lost behind c passes (Or branches) track n h = absurd (omega arith)
+      ways_one client behind track n (outside_path act) ∙ passes (track_along client track (outside_path act)) n (hopeless_outside client track act)
+  outside_hopeless behind c passes (Assert assertion) track n h = absurd (omega arith)
+  outside_hopeless behind c passes (Or branches) track n h = absurd (omega arith)
 
 -- ---- the documents that are left
 

@@ -5,7 +5,7 @@ use Rattle.tpol_tree.specs.declared.path.Move.{Move}
 use Rattle.tpol_tree.specs.declared.path.Move.TheVariants.{Assert, Or, Approve, ApproveNv}
 
 abbrev pub move_of : Act → Move
-move_of (acts.Assert assertion) = Assert assertion.now
+move_of (acts.Assert step) = Assert step.assertion.now
 move_of (acts.Or or) = Or or.digests.now
 move_of (acts.Approve key policy_ref approved signature) = Approve key.now policy_ref.now approved signature
 move_of (acts.ApproveNv index approved) = ApproveNv index.now approved

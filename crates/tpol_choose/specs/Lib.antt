@@ -7,6 +7,7 @@ pub mod Counts
 pub mod Entities
 pub mod Facts
 pub mod Goals
+pub mod Hopes
 pub mod Judges
 pub mod Keys
 pub mod Lent

@@ -3,14 +3,15 @@
 ghost use Rattle.std.specs.Prelude.{◌≡◌};
 ghost use Rattle.tpol_choose.specs.Acts.{move_of};
 
+use crate::assert_move::AssertMove;
 use crate::or_move::OrMove;
 use tpol_base::{Blob, Digest32, Name};
-use tpol_tree::{Assertion, Move};
+use tpol_tree::Move;
 
 // One policy command on a way through a policy, as `Move`.
 #[derive(Clone, Copy)]
 pub enum Act<'a> {
-    Assert(&'a Assertion),
+    Assert(AssertMove<'a>),
     Or(OrMove<'a>),
     Approve {
         key: &'a Name,
@@ -25,11 +26,12 @@ pub enum Act<'a> {
 }
 
 impl<'a> Act<'a> {
-    pub fn of(act: &'a Move) -> Act<'a>
+    // A move of a path, where `before` is the digest before it.
+    pub fn of(act: &'a Move, before: Digest32) -> Act<'a>
         ensures { move_of result ≡ act.now }
     {
         match act {
-            Move::Assert(assertion) => Act::Assert(assertion),
+            Move::Assert(assertion) => Act::Assert(AssertMove::new(assertion, before)),
             Move::Or(digests) => Act::Or(OrMove::new(digests.as_slice())),
             Move::Approve {
                 key,

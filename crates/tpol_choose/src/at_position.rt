@@ -18,6 +18,7 @@ ghost use Rattle.tpol_tree.specs.Closed.{HasBranchCounts, ElementHasBranchCounts
 use crate::Block;
 use crate::act::Act;
 use crate::approving::{approval, outside_approval};
+use crate::assert_move::AssertMove;
 use crate::branch_digests::BranchDigests;
 use crate::client::Client;
 use crate::counting::{count_element, count_elements};
@@ -146,10 +147,13 @@ fn go_element(
     ensures digest { result.digest ≡ digest_at_element element.now before }
 {
     match element {
-        ClosedElement::Assert(assertion) => Behind {
-            track: track.after(walk.alloc, &walk.client, &Act::Assert(assertion)),
-            digest: digest_after_element(element, before),
-        },
+        ClosedElement::Assert(assertion) => {
+            let step = AssertMove::new(assertion, before);
+            Behind {
+                track: track.after(walk.alloc, &walk.client, &Act::Assert(step)),
+                digest: step.after,
+            }
+        }
         ClosedElement::Or(branches) => {
             let digests = BranchDigests::of(branches, before);
             let inner = go_branches(walk, track, branches, before, index);

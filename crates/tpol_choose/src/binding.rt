@@ -35,7 +35,7 @@ fn bound_move(alloc: Global, act: &Act<'_>) -> Move
     ensures { BindAlike result (move_of act.now) }
 {
     match *act {
-        Act::Assert(assertion) => bound_assertion(alloc, assertion),
+        Act::Assert(step) => bound_assertion(alloc, step.assertion),
         Act::Or(_) | Act::Approve { .. } | Act::ApproveNv { .. } => binding_nothing(),
     }
 }

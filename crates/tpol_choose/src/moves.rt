@@ -37,7 +37,7 @@ pub fn check_move(client: &Client<'_>, session: &Standing, act: &Act<'_>) -> Res
         → Breaks result (spec.move_block (client_of_lent client.now) state (move_of act.now)) }
 {
     match *act {
-        Act::Assert(assertion) => check_assertion(client, session, assertion),
+        Act::Assert(step) => check_assertion(client, session, step.assertion),
         Act::Or(or) => answered(policy_or_rule(session, or.digests)),
         Act::Approve {
             key,

@@ -111,7 +111,7 @@ fn make_move(
     ensures after { (state : SessionState) → session.now ≡ standing_of state
         → IfOk result (λ after. after ≡ standing_of (facts.session_after client.now.sight.now state act.now)) }
 {
-    let lent = Act::of(act);
+    let lent = Act::of(act, session.digest);
     at(number, check_move(client, session, &lent))?;
     let bindings = bindings_after_move(session, act, &lent);
     Ok(session_after(client.sight, session, &lent, bindings))

@@ -16,6 +16,7 @@ ghost use Rattle.tpol_tree.specs.Closed.{HasBranchCounts, ElementHasBranchCounts
 use crate::act::Act;
 use crate::ahead::{Ahead, count_ahead};
 use crate::approving::approval;
+use crate::assert_move::AssertMove;
 use crate::branch_digests::BranchDigests;
 use crate::counting::{COUNTED, count_elements};
 use crate::or_move::OrMove;
@@ -67,7 +68,7 @@ fn search_elements<'a>(
         → result ≡ spec.search_ways (client_of_lent walk.now.client) (spec.search_ahead (client_of_lent walk.now.client) walk.now.approvals.now ahead.now)
         state passed (at.element_list_ways walk.now.approvals.now walk.now.levels elements.now before) }
 {
-    if track.is_lost() {
+    if track.is_hopeless(&walk.client) {
         return pass_over(walk, elements, ahead, passed);
     }
     match elements {
@@ -101,9 +102,9 @@ fn search_element<'a>(
 {
     match element {
         ClosedElement::Assert(assertion) => {
-            let next = track.after(walk.alloc, &walk.client, &Act::Assert(assertion));
-            let after = digest_after_element(element, before);
-            search_elements(walk, next, rest, after, ahead, passed)
+            let step = AssertMove::new(assertion, before);
+            let next = track.after(walk.alloc, &walk.client, &Act::Assert(step));
+            search_elements(walk, next, rest, step.after, ahead, passed)
         }
         ClosedElement::Or(branches) => {
             let digests = BranchDigests::of(branches, before);

@@ -16,11 +16,12 @@ ghost use Rattle.tpol_base.specs.Name.{name_bytes};
 ghost use Rattle.tpol_hash.specs.Messages.{Holds};
 
 use crate::act::Act;
+use crate::assert_move::AssertMove;
 use crate::entity_at::entity_of_name;
 use tpm_bindings::Bindings;
 use tpm_rules::{Standing, deadline_of};
 use tpol_base::{CommandCode, Digest32, Name};
-use tpol_digest::{approve_digest, approve_nv_digest, extend};
+use tpol_digest::{approve_digest, approve_nv_digest};
 use tpol_hash::Hasher;
 use tpol_name::Sight;
 use tpol_tree::{Assertion, Move};
@@ -71,7 +72,7 @@ fn digest_after(sight: &Sight, before: Digest32, act: &Act<'_>) -> Digest32
     ensures { (state : SessionState) → result ≡ digest_after (spec.fact_of_move sight.now state (move_of act.now)).act before }
 {
     match *act {
-        Act::Assert(assertion) => digest_after_assertion(sight, before, assertion),
+        Act::Assert(step) => digest_after_assertion(sight, before, &step),
         Act::Or(or) => or.after,
         Act::Approve {
             key,
@@ -83,16 +84,23 @@ fn digest_after(sight: &Sight, before: Digest32, act: &Act<'_>) -> Digest32
 }
 
 // The same of an assertion. That of PolicySecret has the Name that the entity has as it is.
-fn digest_after_assertion(sight: &Sight, before: Digest32, assertion: &Assertion) -> Digest32
-    ensures { (state : SessionState) → result ≡ digest_after (spec.fact_of_assertion sight.now state assertion.now).act before }
+fn digest_after_assertion(sight: &Sight, before: Digest32, step: &AssertMove<'_>) -> Digest32
+    ensures { (state : SessionState) → result ≡ digest_after (spec.fact_of_assertion sight.now state step.now.assertion.now).act before }
 {
-    match assertion {
+    match step.assertion {
         Assertion::Secret {
             entity,
             policy_ref,
             ..
-        } => secret_digest(before, &name_in_fact(sight, entity), policy_ref.as_slice()),
-        _ => extend(before, assertion),
+        } => {
+            let name = name_in_fact(sight, entity);
+            if name == *entity {
+                step.digest_from(before)
+            } else {
+                secret_digest(before, &name, policy_ref.as_slice())
+            }
+        }
+        _ => step.digest_from(before),
     }
 }
 
@@ -153,7 +161,7 @@ fn is_pcr(act: &Act<'_>) -> bool
     ensures { result ≡ pcr.is_pcr (move_of act.now) }
 {
     match *act {
-        Act::Assert(Assertion::Pcr { .. }) => true,
+        Act::Assert(step) => matches!(step.assertion, Assertion::Pcr { .. }),
         _ => false,
     }
 }
@@ -163,9 +171,10 @@ pub fn cp_hash_of(act: &Act<'_>) -> Option<Digest32>
     ensures { result ≡ spec.cp_hash_of (move_of act.now) }
 {
     match *act {
-        Act::Assert(Assertion::Secret { cp_hash, .. } | Assertion::Signed { cp_hash, .. }) => {
-            *cp_hash
-        }
+        Act::Assert(step) => match step.assertion {
+            Assertion::Secret { cp_hash, .. } | Assertion::Signed { cp_hash, .. } => *cp_hash,
+            _ => None,
+        },
         _ => None,
     }
 }
@@ -176,8 +185,12 @@ pub fn deadline_after(session: &Standing, act: &Act<'_>) -> Option<u64>
     ensures { result ≡ spec.deadline_of_move session.now.start session.now.nonce (move_of act.now) }
 {
     match *act {
-        Act::Assert(Assertion::Secret { expiration, .. } | Assertion::Signed { expiration, .. }) =>
-            deadline_of(session.start, &session.nonce.bytes, *expiration),
+        Act::Assert(step) => match step.assertion {
+            Assertion::Secret { expiration, .. } | Assertion::Signed { expiration, .. } => {
+                deadline_of(session.start, &session.nonce.bytes, *expiration)
+            }
+            _ => None,
+        },
         _ => None,
     }
 }

@@ -10,6 +10,7 @@ use crate::Block;
 use crate::act::Act;
 use crate::binding::bindings_after;
 use crate::client::Client;
+use crate::demands::meets;
 use crate::goal::check_goal;
 use crate::moves::check_move;
 use crate::one_path::{at, check_whole};
@@ -33,6 +34,7 @@ impl Track {
     ghost use Rattle.tpol_choose.specs.Tracks.{IsTrack, TrackState};
     ghost use Rattle.tpol_choose.specs.Blocks as blocks;
     ghost use Rattle.tpol_choose.specs.Goals as goals;
+    ghost use Rattle.tpol_choose.specs.Hopes as hopes;
 
     pub fn new(client: &Client<'_>) -> Track
         requires sight { IsSight client.now.sight.now }
@@ -86,8 +88,17 @@ impl Track {
         }
     }
 
-    // Whether something stands in the way of each path that goes on from here.
-    pub fn is_lost(&self) -> bool
+    // Whether something stands in the way of each path that goes on from here: already, or at the goal, since
+    // the client does not meet what the moves so far ask for.
+    pub fn is_hopeless(&self, client: &Client<'_>) -> bool
+        ensures { (track : TrackState) → IsTrack self.now track
+            → result ≡ hopes.is_hopeless (client_of_lent client.now) track }
+    {
+        self.is_lost() || !meets(client, &self.session.bindings)
+    }
+
+    // Whether something stands in the way already.
+    fn is_lost(&self) -> bool
         ensures { (track : TrackState) → IsTrack self.now track → result ≡ spec.is_lost track }
     {
         self.outside || self.block.is_some()

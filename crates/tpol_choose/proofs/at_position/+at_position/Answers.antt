@@ -117,7 +117,7 @@ go_element-returns-in-Assert-clause-track t c =
     let client = client_of_lent c.args.walk.now.client in
     let act = Assert c.in-Assert.assertion in
     let inside = rw c.in-Assert.is at c.requires.inside in
-    rw c.in-Assert.is (λ state h. go_one client state c.after.result (path_of_move act) (track_after client state act) c.args.index (omega (arith, inside)) (c.after.ensures state h) (along_move client state act))
+    rw c.in-Assert.is (λ state h. go_one client state c.after.result (path_of_move act) (track_after client state act) c.args.index (omega (arith, inside)) (subst (λ a. IsTrack c.after.result (track_after client state (Assert a))) c.new-step.ensures.assertion (c.after.ensures state h)) (along_move client state act))
 
 pub go_element-go_branches-inner-requires : goal.go_element-go_branches-inner-requires
 go_element-go_branches-inner-requires t c =

@@ -15,22 +15,22 @@ use Rattle.tpol_choose.specs.Acts.{move_of}
 use Rattle.tpol_choose.specs.Ahead.{ways_ahead}
 use Rattle.tpol_choose.specs.Lent.{client_of_lent}
 use Rattle.tpol_choose.specs.Searches.{search_ahead, search_rest, search_ways}
-use Rattle.tpol_choose.specs.Tracks.{track_after}
+use Rattle.tpol_choose.specs.Tracks.{IsTrack, track_after}
 use Rattle.tpol_choose.proofs.Going.{along_nothing}
 use Rattle.tpol_choose.proofs.Loads.{share, share_some, entered_lighter}
-use Rattle.tpol_choose.proofs.SearchLaws.{ahead_lost, elements_lost, entered, found_first, left, next_left, none_left, outside_lost, passed_first, ways_by_move, ways_by_step, ways_one, ways_one_move, ways_product}
+use Rattle.tpol_choose.proofs.SearchLaws.{ahead_hopeless, elements_hopeless, entered, found_first, left, next_left, none_left, outside_hopeless, passed_first, ways_by_move, ways_by_step, ways_one, ways_one_move, ways_product}
 use Rattle.tpol_choose.proofs.searching.+searching.Goals as goal
 use Rattle.tpol_choose.proofs.searching.+searching.Goals.{search_documents-in-Some+in-Passed, search_documents-in_default}
 
 -- ---- elements
 
-pub search_elements-returns-then-is_lost : goal.search_elements-returns-then-is_lost
-search_elements-returns-then-is_lost t c = λ state h.
+pub search_elements-returns-then-is_hopeless : goal.search_elements-returns-then-is_hopeless
+search_elements-returns-then-is_hopeless t c = λ state h.
     let client = client_of_lent c.args.walk.now.client in
     let documents = c.args.walk.now.approvals.now in
     let ahead = c.args.ahead.now in
     c.pass_over.ensures
-    ∙ sym (elements_lost client documents c.requires.approved (search_ahead client documents ahead) (ways_ahead documents ahead) (ahead_lost client documents c.requires.approved ahead c.requires.ahead) c.args.walk.now.levels c.args.elements.now c.args.before state c.args.passed c.requires.branches (sym (c.is_lost.ensures state h) ∙ c.if-is_lost.true))
+    ∙ sym (elements_hopeless client documents c.requires.approved (search_ahead client documents ahead) (ways_ahead documents ahead) (ahead_hopeless client documents c.requires.approved ahead c.requires.ahead) c.args.walk.now.levels c.args.elements.now c.args.before state c.args.passed c.requires.branches (sym (c.is_hopeless.ensures state h) ∙ c.if-is_hopeless.true))
 
 pub search_elements-returns-in-End : goal.search_elements-returns-in-End
 search_elements-returns-in-End t c =
@@ -64,10 +64,10 @@ search_element-returns-in-Assert t c =
     let ahead = c.args.ahead.now in
     let passed = c.args.passed in
     let act = Assert c.in-Assert.assertion in
-    let after = c.digest_after_element-after.ensures ∙ ap (λ e. digest_at_element e c.args.before) c.in-Assert.is in
+    let step = c.new-step.ensures in
     rw c.in-Assert.is (λ state h.
-    c.search_elements.ensures (track_after client state act) (c.after-next.ensures state h)
-    ∙ ap (λ d. search_ways client (search_ahead client documents ahead) (track_after client state act) passed (element_list_ways documents levels rest d)) after
+    c.search_elements.ensures (track_after client state act) (subst (λ a. IsTrack c.after-next.result (track_after client state (Assert a))) step.assertion (c.after-next.ensures state h))
+    ∙ ap (λ d. search_ways client (search_ahead client documents ahead) (track_after client state act) passed (element_list_ways documents levels rest d)) step.after
     ∙ sym (ways_one_move client (search_rest client documents levels rest (digest_at_element (closed.Assert c.in-Assert.assertion) c.args.before) ahead) state passed act))
 
 pub search_element-returns-in-Or : goal.search_element-returns-in-Or
@@ -104,7 +104,7 @@ search_element-returns-in-Authorize t c = λ state h.
       | inr q ↦ subst (λ e. approval_ways documents levels e ≡ element_ways documents levels e d) (sym q.1) refl
     ] in
     c.search_approvals.ensures state h
-    ∙ ap (λ e. search_ways client (search_rest client documents levels rest e ahead) state passed (approval_ways documents levels element)) c.digest_after_element-after-in-Authorize.ensures
+    ∙ ap (λ e. search_ways client (search_rest client documents levels rest e ahead) state passed (approval_ways documents levels element)) c.digest_after_element-after.ensures
     ∙ ap (search_ways client (search_rest client documents levels rest (digest_at_element element d) ahead) state passed) same
 
 -- ---- branches
@@ -169,7 +169,7 @@ search_approvals-returns-in-Passed t c = λ state h.
     let left_out = (extent_at (document_extent documents levels) documents rest).paths * ways_ahead documents ahead in
     c.pass_over.ensures
     ∙ sym (passed_first client behind state c.args.passed c.in-Passed.more (approved_paths (document_paths documents levels) documents element) (outside_paths element) (sym (c.search_documents.ensures state h) ∙ c.in-Passed.is)
-    ∙ outside_lost client documents c.requires.approved behind left_out (λ s m lost. elements_lost client documents c.requires.approved (search_ahead client documents ahead) (ways_ahead documents ahead) (ahead_lost client documents c.requires.approved ahead c.requires.ahead) levels rest c.args.after s m c.requires.rest lost) element state c.in-Passed.more c.requires.asks)
+    ∙ outside_hopeless client documents c.requires.approved behind left_out (λ s m lost. elements_hopeless client documents c.requires.approved (search_ahead client documents ahead) (ways_ahead documents ahead) (ahead_hopeless client documents c.requires.approved ahead c.requires.ahead) levels rest c.args.after s m c.requires.rest lost) element state c.in-Passed.more c.requires.asks)
 
 -- ---- documents
 
