@@ -21,7 +21,7 @@ pub struct Ways {
 }
 
 impl Ways {
-    ghost use Rattle.std.specs.Prelude.{◌≡◌, ◌+◌, ◌<◌, ◌++◌, ◌∷◌, [], map, List, Option, ℕ, Some, IfOk};
+    ghost use Rattle.std.specs.Prelude.{◌≡◌, ◌+◌, ◌<◌, ◌++◌, ◌∷◌, [], map, List, ℕ, Some, IfOk};
     ghost use Rattle.tpol_digest.specs.Paths.{empty_path, followed_by, path_of_move};
     ghost use Rattle.tpol_trace.specs.Tables.{AllAsk, AreInside, Asks, IsEverywhere, IsTable, kept};
     ghost use Rattle.tpol_trace.specs.Same.{is_same_move};

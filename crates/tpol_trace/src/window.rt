@@ -1,6 +1,6 @@
 // The places of a table between which all lies that is there.
 
-ghost use Rattle.std.specs.Prelude.{◌≡◌, ◌-◌, ◌≤◌, length, max, slice_index_or, Option, ℕ, Some, None};
+ghost use Rattle.std.specs.Prelude.{◌≡◌, ◌-◌, ◌≤◌, length, max, slice_index_or, ℕ, Some, None};
 ghost use Rattle.tpol_trace.specs.Windows.{IsIn};
 
 // The places from one on and before another.
