@@ -27,12 +27,13 @@ use Rattle.tpol_top.specs.SceneStep.{scene_of_bytes}
 use Rattle.tpol_top.specs.Script.{performance_answer, performed}
 use Rattle.tpol_top.specs.Steps.{Answers, Halts, IfAnswered, Step, ◌>>=◌}
 use Rattle.tpol_top.specs.StoreStep.{store_step}
+use Rattle.tpol_top.proofs.EntitiesErased.{reversed_erased}
 use Rattle.tpol_top.proofs.EntityPolicies.{found_erased}
 use Rattle.tpol_top.proofs.FilledErased.{policy_digest_erased}
 use Rattle.tpol_top.proofs.OpenedTold.{AreOpenable, IsOpenable}
 use Rattle.tpol_top.proofs.OpeningErased.{opening_of_erased}
 use Rattle.tpol_top.proofs.PathPcrs.{HasDigests, paths_have_digests}
-use Rattle.tpol_top.proofs.PerformanceErased.{performed_erased, reversed_erased}
+use Rattle.tpol_top.proofs.PerformanceErased.{performed_erased}
 use Rattle.tpol_top.proofs.Told.{performed_explains}
 use Rattle.tpol_top.proofs.Walkable.{policy_walkable}
 use Rattle.tpol_trace.proofs.Opened.{facts_open}

@@ -12,9 +12,10 @@ use Rattle.tpol_top.specs.declared.request.Request.{Request}
 use Rattle.tpol_top.specs.declared.request.Request.TheVariants.{Explain}
 use Rattle.tpol_top.specs.declared.status.Status.{Status}
 use Rattle.tpol_top.specs.declared.status.Status.TheVariants as statuses
-use Rattle.tpol_top.specs.Answer.{status_of}
-use Rattle.tpol_top.specs.Explained.{IfExplain, IsExplained, IsExplainedScene, OfExplain, OfHeld}
+use Rattle.tpol_top.specs.Explain.{IfExplain, OfExplain, OfHeld}
+use Rattle.tpol_top.specs.Explained.{IsExplained, IsExplainedScene}
 use Rattle.tpol_top.specs.Report.{OfReport, most_read, report_of}
+use Rattle.tpol_top.specs.Status.{status_of}
 use Rattle.tpol_top.specs.Steps.{IfAnswered}
 use Rattle.tpol_top.specs.Words.{reads_source_for, request_of}
 

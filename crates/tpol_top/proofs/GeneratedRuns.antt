@@ -5,7 +5,8 @@ use Rattle.tpol_digest.specs.Digest.{policy_digest}
 use Rattle.tpol_name.specs.declared.setup.Setup.{Setup}
 use Rattle.tpol_top.specs.declared.new_run.NewRun.{NewRun}
 use Rattle.tpol_top.specs.declared.scenario.Scenario.{Scenario}
-use Rattle.tpol_top.specs.Generate.{generated_performance, generated_run, generated_scenario, generated_setup, performed_run}
+use Rattle.tpol_top.specs.FirstRun.{performed_run}
+use Rattle.tpol_top.specs.Generate.{generated_performance, generated_run, generated_scenario, generated_setup}
 use Rattle.tpol_top.specs.Performance.{PerformanceState, start_of}
 use Rattle.tpol_tree.specs.declared.closed.Closed.{Closed}
 

@@ -1,6 +1,7 @@
 pub mod Answered
 pub mod Chosen
 pub mod EntitiesAdded
+pub mod EntitiesErased
 pub mod EntityPolicies
 pub mod ExplainedErased
 pub mod Explaining
@@ -16,7 +17,9 @@ pub mod Losses
 pub mod Masks
 pub mod NoRequest
 pub mod OpenedTold
+pub mod OpenedMeets
 pub mod OpeningErased
+pub mod PathAnswers
 pub mod PathPcrs
 pub mod PathSteps
 pub mod PcrsAtUse

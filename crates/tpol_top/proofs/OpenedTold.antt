@@ -32,8 +32,9 @@ use Rattle.tpol_top.specs.declared.scenario.Scenario.{Scenario}
 use Rattle.tpol_top.specs.CommandsTold.{command_told, opening_told, policy_opened, with_opening}
 use Rattle.tpol_top.specs.Explained.{IsJudged, IsOpened, IsPrintedBehind, IsTold}
 use Rattle.tpol_top.specs.Performance.{PerformanceState, number_in}
-use Rattle.tpol_top.specs.Scenario.{HavePolicies, MeetsPolicy, policy_of_entity}
-use Rattle.tpol_top.proofs.EntityPolicies.{opened_meets}
+use Rattle.tpol_top.specs.Meeting.{MeetsPolicy}
+use Rattle.tpol_top.specs.Scenario.{HavePolicies, policy_of_entity}
+use Rattle.tpol_top.proofs.OpenedMeets.{opened_meets}
 use Rattle.tpol_top.proofs.PathPcrs.{HasDigests}
 use Rattle.tpol_top.proofs.PcrsAtUse.{pcrs-at-use, pcrs-length}
 use Rattle.tpol_top.proofs.SoundFacts.{facts-sound}

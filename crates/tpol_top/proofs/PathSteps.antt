@@ -1,5 +1,4 @@
--- The limits of a policy's paths, by their number and their lengths, and what is printed of them, whichever memory
--- the policy lies in.
+-- The limits of a policy's paths, by their number and their lengths, whichever memory the policy lies in.
 use Rattle.std.proofs.Common.{◌≡◌, ℕ, ◌<◌, ◌≤◌, List, map, true, false, length, nat_lt, Option, Ok, Err, ap, subst, ◌∙◌, arith}
 use Rattle.std.proofs.lemmas.Bool.Decides.{nat_tests}
 use Rattle.std.specs.Prelude.{All, codes}
@@ -8,10 +7,8 @@ use Rattle.tpol_digest.specs.Limits.{AreWithinLimits}
 use Rattle.tpol_digest.specs.Paths.{paths_of}
 use Rattle.tpol_digest.proofs.Erasures.{paths_ignore_boxes}
 use Rattle.tpol_tree.specs.ClosedErased.{erased, erased_document}
-use Rattle.tpol_top.proofs.FilledErased.{policy_digest_erased}
 use Rattle.tpol_top.proofs.LimitTests.{none_too_long}
 use Rattle.tpol_top.specs.Limits.{is_too_long, limit_step, within_limits}
-use Rattle.tpol_top.specs.Paths.{path_answer}
 use Rattle.tpol_top.specs.Refusals.{path_limit}
 use Rattle.tpol_tree.specs.declared.closed.Closed.{Closed}
 use Rattle.tpol_tree.specs.declared.path.ApprovedDoc.{ApprovedDoc}
@@ -43,7 +40,3 @@ short_enough paths short =
 pub within : (document : Option (List ℕ)) (closed : Closed) (approvals : List ApprovedDoc) → AreWithinLimits (paths_of closed approvals) → limit_step document (erased closed) (map erased_document approvals) ≡ Ok tt
 within document closed approvals h =
     limit_as_it_lies document closed approvals ∙ rw (few (paths_of closed approvals) h.few, short_enough (paths_of closed approvals) h.short)
-
--- the lines
-pub path_answer_erased : (closed : Closed) (approvals : List ApprovedDoc) → path_answer (erased closed) (paths_of (erased closed) (map erased_document approvals)) ≡ path_answer closed (paths_of closed approvals)
-path_answer_erased closed approvals = rw (paths_ignore_boxes closed approvals, policy_digest_erased closed)

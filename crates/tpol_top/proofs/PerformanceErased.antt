@@ -1,6 +1,5 @@
 -- What a scene leads to, whichever memory its policies lie in.
-use Rattle.std.proofs.Common.{◌≡◌, ◌∙◌, ap, refl, ℕ, zero, suc, ◌-◌, ◌==◌, Bool, true, false, if◌then◌else◌, List, [], ◌∷◌, ◌++◌, map, find, reverse, slice_get, sym, Option, Some, None}
-use Rattle.std.proofs.lemmas.List.{map-append, reverse-append}
+use Rattle.std.proofs.Common.{◌≡◌, ◌∙◌, ap, refl, ℕ, zero, suc, ◌-◌, ◌==◌, Bool, true, false, if◌then◌else◌, List, [], ◌∷◌, map, find, reverse, slice_get, Option, Some, None}
 use Rattle.std.specs.Option.{option_map}
 use Rattle.std.specs.Str.{bytes_eq}
 use Rattle.tpm_engine.specs.declared.opened.Opened.{Opened}
@@ -27,6 +26,7 @@ use Rattle.tpol_top.specs.Performance.{PerformanceState, number_in, start_of}
 use Rattle.tpol_top.specs.Scenario.{erased_scenario, erased_staged, is_document, is_entity, paths_in, paths_named}
 use Rattle.tpol_top.specs.Script.{all_happened, happened, performance_answer, performed, turn_told}
 use Rattle.tpol_top.specs.Turns.{replied, sent, sent_now, turned, turned_and, turned_by, turned_on, turned_times, turned_to_end, turned_to_end_by, most_turns}
+use Rattle.tpol_top.proofs.EntitiesErased.{reversed_erased}
 use Rattle.tpol_top.proofs.OpeningErased.{opening_of_erased}
 use Rattle.tpol_trace.specs.Openings.{opening_of}
 use Rattle.tpol_tree.specs.ClosedErased.{erased, erased_document}
@@ -54,13 +54,6 @@ entity_erased approvals event facts handle p (entity ∷ rest) =
       | true ↦ opened_erased approvals event facts entity.document.closed p
       | false ↦ entity_erased approvals event facts handle p rest
     ]
-
-pub reversed_erased : (entities : List CompiledEntity) → reverse (map erased_entity entities) ≡ map erased_entity (reverse entities)
-reversed_erased [] = refl
-reversed_erased (entity ∷ rest) =
-    reverse-append (erased_entity entity ∷ []) (map erased_entity rest)
-    ∙ (ap (λ (l : List CompiledEntity). l ++ erased_entity entity ∷ []) (reversed_erased rest)
-    ∙ (sym (map-append erased_entity (reverse rest) (entity ∷ [])) ∙ sym (ap (map erased_entity) (reverse-append (entity ∷ []) rest))))
 
 told_erased : (explains : Bool) (scenario : Scenario) (event : ℕ) (opened : Option Opened) (p : PerformanceState) → opening_told explains (erased_scenario scenario) event opened p ≡ opening_told explains scenario event opened p
 told_erased false scenario event opened p = refl

@@ -3,19 +3,7 @@ use Rattle.std.specs.Prelude.{ℕ, List, [], ◌∷◌}
 use Rattle.std.specs.List.{flat_map}
 use Rattle.tpol_lines.specs.Lines.{line_of}
 use Rattle.tpol_top.specs.declared.answer.Verdict.{Verdict}
-use Rattle.tpol_top.specs.declared.answer.Verdict.TheVariants as V
 use Rattle.tpol_top.specs.declared.answer.Answer.{Answer}
-use Rattle.tpol_top.specs.declared.status.Status.{Status}
-use Rattle.tpol_top.specs.declared.status.Status.TheVariants.{Done, Usage, TooLarge, BadPolicy, BadScene, PathLimit}
-
--- the status of a verdict
-abbrev pub status_of : Verdict → Status
-status_of V.Done = Done
-status_of V.Usage = Usage
-status_of V.TooLarge = TooLarge
-status_of V.BadPolicy = BadPolicy
-status_of V.BadScene = BadScene
-status_of V.PathLimit = PathLimit
 
 -- the answer of one line
 abbrev pub one_line : List ℕ → Verdict → Answer

@@ -1,7 +1,7 @@
 -- What `explain` tells of a scene: for every command of the journal, exactly when a policy session authorizes it and
 -- exactly when it is served, told by the events before it alone; and by which written path of its policy an entity
 -- was opened.
-use Rattle.std.specs.Prelude.{◌≡◌, ◌≢◌, ◌↔◌, ◌⊎◌, ⊤, ℕ, ◌-◌, All, slice_get, true, List, ◌∷◌, ◌++◌, take, Option, Some, IfSome, Result, Ok, option_map}
+use Rattle.std.specs.Prelude.{◌≡◌, ◌≢◌, ◌↔◌, ◌⊎◌, ⊤, ℕ, ◌-◌, All, slice_get, true, List, ◌∷◌, ◌++◌, Some, IfSome, Ok, option_map}
 use Rattle.tpm_engine.specs.declared.event.Event.{Event}
 use Rattle.tpm_engine.specs.declared.event.Event.TheVariants as events
 use Rattle.tpm_engine.specs.Authorization.{authorized_handle}
@@ -25,17 +25,10 @@ use Rattle.tpol_lines.specs.Events.{command_line}
 use Rattle.tpol_lines.specs.Lines.{line_of}
 use Rattle.tpol_lines.specs.OpeningLine.{opening_line}
 use Rattle.tpol_name.specs.declared.setup.Setup.{Setup}
-use Rattle.tpol_top.specs.declared.answer.Answer.{Answer}
-use Rattle.tpol_top.specs.declared.answer.Verdict.TheVariants.{Done}
-use Rattle.tpol_top.specs.declared.halt.Halt.{Halt}
-use Rattle.tpol_top.specs.declared.request.Request.{Request}
-use Rattle.tpol_top.specs.declared.request.Request.TheVariants.{Explain}
 use Rattle.tpol_top.specs.declared.scenario.Scenario.{Scenario}
 use Rattle.tpol_top.specs.declared.scenario.StagedScene.{StagedScene}
-use Rattle.tpol_top.specs.Report.{most_read}
 use Rattle.tpol_top.specs.Scenario.{policy_of_entity, staged_step}
 use Rattle.tpol_top.specs.Script.{performed}
-use Rattle.tpol_top.specs.Steps.{IfAnswered}
 use Rattle.tpol_trace.specs.declared.answer.Opening.{Opening}
 use Rattle.tpol_trace.specs.declared.answer.Opening.TheVariants.{Branch}
 use Rattle.tpol_trace.specs.Openings.{IsOpening}
@@ -124,18 +117,3 @@ pub record IsExplained (staged : StagedScene) (lines : List (List ℕ)) : Type 0
 abbrev pub IsExplainedScene : List ℕ → List Document → List (List ℕ) → Type 0
 IsExplainedScene input all lines =
     (staged : StagedScene) → staged_step true input all ≡ Ok staged → IsExplained staged lines
-
--- ---- the command
-
--- P, where the command is `explain`
-abbrev pub IfExplain : Option Request → Type 0 → Type 0
-IfExplain (Some Explain) P = P
-IfExplain _ P = ⊤
-
--- where source and shelf tell what they hold, P of what is read of the source and of the documents
-abbrev pub OfHeld : Option (List ℕ) → Option (List Document) → (List ℕ → List Document → Type 0) → Type 0
-OfHeld left documents P = IfSome left (λ held. IfSome documents (λ all. P (take most_read held) all))
-
--- P of what `explain` answers where it came to a scene's end
-abbrev pub OfExplain : Option Request → Result Answer Halt → (Answer → Type 0) → Type 0
-OfExplain choice result P = IfAnswered result (λ answer. answer.verdict ≡ Done → IfExplain choice (P answer))

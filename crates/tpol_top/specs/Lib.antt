@@ -5,14 +5,17 @@ pub mod Commands
 pub mod CommandsTold
 pub mod Compile
 pub mod Entities
+pub mod Explain
 pub mod Explained
 pub mod Filled
 pub mod FilledDocuments
+pub mod FirstRun
 pub mod Generate
 pub mod Halts
 pub mod Import
 pub mod Limits
 pub mod Lines
+pub mod Meeting
 pub mod Numbers
 pub mod Paths
 pub mod Performance

@@ -7,9 +7,7 @@ use Rattle.tpm_nv.specs.Indices.{index_of}
 use Rattle.tpm_world.specs.Objects.{object_of}
 use Rattle.tpol_base.specs.declared.digest.Digest32.{Digest32}
 use Rattle.tpol_base.specs.declared.document.Document.{Document}
-use Rattle.tpol_digest.specs.Digest.{digest_of_moves, policy_digest}
-use Rattle.tpol_digest.specs.Sound.{IsSound, moves_of_facts}
-use Rattle.tpm_engine.specs.declared.opened.Opened.{Opened}
+use Rattle.tpol_digest.specs.Digest.{policy_digest}
 use Rattle.tpol_digest.specs.Limits.{AreWithinLimits}
 use Rattle.tpol_digest.specs.Paths.{paths_of}
 use Rattle.tpol_digest.specs.WellFormed.{HaveBranchCounts, IsWellFormed}
@@ -135,12 +133,6 @@ pub record IsScenarioOf (setup : Setup) (scenario : Scenario) : Type 0 where
   pub entities : All (λ entity. IsWalkable scenario.approvals entity.document.closed) scenario.entities
   pub begun : All (λ document. IsWalkable scenario.approvals document.closed) scenario.begun
   pub policies : HavePolicies setup scenario.entities
-
--- facts that a policy session opened an entity with: each meets the digest before it, and they give the digest of
--- the entity's policy, if it has one
-pub record MeetsPolicy (entities : List CompiledEntity) (opened : Opened) : Type 0 where
-  pub sound : IsSound (moves_of_facts opened.facts)
-  pub digest : IfSome (policy_of_entity entities opened.entity) (λ policy. digest_of_moves (moves_of_facts opened.facts) ≡ policy_digest policy)
 
 -- an event that can happen: its locality is one of five, and its turns are at most 2,000
 abbrev pub CanHappen : ScriptEvent → Type 0

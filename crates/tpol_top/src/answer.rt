@@ -1,8 +1,6 @@
 ghost use Rattle.std.specs.Prelude.{◌≡◌, ◌∷◌, [], IfOk};
 ghost use Rattle.tpol_lines.specs.Lines.{line_of};
-ghost use Rattle.tpol_top.specs.Answer.{status_of};
 
-use crate::Status;
 use std::alloc::Global;
 use tpol_base::NoMemory;
 use tpol_lines::{Lines, push_line};
@@ -16,22 +14,6 @@ pub enum Verdict {
     BadPolicy,
     BadScene,
     PathLimit,
-}
-
-impl Verdict {
-    /// The status that the run answers when all lines are written.
-    pub fn status(self) -> Status
-        ensures { result ≡ status_of self }
-    {
-        match self {
-            Verdict::Done => Status::Done,
-            Verdict::Usage => Status::Usage,
-            Verdict::TooLarge => Status::TooLarge,
-            Verdict::BadPolicy => Status::BadPolicy,
-            Verdict::BadScene => Status::BadScene,
-            Verdict::PathLimit => Status::PathLimit,
-        }
-    }
 }
 
 /// What a command has to say: its lines, each with its line end, and how it ends.

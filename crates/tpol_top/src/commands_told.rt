@@ -6,7 +6,8 @@ ghost use Rattle.tpm_engine.specs.Views.{time_of};
 ghost use Rattle.tpol_top.specs.CommandsTold.{command_told, commanded, opening_told};
 ghost use Rattle.tpol_top.specs.Performance.{number_in};
 ghost use Rattle.tpol_top.specs.declared.entities.CompiledEntity.{CompiledEntity as CompiledEntityOf};
-ghost use Rattle.tpol_top.specs.Scenario.{HavePolicies, IsScenarioOf, IsWalkable, MeetsPolicy};
+ghost use Rattle.tpol_top.specs.Meeting.{MeetsPolicy};
+ghost use Rattle.tpol_top.specs.Scenario.{HavePolicies, IsScenarioOf, IsWalkable};
 
 use crate::performance::Performance;
 use crate::scenario::Scenario;
@@ -61,7 +62,7 @@ impl Performance {
     }
 
     // The event of a command, and its line.
-    #[tactic(auto, using(crate::proofs::EntityPolicies::opened_meets, crate::proofs::Timeless::command_takes_no_time))]
+    #[tactic(auto, using(crate::proofs::OpenedMeets::opened_meets, crate::proofs::Timeless::command_takes_no_time))]
     fn execute(
         &mut self,
         alloc: Global,

@@ -17,6 +17,7 @@ mod compile;
 mod documents;
 mod entities;
 mod filled;
+mod first_run;
 mod generate;
 mod generated;
 mod halt;

@@ -4,7 +4,8 @@ ghost use Rattle.std.specs.Prelude.{◌≡◌, All, IfSome, OnOk, Some};
 ghost use Rattle.tpol_digest.specs.Digest.{digest_of_moves, policy_digest};
 ghost use Rattle.tpol_digest.specs.Sound.{IsSound, moves_of_facts};
 ghost use Rattle.tpol_top.specs.CommandsTold.{entity_opened, policy_opened};
-ghost use Rattle.tpol_top.specs.Scenario.{IsWalkable, MeetsPolicy};
+ghost use Rattle.tpol_top.specs.Meeting.{MeetsPolicy};
+ghost use Rattle.tpol_top.specs.Scenario.{IsWalkable};
 
 use crate::performance::Performance;
 use crate::scenario::Scenario;

@@ -97,7 +97,7 @@ fn list(alloc: Global, closed: &Closed, approvals: &Approvals) -> Result<Answer,
 }
 
 // A line for each path, and the digest.
-#[tactic(auto, using(crate::proofs::PathSteps::path_answer_erased))]
+#[tactic(auto, using(crate::proofs::PathAnswers::path_answer_erased))]
 fn path_answer(alloc: Global, closed: &Closed, approvals: &Approvals) -> Result<Answer, NoMemory>
     ensures { IfOk result (λ answer. answer
         ≡ path_answer (erased closed.now) (paths_of (erased closed.now) (map erased_document approvals.now))) }

@@ -1,6 +1,7 @@
 ghost use Rattle.std.specs.Prelude.{◌≡◌, ◌≤◌, ◌⊎◌, MatchResult, OnOk};
 ghost use Rattle.tpol_base.specs.Causes.{HasCause, Grows, GrowsInPart, Rose};
-ghost use Rattle.tpol_top.specs.Answer.{status_of, text_of};
+ghost use Rattle.tpol_top.specs.Answer.{text_of};
+ghost use Rattle.tpol_top.specs.Status.{status_of};
 
 use crate::Status;
 use crate::answer::Answer;
@@ -18,7 +19,7 @@ pub fn print_answer<K: Sink>(out: &mut K, answer: &Answer) -> Status
     ensures sink_count { K.faults out.old ≤ K.faults out.new }
 {
     match print_lines(out, answer.lines.as_slice()) {
-        Ok(()) => answer.verdict.status(),
+        Ok(()) => Status::of_verdict(answer.verdict),
         Err(Failed) => Status::WriteFault,
     }
 }

@@ -1,7 +1,8 @@
 ghost use Rattle.std.specs.Prelude.{◌≡◌, ◌≤◌, ◌⊎◌, Some, false, true, IsTrue, IfSome, OnErr, IsErrOf, map, take, drop};
 ghost use Rattle.std.specs.String.{string_bytes};
 ghost use Rattle.tpol_base.specs.Causes.{Rose};
-ghost use Rattle.tpol_top.specs.Explained.{IsExplainedScene, OfExplain, OfHeld};
+ghost use Rattle.tpol_top.specs.Explain.{OfExplain, OfHeld};
+ghost use Rattle.tpol_top.specs.Explained.{IsExplainedScene};
 ghost use Rattle.tpol_top.specs.Reached.{IsDocumentFor, IsReadable, IsReadableOf};
 ghost use Rattle.tpol_top.specs.Report.{LosesAtMost, OfChoice, OfReport, most_read, report_of_input, report_of_request};
 ghost use Rattle.tpol_top.specs.Status.{IsPastReadingResult};

@@ -1,11 +1,12 @@
 ghost use Rattle.std.specs.Prelude.{◌≡◌, ◌≤◌, ◌⊎◌, Some, false, IsTrue, IfSome, map, take, drop};
 ghost use Rattle.std.specs.String.{string_bytes};
 ghost use Rattle.tpol_base.specs.Causes.{Rose, Grows, GrowsInPart};
-ghost use Rattle.tpol_top.specs.Answer.{status_of, text_of};
-ghost use Rattle.tpol_top.specs.Explained.{IfExplain, IsExplainedScene, OfHeld};
+ghost use Rattle.tpol_top.specs.Answer.{text_of};
+ghost use Rattle.tpol_top.specs.Explain.{IfExplain, OfHeld};
+ghost use Rattle.tpol_top.specs.Explained.{IsExplainedScene};
 ghost use Rattle.tpol_top.specs.Reached.{IsReadableOf};
 ghost use Rattle.tpol_top.specs.Report.{LosesAtMost, OfReport, most_read, report_of};
-ghost use Rattle.tpol_top.specs.Status.{IsWhole, IsSilent, IsPastReading};
+ghost use Rattle.tpol_top.specs.Status.{IsWhole, IsSilent, IsPastReading, status_of};
 ghost use Rattle.tpol_top.specs.Words.{reads_source, request_of, uses_shelf};
 
 use crate::Status;
