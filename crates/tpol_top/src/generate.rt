@@ -5,23 +5,18 @@ ghost use Rattle.tpol_digest.specs.Limits.{AreWithinLimits};
 ghost use Rattle.tpol_digest.specs.Paths.{paths_of};
 ghost use Rattle.tpol_digest.specs.WellFormed.{IsWellFormedPolicy};
 ghost use Rattle.tpol_top.specs.Generate.{generate_step, generated_answer, generated_head, generated_performance, generated_run_lines, generated_scenario};
-ghost use Rattle.tpol_top.specs.Steps.{Answers, IsInside};
+ghost use Rattle.tpol_prepare.specs.Steps.{Answers, IsInside};
 
-use crate::answer::{Answer, Verdict};
-use crate::documents::FilledDocument;
-use crate::filled::fill_document;
-use crate::first_run::perform_run;
 use crate::generated::{generated_policy, generated_run, generated_setup};
-use crate::halt::Halt;
-use crate::limits::check_limits;
-use crate::lines::digest_line;
-use crate::performance::Performance;
-use crate::scenario::Scenario;
 use std::alloc::Global;
 use tpol_base::{NoMemory, Sequence, Text};
 use tpol_digest::{count_paths, digest_of};
 use tpol_lines::{Lines, command_count_line, generated_line, path_count_line, push_line};
 use tpol_name::{Setup, directory};
+use tpol_perform::{Performance, perform_run};
+use tpol_prepare::{
+    Answer, FilledDocument, Halt, Scenario, Verdict, check_limits, digest_line, fill_document,
+};
 use tpol_tree::{Approvals, Closed};
 
 /// The command `gen`: a policy of so many ORs, in an order by the bits of a number, its paths and its digest, and a
