@@ -16,8 +16,10 @@ use tpol_fill::{FillFault, fill};
 use tpol_name::Sight;
 use tpol_tree::{Closed, Policy};
 
-/// Gives every wish of a document, or ends the run at the first place that has no value. The document is one
+/// Gives every wish of a document, with the values of a machine where a sight of one is given. The document is one
 /// of the shelf where it is named.
+///
+/// `Refused` tells the first place that has no value; `NoMemory` comes where memory ran out, and nothing else comes.
 #[tactic(auto, using(crate::proofs::FilledErased::filled_step_erased))]
 pub fn fill_document(
     alloc: Global,

@@ -19,6 +19,9 @@ use tpol_tree::{Approvals, Closed};
 
 /// Ends the run where a policy has too many paths, or one that is too long. The policy is that of a document of
 /// the shelf where one is named.
+///
+/// `Refused` tells which of the two it is, the number first; `NoMemory` comes where memory for that line ran out, and
+/// nothing else comes.
 #[tactic(auto, unfolding(crate::specs::Limits::limit_step))]
 pub fn check_limits(
     alloc: Global,

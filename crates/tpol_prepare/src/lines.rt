@@ -5,7 +5,7 @@ use std::alloc::Global;
 use tpol_base::{Digest32, NoMemory, Text};
 use tpol_json::{Place, place_text};
 
-/// The line of a policy's digest.
+/// The line of a policy's digest, without its line end. It fails only where memory ran out.
 pub fn digest_line(alloc: Global, digest: &Digest32) -> Result<Text, NoMemory>
     ensures { IfOk result (λ line. line ≡ digest_line digest.now) }
 {
@@ -14,7 +14,7 @@ pub fn digest_line(alloc: Global, digest: &Digest32) -> Result<Text, NoMemory>
     Ok(line)
 }
 
-/// The line that notes a member which no row knows.
+/// The line that notes a member which no row knows, without its line end. It fails only where memory ran out.
 pub fn note_line(alloc: Global, place: &Place) -> Result<Text, NoMemory>
     ensures { IfOk result (λ line. line ≡ note_line place.now) }
 {

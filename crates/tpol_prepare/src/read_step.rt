@@ -10,7 +10,9 @@ use std::alloc::Global;
 use tpol_read::{Notes, PolicyFault, read_policy};
 use tpol_tree::Policy;
 
-/// Reads the document in the source, or ends the run at its first fault.
+/// Reads the document in the source, with the members that no row knows, its notes.
+///
+/// `Refused` tells the document's first fault; `NoMemory` comes where memory ran out, and nothing else comes.
 #[tactic(auto, unfolding(crate::specs::ReadStep::read_step))]
 pub fn read_document(alloc: Global, input: &[u8]) -> Result<(Policy, Notes), Halt>
     ensures answer { Answers (λ found. (erased_policy found.0, found.1)) (read_step input.now) result }

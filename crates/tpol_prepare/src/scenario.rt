@@ -52,7 +52,12 @@ pub struct StagedScene {
     pub script: Script,
 }
 
-/// Reads the scene in the source, and looks up, fills and checks the policies that it names.
+/// Reads the scene in the source, and looks up, fills and checks the policies that it names. The lines of openings
+/// are told of it where it `explains`.
+///
+/// `Refused` tells the first refusal: of the scene, of the shelf's documents, of a name without a policy, of a policy
+/// that is not filled, or of one that is not within the limits. `ShelfFailed` comes only where the shelf failed, and
+/// `NoMemory` where memory ran out. The shelf is asked only once the scene was read.
 #[tactic(auto, unfolding(crate::specs::Scenario::staged_step))]
 pub fn stage<H: Shelf>(
     alloc: Global,
@@ -217,7 +222,7 @@ impl Scenario {
         Some(&entity.document.closed)
     }
 
-    /// What a client may use: nothing where it is not listed.
+    /// What a client may use: nothing where it is not listed. It fails only where memory ran out.
     pub fn grants(&self, alloc: Global, client: u32) -> Result<Grants, NoMemory>
         ensures { IfOk result (λ grants. grants ≡ grants_of self.now.clients client) }
     {

@@ -11,7 +11,10 @@ use tpol_base::{NoMemory, Shelf, Text};
 use tpol_read::PolicyFault;
 use tpol_store::{Store, StoreFault};
 
-/// Loads all policy documents of the shelf, or ends the run at the first that is refused.
+/// Loads all policy documents of the shelf.
+///
+/// `Refused` tells that the shelf has too many documents, or the first document that is too large or no policy's;
+/// `ShelfFailed` comes only where the shelf failed, and `NoMemory` where memory ran out.
 #[tactic(auto, unfolding(crate::specs::StoreStep::store_step))]
 pub fn load_store<H: Shelf>(alloc: Global, shelf: &mut H) -> Result<Store, Halt>
     ensures answer { IfSome (H.documents shelf.old) (λ all. Answers policies_of (store_step all) result) }
