@@ -3,8 +3,8 @@
 ghost use Rattle.std.specs.Prelude.{◌≡◌, ◌+◌, ◌-◌, ◌≤◌, ◌<◌, [], None, Some, All, IfOk, IfSome, OnOk, drop, length, slice_get};
 ghost use Rattle.tpol_choose.specs.Blocks.{first_block};
 ghost use Rattle.tpol_digest.specs.Paths.{paths_of};
-ghost use Rattle.tpol_name.specs.Setups.{IsSight};
 ghost use Rattle.tpol_lines.specs.Runs.{nobranch_line};
+ghost use Rattle.tpol_name.specs.Setups.{IsSight};
 ghost use Rattle.tpol_perform.specs.Begin.{begun_along, begun_nowhere, begun_on, plan_along, run_begun, run_seed, with_block, with_blocks, with_new_run};
 ghost use Rattle.tpol_perform.specs.Performance.{with_line};
 ghost use Rattle.tpol_prepare.specs.Scenario.{IsScenarioOf, IsWalkable};

@@ -5,8 +5,8 @@ ghost use Rattle.tpm_engine.specs.Legal.{answer_to, opened_to};
 ghost use Rattle.tpm_engine.specs.Views.{time_of};
 ghost use Rattle.tpol_perform.specs.CommandsTold.{command_told, commanded, opening_told};
 ghost use Rattle.tpol_perform.specs.Performance.{number_in};
-ghost use Rattle.tpol_prepare.specs.declared.entities.CompiledEntity.{CompiledEntity as CompiledEntityOf};
 ghost use Rattle.tpol_perform.specs.Meeting.{MeetsPolicy};
+ghost use Rattle.tpol_prepare.specs.declared.entities.CompiledEntity.{CompiledEntity as CompiledEntityOf};
 ghost use Rattle.tpol_prepare.specs.Scenario.{HavePolicies, IsScenarioOf, IsWalkable};
 
 use crate::performance::Performance;

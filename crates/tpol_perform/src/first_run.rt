@@ -13,7 +13,8 @@ use tpol_base::NoMemory;
 use tpol_name::Setup;
 use tpol_prepare::Scenario;
 
-/// A machine starts from this setup, a run on the policy of this name begins, and run 1 goes to its end.
+/// A machine starts from this setup, a run on the policy of this name begins, and run 1 goes to its end. It fails only
+/// where memory ran out.
 pub fn perform_run(
     alloc: Global,
     setup: Setup,

@@ -3,9 +3,9 @@
 ghost use Rattle.std.specs.Prelude.{◌≡◌, ◌≤◌, true, All, IfOk, IfSome, IsOk, length};
 ghost use Rattle.tpol_name.specs.Setups.{IsSetup};
 ghost use Rattle.tpol_perform.specs.Explained.{IsExplainedScene};
+ghost use Rattle.tpol_perform.specs.Script.{perform_step, performance_answer};
 ghost use Rattle.tpol_prepare.specs.Scenario.{CanHappen, IsScenarioOf};
 ghost use Rattle.tpol_prepare.specs.SceneStep.{scene_of_bytes};
-ghost use Rattle.tpol_perform.specs.Script.{perform_step, performance_answer};
 ghost use Rattle.tpol_prepare.specs.Steps.{Answers, AsksShelf, IfAnswered};
 
 use crate::performance::Performance;
@@ -16,6 +16,9 @@ use tpol_prepare::{Answer, Halt, StagedScene, Verdict, stage};
 
 /// The commands `run` and `explain`: carries out the scene in the source, with the policies of the shelf, and
 /// tells each event; `explain` tells besides by which path of its policy an entity was opened.
+///
+/// `Refused` tells the first refusal of the scene or of what it names, as `stage` does; `ShelfFailed` comes only where
+/// the shelf failed, and `NoMemory` where memory ran out.
 #[tactic(auto, using(crate::proofs::PerformanceErased::answer_erased, crate::proofs::ExplainedErased::halted_explained), unfolding(crate::specs::Script::perform_step))]
 pub fn perform_scene<H: Shelf>(
     alloc: Global,

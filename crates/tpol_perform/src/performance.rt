@@ -14,7 +14,8 @@ use tpol_name::Setup;
 use tpol_runs::Runs;
 
 /// How far a scene was carried out; contracts see what the machine started from, its events, newest first, the
-/// runs that were begun, and the lines that are printed.
+/// runs that were begun, and the lines that are printed. A call on it fails only where memory ran out, and nothing is
+/// said of it then.
 #[derive(Drop)]
 pub struct Performance {
     pub machine: Machine,

@@ -4,8 +4,8 @@ ghost use Rattle.std.specs.Prelude.{◌≡◌, ◌+◌, ◌^◌, ◌<◌, ◌≤
 ghost use Rattle.tpm_engine.specs.Views.{time_of};
 ghost use Rattle.tpol_name.specs.Setups.{IsSetup};
 ghost use Rattle.tpol_perform.specs.Begin.{new_run, run_begun};
-ghost use Rattle.tpol_prepare.specs.Scenario.{CanHappen, IsScenarioOf};
 ghost use Rattle.tpol_perform.specs.Script.{all_happened, happened, performed, turn_told};
+ghost use Rattle.tpol_prepare.specs.Scenario.{CanHappen, IsScenarioOf};
 
 use crate::new_run::NewRun;
 use crate::performance::Performance;
@@ -15,7 +15,7 @@ use tpol_goal::Goal;
 use tpol_prepare::{Scenario, StagedScene};
 use tpol_scene::ScriptEvent;
 
-/// Carries out a scene to its end.
+/// Carries out a scene to its end. It fails only where memory ran out.
 #[tactic(auto, unfolding(crate::specs::Script::performed))]
 pub fn perform(alloc: Global, staged: StagedScene) -> Result<Performance, NoMemory>
     requires setup { IsSetup staged.setup }

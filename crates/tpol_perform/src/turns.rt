@@ -4,8 +4,8 @@ ghost use Rattle.std.specs.Prelude.{◌≡◌, ◌+◌, ◌^◌, ◌<◌, ◌≤
 ghost use Rattle.tpm_engine.specs.Views.{time_of};
 ghost use Rattle.tpol_lines.specs.Runs.{over_line};
 ghost use Rattle.tpol_perform.specs.Performance.{with_line};
-ghost use Rattle.tpol_prepare.specs.Scenario.{IsScenarioOf};
 ghost use Rattle.tpol_perform.specs.Turns.{most_turns, replied, sent, turned, turned_on, turned_times, turned_to_end, with_end};
+ghost use Rattle.tpol_prepare.specs.Scenario.{IsScenarioOf};
 
 use crate::performance::Performance;
 use std::alloc::Global;

@@ -1,9 +1,9 @@
 // The command `canon`.
 
 ghost use Rattle.std.specs.Prelude.{◌≡◌, IfOk};
-ghost use Rattle.tpol_top.specs.Canon.{canon_step};
 ghost use Rattle.tpol_prepare.specs.Answer.{one_line};
 ghost use Rattle.tpol_prepare.specs.Steps.{Answers, IsInside};
+ghost use Rattle.tpol_top.specs.Canon.{canon_step};
 ghost use Rattle.tpol_tree.specs.Erased.{erased_policy};
 ghost use Rattle.tpol_write.specs.Canonical.{canonical_text};
 

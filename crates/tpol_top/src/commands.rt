@@ -1,9 +1,9 @@
 ghost use Rattle.std.specs.Prelude.{◌≡◌, Some, IfSome, OnErr};
+ghost use Rattle.tpol_perform.specs.Explained.{IsExplainedScene};
+ghost use Rattle.tpol_prepare.specs.Steps.{Answers, AsksShelf, IfAnswered};
 ghost use Rattle.tpol_top.specs.Commands.{documents_after, request_step};
 ghost use Rattle.tpol_top.specs.Explain.{OfExplain};
-ghost use Rattle.tpol_perform.specs.Explained.{IsExplainedScene};
 ghost use Rattle.tpol_top.specs.Reached.{IsDocumentFor};
-ghost use Rattle.tpol_prepare.specs.Steps.{Answers, AsksShelf, IfAnswered};
 ghost use Rattle.tpol_top.specs.Words.{uses_shelf_for};
 
 use crate::canon::canon;

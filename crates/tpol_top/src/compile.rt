@@ -3,10 +3,10 @@
 ghost use Rattle.std.specs.Prelude.{◌≡◌, ◌++◌, is_some, IfSome, IfOk, IsOk, OnOk, map, ⊤};
 ghost use Rattle.std.specs.Option.{option_copied};
 ghost use Rattle.tpol_lines.specs.Lines.{line_of};
-ghost use Rattle.tpol_top.specs.Compile.{compile_step, compiled, compiled_in, compiled_with};
 ghost use Rattle.tpol_prepare.specs.Lines.{note_line};
 ghost use Rattle.tpol_prepare.specs.ReadStep.{read_step};
 ghost use Rattle.tpol_prepare.specs.Steps.{Answers, AsksShelf, IsInside};
+ghost use Rattle.tpol_top.specs.Compile.{compile_step, compiled, compiled_in, compiled_with};
 ghost use Rattle.tpol_tree.specs.ClosedErased.{erased};
 ghost use Rattle.tpol_tree.specs.Erased.{erased_policy};
 

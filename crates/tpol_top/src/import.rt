@@ -1,9 +1,9 @@
 // The command `import`.
 
 ghost use Rattle.std.specs.Prelude.{◌≡◌, true, Some, IfSome, IfOk, IsOk, OnErr};
-ghost use Rattle.tpol_top.specs.Import.{documents_after_import, import_step, imported};
 ghost use Rattle.tpol_prepare.specs.ReadStep.{read_step};
 ghost use Rattle.tpol_prepare.specs.Steps.{Answers, AsksShelf};
+ghost use Rattle.tpol_top.specs.Import.{documents_after_import, import_step, imported};
 
 use std::alloc::Global;
 use tpol_base::{NoMemory, Shelf, Text};

@@ -3,10 +3,10 @@
 ghost use Rattle.std.specs.Prelude.{◌≡◌, true, All, IfSome, IfOk, IsOk, map, ⊤};
 ghost use Rattle.tpol_digest.specs.Paths.{paths_of};
 ghost use Rattle.tpol_digest.specs.WellFormed.{HaveBranchCounts};
-ghost use Rattle.tpol_store.specs.Stores.{IsReadable, policies_of, stored};
-ghost use Rattle.tpol_top.specs.Paths.{listed, listed_in, listed_with, path_answer, paths_step};
 ghost use Rattle.tpol_prepare.specs.ReadStep.{read_step};
 ghost use Rattle.tpol_prepare.specs.Steps.{Answers, AsksShelf, IsInside};
+ghost use Rattle.tpol_store.specs.Stores.{IsReadable, policies_of, stored};
+ghost use Rattle.tpol_top.specs.Paths.{listed, listed_in, listed_with, path_answer, paths_step};
 ghost use Rattle.tpol_tree.specs.ClosedErased.{erased, erased_document};
 ghost use Rattle.tpol_tree.specs.Elements as written;
 ghost use Rattle.tpol_tree.specs.Erased.{erased_policy};

@@ -1,9 +1,9 @@
 ghost use Rattle.std.specs.Prelude.{◌≡◌, ◌≤◌, ◌⊎◌, Some, false, IsTrue, IfSome, map, take, drop};
 ghost use Rattle.std.specs.String.{string_bytes};
 ghost use Rattle.tpol_base.specs.Causes.{Rose, Grows, GrowsInPart};
+ghost use Rattle.tpol_perform.specs.Explained.{IsExplainedScene};
 ghost use Rattle.tpol_prepare.specs.Answer.{text_of};
 ghost use Rattle.tpol_top.specs.Explain.{IfExplain, OfHeld};
-ghost use Rattle.tpol_perform.specs.Explained.{IsExplainedScene};
 ghost use Rattle.tpol_top.specs.Reached.{IsReadableOf};
 ghost use Rattle.tpol_top.specs.Report.{LosesAtMost, OfReport, most_read, report_of};
 ghost use Rattle.tpol_top.specs.Status.{IsWhole, IsSilent, IsPastReading, status_of};
