@@ -1,21 +1,20 @@
 ghost use Rattle.std.specs.Prelude.{◌≡◌, Some, IfSome, OnErr};
+ghost use Rattle.tpol_perform.specs.Explained.{IsExplainedScene};
+ghost use Rattle.tpol_prepare.specs.Steps.{Answers, AsksShelf, IfAnswered};
 ghost use Rattle.tpol_top.specs.Commands.{documents_after, request_step};
-ghost use Rattle.tpol_top.specs.Explained.{IsExplainedScene, OfExplain};
+ghost use Rattle.tpol_top.specs.Explain.{OfExplain};
 ghost use Rattle.tpol_top.specs.Reached.{IsDocumentFor};
-ghost use Rattle.tpol_top.specs.Steps.{Answers, AsksShelf, IfAnswered};
 ghost use Rattle.tpol_top.specs.Words.{uses_shelf_for};
 
-use crate::answer::Answer;
 use crate::canon::canon;
 use crate::compile::compile;
-use crate::generate::generate;
-use crate::halt::Halt;
 use crate::import::import;
 use crate::paths::list_paths;
-use crate::perform::perform_scene;
 use crate::request::Request;
 use std::alloc::Global;
 use tpol_base::Shelf;
+use tpol_perform::{perform_generated, perform_scene};
+use tpol_prepare::{Answer, Halt};
 
 /// What a command has to say of a document that is not too large.
 pub fn carry_out<H: Shelf>(
@@ -40,6 +39,6 @@ pub fn carry_out<H: Shelf>(
         Request::Import { name } => import(alloc, name, input, shelf),
         Request::Run => perform_scene(alloc, false, input, shelf),
         Request::Explain => perform_scene(alloc, true, input, shelf),
-        Request::Generate { ors, order } => generate(alloc, *ors, *order),
+        Request::Generate { ors, order } => perform_generated(alloc, *ors, *order),
     }
 }

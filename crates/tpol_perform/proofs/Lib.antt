@@ -1,0 +1,17 @@
+pub mod Chosen
+pub mod ExplainedErased
+pub mod GeneratedErased
+pub mod GeneratedRuns
+pub mod GeneratedScenarios
+pub mod GeneratedSetups
+pub mod Masks
+pub mod OpenedMeets
+pub mod OpenedTold
+pub mod OpeningErased
+pub mod PathPcrs
+pub mod PcrsAtUse
+pub mod PerformanceErased
+pub mod SoundFacts
+pub mod Timeless
+pub mod Told
+pub mod TurnSteps

@@ -1,0 +1,118 @@
+// The command `gen`.
+
+ghost use Rattle.std.specs.Prelude.{◌≡◌, [], ◌++◌, ◌<◌, ◌≤◌, ◌^◌, length, IfOk, OnOk};
+ghost use Rattle.tpol_digest.specs.Limits.{AreWithinLimits};
+ghost use Rattle.tpol_digest.specs.Paths.{paths_of};
+ghost use Rattle.tpol_digest.specs.WellFormed.{IsWellFormedPolicy};
+ghost use Rattle.tpol_perform.specs.Generate.{generate_step, generated_answer, generated_head, generated_performance, generated_run_lines, generated_scenario};
+ghost use Rattle.tpol_prepare.specs.Steps.{Answers, IsInside};
+
+use crate::first_run::perform_run;
+use crate::generated::{generated_policy, generated_run, generated_setup};
+use crate::performance::Performance;
+use std::alloc::Global;
+use tpol_base::{NoMemory, Sequence, Text};
+use tpol_digest::{count_paths, digest_of};
+use tpol_lines::{Lines, command_count_line, generated_line, path_count_line, push_line};
+use tpol_name::{Setup, directory};
+use tpol_prepare::{
+    Answer, FilledDocument, Halt, Scenario, Verdict, check_limits, digest_line, fill_document,
+};
+use tpol_tree::{Approvals, Closed};
+
+/// The command `gen`: a policy of so many ORs, in an order by the bits of a number, its paths and its digest, and a
+/// run of it on a machine of its own.
+///
+/// `Refused` tells that the policy is not filled or not within the limits; `NoMemory` comes where memory ran out, and
+/// nothing else comes.
+#[tactic(auto, using(crate::proofs::GeneratedErased::generated_answer_erased), unfolding(crate::specs::Generate::generate_step))]
+pub fn perform_generated(alloc: Global, ors: u8, order: u32) -> Result<Answer, Halt>
+    ensures answer { Answers (λ answer. answer) (generate_step ors order) result }
+    ensures inside { IsInside result }
+{
+    let policy = generated_policy(alloc, ors, order)?;
+    let closed = fill_document(alloc, None, &policy, None)?;
+    check_limits(alloc, None, &closed, &Approvals::new(alloc))?;
+    Ok(generated_answer(alloc, ors, order, closed)?)
+}
+
+// What is printed of the policy and of its run.
+fn generated_answer(alloc: Global, ors: u8, order: u32, closed: Closed) -> Result<Answer, NoMemory>
+    requires well_formed { IsWellFormedPolicy closed }
+    requires within { AreWithinLimits (paths_of closed []) }
+    ensures { IfOk result (λ answer. answer ≡ generated_answer ors order closed) }
+{
+    let mut lines = generated_head(alloc, ors, order, &closed)?;
+    let performance = generated_performance(alloc, order, closed)?;
+    push_performance(alloc, &mut lines, &performance)?;
+    let verdict = Verdict::Done;
+    Ok(Answer { lines, verdict })
+}
+
+// The lines of the policy: by which numbers it was made, how many paths it has, and its digest.
+fn generated_head(alloc: Global, ors: u8, order: u32, closed: &Closed) -> Result<Lines, NoMemory>
+    requires well_formed { IsWellFormedPolicy closed.now }
+    requires within { AreWithinLimits (paths_of closed.now []) }
+    ensures { IfOk result (λ lines. lines ≡ generated_head ors order closed.now) }
+{
+    let count = count_paths(closed, &Approvals::new(alloc)) as u32;
+    let mut lines = Lines::new(alloc);
+    let made = generated_line(alloc, u32::from(ors), order)?;
+    push_line(alloc, &mut lines, made.as_str())?;
+    let paths = path_count_line(alloc, count)?;
+    push_line(alloc, &mut lines, paths.as_str())?;
+    let digest = digest_line(alloc, &digest_of(closed))?;
+    push_line(alloc, &mut lines, digest.as_str())?;
+    Ok(lines)
+}
+
+// The lines of the run: the first, how many commands were executed, and the last two.
+fn push_performance(
+    alloc: Global,
+    lines: &mut Lines,
+    performance: &Performance,
+) -> Result<(), NoMemory>
+    requires few { length performance.now.past < 2 ^ 32 }
+    ensures { OnOk result (lines.new ≡ lines.old ++ generated_run_lines performance.now) }
+{
+    let told = performance.lines.as_slice();
+    lines.extend_with_clones(&told[..told.len().min(1)])?;
+    let count = performance.machine.journal().len() as u32;
+    push_line(alloc, lines, command_count_line(alloc, count)?.as_str())?;
+    lines.extend_with_clones(&told[told.len() - told.len().min(2)..])
+}
+
+// The run begins, and goes to its end.
+fn generated_performance(alloc: Global, order: u32, closed: Closed) -> Result<Performance, NoMemory>
+    requires well_formed { IsWellFormedPolicy closed }
+    requires within { AreWithinLimits (paths_of closed []) }
+    ensures told { IfOk result (λ performance. performance ≡ generated_performance order closed) }
+    ensures few { IfOk result (λ performance. length performance.past ≤ 2000) }
+{
+    let setup = generated_setup(alloc, order, &digest_of(&closed))?;
+    let scenario = generated_scenario(alloc, &setup, closed)?;
+    let run = generated_run(alloc)?;
+    let performance = perform_run(alloc, setup, &scenario, "gen", run)?;
+    Ok(performance)
+}
+
+// What the events of the run go by.
+#[tactic(auto, unfolding(crate::specs::Generate::generated_scenario))]
+fn generated_scenario(alloc: Global, setup: &Setup, closed: Closed) -> Result<Scenario, NoMemory>
+    ensures { IfOk result (λ scenario. scenario ≡ generated_scenario setup.now closed) }
+{
+    let mut begun = Sequence::new(alloc);
+    begun.push(FilledDocument {
+        name: Text::from_str(alloc, "gen")?,
+        closed,
+    })?;
+    Ok(Scenario {
+        explains: false,
+        seed: setup.seed,
+        directory: directory(alloc, setup)?,
+        entities: Sequence::new(alloc),
+        begun,
+        approvals: Approvals::new(alloc),
+        clients: Sequence::new(alloc),
+    })
+}
