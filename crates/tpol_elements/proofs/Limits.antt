@@ -1,5 +1,5 @@
 -- What rows find of their members lies within the bounds of the wire.
-use Rattle.std.proofs.Common.{◌≡◌, T, ℕ, zero, suc, ◌^◌, ◌-◌, ◌≤◌, ◌<◌, bit_or, leb, ℤ, pos, negsuc, ◌≤ℤ◌, Bool, true, false, List, [], ◌∷◌, codes, length, Option, Some, None, Ok, Err, refl, arith, ◌&&◌, if◌then◌else◌}
+use Rattle.std.proofs.Common.{ℕ, zero, suc, ◌^◌, ◌-◌, ◌≤◌, ◌<◌, bit_or, leb, ℤ, pos, negsuc, Bool, true, false, List, [], ◌∷◌, codes, length, Option, Some, None, Ok, Err, refl, arith, ◌&&◌, if◌then◌else◌}
 use Rattle.std.specs.Int.{w32}
 use Rattle.std.specs.Prelude.{FitsSigned}
 use Rattle.std.proofs.lemmas.Bool.{leb-true}
@@ -21,7 +21,6 @@ use Rattle.tpol_elements.proofs.OneOf.{all_of}
 use Rattle.tpol_elements.specs.Faults.{Found, bad, kind_of}
 use Rattle.tpol_elements.specs.Fields.{policy_ref_in, expiration_in, operand_in, offset_in}
 use Rattle.tpol_elements.specs.Localities.{locality_word_in, localities_from, locality_list, localities_or, locality_in}
-use Rattle.tpol_elements.specs.Members.{needed}
 use Rattle.tpol_elements.specs.Operations.{code_in}
 use Rattle.tpol_elements.specs.Pcrs.{pcr_bit, mask_from, mask_of_list, mask_in}
 use Rattle.tpol_elements.specs.Publics.{object_public_in}
@@ -30,12 +29,9 @@ use Rattle.tpol_elements.specs.Values.{text_in, bytes_up_to, digest_in, empty_or
 use Rattle.tpol_elements.specs.Walks.{still}
 use Rattle.tpol_elements.specs.Wishes.{entity_at, entity_in, parent_at, parent_in}
 use Rattle.tpol_elements.specs.Words.{found_or, localities}
-use Rattle.tpol_elements.specs.declared.fault.PolicyKind.{PolicyKind}
-use Rattle.tpol_elements.specs.declared.fault.PolicyKind.TheVariants.{BadHex, BadNumber, Missing, Twice}
+use Rattle.tpol_elements.specs.declared.fault.PolicyKind.TheVariants.{BadHex, BadNumber, Missing}
 use Rattle.tpol_elements.specs.declared.walk.Walk.{Walk}
 use Rattle.tpol_tree.specs.Bounds.{NameHasBounds, ReferenceHasBounds, OffsetHasBounds, LocalityHasBounds, EntityHasBounds, ParentHasBounds}
-use Rattle.tpol_tree.specs.declared.wishes.EntityWish.{EntityWish}
-use Rattle.tpol_tree.specs.declared.wishes.EntityWish.TheVariants as entity
 use Rattle.tpol_tree.specs.declared.wishes.ParentWish.{ParentWish}
 use Rattle.tpol_tree.specs.declared.wishes.ParentWish.TheVariants as parent
 
@@ -219,6 +215,7 @@ mask-fits d place = mask_of_list-fits (as_array d) place
 -- ---- entities, parents and the object of a duplication
 
 entity_at-bounded : (position : ℕ) (d : Data) (place : Place) → AllFound EntityHasBounds (entity_at position d place)
+unfolding entity_at
 entity_at-bounded zero d place = all_after EntityHasBounds (text_in d place) _ (λ path. tt {0})
 entity_at-bounded (suc position) d place = all_then NameHasBounds EntityHasBounds (full_name_in d place) _ (full_name-bounded d place) (λ name has. has)
 
@@ -231,6 +228,7 @@ abbrev LeavesBounded : ParentWish × Walk → Type 0
 LeavesBounded found = ParentHasBounds found.0
 
 parent_at-bounded : (walk : Walk) (position : ℕ) (d : Data) (place : Place) → AllFound LeavesBounded (parent_at walk position d place)
+unfolding parent_at
 parent_at-bounded walk zero d place =
     all_still ParentHasBounds (text_in d place >>= λ path. Ok (parent.Path path)) walk (all_after ParentHasBounds (text_in d place) _ (λ path. tt {0}))
 parent_at-bounded walk (suc zero) d place = all_after LeavesBounded (object_public_in d place walk) _ (λ area. tt {0})

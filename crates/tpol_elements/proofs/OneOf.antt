@@ -1,7 +1,6 @@
 -- What holds of all that one of several members may say.
 use Rattle.std.proofs.Common.{ℕ, suc, List, drop}
 use Rattle.serde_json.specs.Data.{Data}
-use Rattle.tpol_base.specs.Answers.{◌>>=◌}
 use Rattle.tpol_json.proofs.AllFound.{AllFound, all_after, all_then}
 use Rattle.tpol_json.specs.Places.{at_member}
 use Rattle.tpol_json.specs.declared.place.Place.{Place}

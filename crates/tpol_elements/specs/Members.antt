@@ -7,7 +7,6 @@ use Rattle.tpol_json.specs.declared.place.Place.{Place}
 use Rattle.tpol_json.specs.Places.{at_member}
 use Rattle.tpol_json.specs.Members as json
 use Rattle.tpol_json.specs.Values as values
-use Rattle.tpol_elements.specs.declared.fault.PolicyKind.{PolicyKind}
 use Rattle.tpol_elements.specs.declared.fault.PolicyKind.TheVariants.{Missing, Twice}
 use Rattle.tpol_elements.specs.declared.walk.Walk.{Walk}
 use Rattle.tpol_elements.specs.Faults.{Fault, Found, read_as}

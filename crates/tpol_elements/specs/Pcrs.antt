@@ -111,7 +111,7 @@ abbrev pub banks_in : Walk → Data → Place → Found (PcrWish × Walk)
 banks_in walk d place = bank_or_list (as_array d) walk d place
 
 -- PCRs with their values first, then current PCRs, and then banks of them
-abbrev pub pcrs_at : Walk → ℕ → Data → Place → Found (PcrWish × Walk)
+unfoldable pub pcrs_at : Walk → ℕ → Data → Place → Found (PcrWish × Walk)
 pcrs_at walk zero d place = pcr_values_in walk d place
 pcrs_at walk (suc zero) d place = still (current_pcrs_in d place) walk
 pcrs_at walk (suc (suc position)) d place = banks_in walk d place

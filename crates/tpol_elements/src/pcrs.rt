@@ -243,6 +243,7 @@ fn banks(
     }
 }
 
+#[tactic(auto, unfolding(crate::specs::Pcrs::pcrs_at))]
 fn pcrs_at(
     alloc: Global,
     position: usize,

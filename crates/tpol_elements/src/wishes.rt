@@ -19,6 +19,7 @@ use tpol_base::{Name, Sequence, Texts};
 use tpol_json::{PlaceRef, digest, items, name, text};
 use tpol_tree::{EntityWish, IndexWish, KeyWish, Names, NamesWish, ParentWish};
 
+#[tactic(auto, unfolding(crate::specs::Wishes::key_at))]
 fn key_at(
     alloc: Global,
     position: usize,
@@ -53,6 +54,7 @@ pub fn key_wish(
     Ok(wish)
 }
 
+#[tactic(auto, unfolding(crate::specs::Wishes::index_at))]
 fn index_at(
     alloc: Global,
     position: usize,
@@ -97,6 +99,7 @@ fn full_name(alloc: Global, value: &Value, place: &PlaceRef<'_>) -> Result<Name,
     }
 }
 
+#[tactic(auto, unfolding(crate::specs::Wishes::entity_at))]
 fn entity_at(
     alloc: Global,
     position: usize,
@@ -129,6 +132,7 @@ pub fn entity_wish(
     Ok(wish)
 }
 
+#[tactic(auto, unfolding(crate::specs::Wishes::parent_at))]
 fn parent_at(
     alloc: Global,
     position: usize,
@@ -201,6 +205,7 @@ fn one_to_three<'v>(
     }
 }
 
+#[tactic(auto, unfolding(crate::specs::Wishes::names_at))]
 fn names_at(
     alloc: Global,
     position: usize,

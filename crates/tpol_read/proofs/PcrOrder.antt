@@ -179,6 +179,7 @@ banks-rise None walk d place = bank-rises walk d place
 banks-rise (Some ds) walk d place = only_bank-rises walk ds place
 
 pcrs_at-rise : (walk : Walk) (position : ℕ) (d : Data) (place : Place) → AllFound WishRises (pcrs_at walk position d place)
+unfolding pcrs_at
 pcrs_at-rise walk zero d place = wish_of_values-rises (as_array d) place walk
 pcrs_at-rise walk (suc zero) d place = all_still IsGoodWish (current_pcrs_in d place) walk (current_pcrs-rise d place)
 pcrs_at-rise walk (suc (suc position)) d place = banks-rise (as_array d) walk d place

@@ -290,6 +290,7 @@ banks-fits None walk d place = bank-fits walk d place
 banks-fits (Some ds) walk d place = only_bank-fits walk ds place
 
 pcrs_at-fits : (walk : Walk) (position : ℕ) (d : Data) (place : Place) → AllFound (Leaving FitsPcrs walk) (pcrs_at walk position d place)
+unfolding pcrs_at
 pcrs_at-fits walk zero d place = wish_of_values-fits (as_array d) place walk
 pcrs_at-fits walk (suc zero) d place = all_still FitsPcrs (current_pcrs_in d place) walk (current_pcrs-fits d place)
 pcrs_at-fits walk (suc (suc position)) d place = banks-fits (as_array d) walk d place
@@ -300,7 +301,7 @@ wish-fits d place walk =
     all_of (Leaving FitsPcrs walk) (codes "pcrs" ∷ codes "currentPCRs" ∷ codes "currentPCRandBanks" ∷ []) (pcrs_at walk) d place (pcrs_at-fits walk)
 
 wish-back : (wish : PcrWish) (place : Place) (walk : Walk) → FitsPcrs wish → pcrs_in (typed (codes "POLICYPCR") (pcrs_member wish ∷ [])) place walk ≡ Ok (wish, walk)
-unfolding pcrs_in
+unfolding pcrs_in pcrs_at
 wish-back (Values values) place walk rising = rw (values-back 0 [] values 0 (at_member place (codes "pcrs")) walk tt rising)
 wish-back (Current mask) place walk is = rw (mask-back mask (at_member place (codes "currentPCRs")) is)
 

@@ -74,6 +74,7 @@ HasKey third (key.Path path) d = (get (codes "keyPath") d ≡ Some (string path)
 HasKey third (key.Public area) d = (get (codes "keyPath") d ≡ None) × (get (codes "keyPublic") d ≡ Some (object_public_value area)) × (get third d ≡ None)
 
 key_at-fits : (walk : Walk) (position : ℕ) (d : Data) (place : Place) → AllFound (Leaving FitsKey walk) (key_at walk position d place)
+unfolding key_at
 key_at-fits walk zero d place =
     all_still FitsKey (text_in d place >>= λ path. Ok (key.Path path)) walk (all_after FitsKey (text_in d place) _ (λ path. tt {0}))
 key_at-fits walk (suc position) d place =
@@ -85,7 +86,7 @@ key-fits third d place walk =
     all_of (Leaving FitsKey walk) (codes "keyPath" ∷ codes "keyPublic" ∷ third ∷ []) (key_at walk) d place (key_at-fits walk)
 
 pub key-back : (third : List ℕ) (k : KeyWish) (d : Data) (place : Place) (walk : Walk) → FitsKey k → HasKey third k d → key_in third d place walk ≡ Ok (k, walk)
-unfolding key_in
+unfolding key_in key_at
 key-back third (key.Path path) d place walk fits has = rw (has.0, has.1, has.2)
 key-back third (key.Public area) d place walk fits has = rw (has.0, has.1, has.2, fits (at_member place (codes "keyPublic")) walk)
 
@@ -100,6 +101,7 @@ HasIndex (index.Path path) d = (get (codes "nvPath") d ≡ Some (string path)) �
 HasIndex (index.Public area) d = (get (codes "nvPath") d ≡ None) × (get (codes "nvPublic") d ≡ Some (nv_public_value area))
 
 index_at-fits : (walk : Walk) (position : ℕ) (d : Data) (place : Place) → AllFound (Leaving FitsIndex walk) (index_at walk position d place)
+unfolding index_at
 index_at-fits walk zero d place =
     all_still FitsIndex (text_in d place >>= λ path. Ok (index.Path path)) walk (all_after FitsIndex (text_in d place) _ (λ path. tt {0}))
 index_at-fits walk (suc position) d place =
@@ -110,7 +112,7 @@ unfolding index_in
 index-fits d place walk = all_of (Leaving FitsIndex walk) (codes "nvPath" ∷ codes "nvPublic" ∷ []) (index_at walk) d place (index_at-fits walk)
 
 pub index-back : (i : IndexWish) (d : Data) (place : Place) (walk : Walk) → FitsIndex i → HasIndex i d → index_in d place walk ≡ Ok (i, walk)
-unfolding index_in
+unfolding index_in index_at
 index-back (index.Path path) d place walk fits has = rw (has.0, has.1)
 index-back (index.Public area) d place walk fits has = rw (has.0, has.1, fits (at_member place (codes "nvPublic")) walk)
 
@@ -139,6 +141,7 @@ full_name-back d place =
         bound (name_in (name_value name) other) name (λ n. if is_empty_name n then bad BadHex other else Ok n) (Ok name) (back other) (ap (full_or_bad name other) is)
 
 entity_at-fits : (position : ℕ) (d : Data) (place : Place) → AllFound FitsEntity (entity_at position d place)
+unfolding entity_at
 entity_at-fits zero d place = all_after FitsEntity (text_in d place) _ (λ path. tt {0})
 entity_at-fits (suc position) d place =
     all_then (λ name. (other : Place) → full_name_in (name_value name) other ≡ Ok name) FitsEntity (full_name_in d place) _ (full_name-back d place) (λ name back. back)
@@ -148,7 +151,7 @@ unfolding entity_in
 entity-fits d place = all_of FitsEntity (codes "objectPath" ∷ codes "objectName" ∷ []) entity_at d place entity_at-fits
 
 pub entity-back : (e : EntityWish) (d : Data) (place : Place) → FitsEntity e → HasEntity e d → entity_in d place ≡ Ok e
-unfolding entity_in
+unfolding entity_in entity_at
 entity-back (entity.Path path) d place fits has = rw (has.0, has.1)
 entity-back (entity.Named name) d place fits has = rw (has.0, has.1, fits (at_member place (codes "objectName")))
 
@@ -165,6 +168,7 @@ HasParent (parent.Public area) d = (get (codes "newParentPath") d ≡ None) × (
 HasParent (parent.Named name) d = (get (codes "newParentPath") d ≡ None) × (get (codes "newParentPublic") d ≡ None) × (get (codes "newParentName") d ≡ Some (name_value name))
 
 parent_at-fits : (walk : Walk) (position : ℕ) (d : Data) (place : Place) → AllFound (Leaving FitsParent walk) (parent_at walk position d place)
+unfolding parent_at
 parent_at-fits walk zero d place =
     all_still FitsParent (text_in d place >>= λ path. Ok (parent.Path path)) walk (all_after FitsParent (text_in d place) _ (λ path. tt {0}))
 parent_at-fits walk (suc zero) d place =
@@ -179,7 +183,7 @@ parent-fits d place walk =
     all_of (Leaving FitsParent walk) (codes "newParentPath" ∷ codes "newParentPublic" ∷ codes "newParentName" ∷ []) (parent_at walk) d place (parent_at-fits walk)
 
 pub parent-back : (p : ParentWish) (d : Data) (place : Place) (walk : Walk) → FitsParent p → HasParent p d → parent_in d place walk ≡ Ok (p, walk)
-unfolding parent_in
+unfolding parent_in parent_at
 parent-back (parent.Path path) d place walk fits has = rw (has.0, has.1, has.2)
 parent-back (parent.Public area) d place walk fits has = rw (has.0, has.1, has.2, fits (at_member place (codes "newParentPublic")) walk)
 parent-back (parent.Named name) d place walk fits has = rw (has.0, has.1, has.2, fits (at_member place (codes "newParentName")))
@@ -244,6 +248,7 @@ listed-fits P read reads d place =
     (λ xs are. let count : length xs ≡ items_count ds = omega (arith, are.1) in (are.0, ap is_one_to_three count ∙ few)))
 
 names_list-fits : (d : Data) (place : Place) → AllFound FitsNames (names_at 1 d place)
+unfolding names_at
 names_list-fits d place =
     let P : List Name → Type 0 = λ xs. Each NameBack xs × (is_one_to_three (length xs) ≡ true) in
     elim_listed (one_to_three d place) (listed-fits NameBack name_in name_back d place)
@@ -253,6 +258,7 @@ names_list-fits d place =
     elim_listed (Err fault) all = tt {0}
 
 paths_list-fits : (d : Data) (place : Place) → AllFound FitsNames (names_at 2 d place)
+unfolding names_at
 paths_list-fits d place =
     elim_listed (one_to_three d place) (listed-fits (λ text. Unit {0}) text_in (λ e p. all_any (λ text. Unit {0}) (text_in e p) (λ text. tt {0})) d place)
   where
@@ -261,6 +267,7 @@ paths_list-fits d place =
     elim_listed (Err fault) all = tt {0}
 
 names_at-fits : (position : ℕ) (d : Data) (place : Place) → AllFound FitsNames (names_at position d place)
+unfolding names_at
 names_at-fits zero d place = all_then FitsDigest FitsNames (digest_in d place) _ (digest-fits d place) (λ digest fits. fits)
 names_at-fits (suc zero) d place = names_list-fits d place
 names_at-fits (suc (suc position)) d place = paths_list-fits d place
@@ -271,6 +278,7 @@ names-fits d place =
     all_of FitsNames (codes "nameHash" ∷ codes "objectNames" ∷ codes "namePaths" ∷ []) names_at d place names_at-fits
 
 names_list-back : (list : List Name) (place : Place) → FitsNames (names.Names list) → names_at 1 (list_of (map name_value list)) place ≡ Ok (names.Names list)
+unfolding names_at
 names_list-back list place fits =
     bound (one_to_three (list_of (map name_value list)) place) (items_of (map name_value list)) _ (Ok (names.Names list)) (three-back name_value list place fits.1)
     (bound (each_from name_in [] 0 (items_of (map name_value list)) place) list (λ all. Ok (names.Names all)) (Ok (names.Names list)) (each_from-back name_value name_in list [] 0 place fits.0) refl)
@@ -280,12 +288,13 @@ each_text [] = tt
 each_text (path ∷ paths) = (λ other. refl, each_text paths)
 
 paths_list-back : (paths : List (List ℕ)) (place : Place) → FitsNames (names.Paths paths) → names_at 2 (list_of (map string paths)) place ≡ Ok (names.Paths paths)
+unfolding names_at
 paths_list-back paths place fits =
     bound (one_to_three (list_of (map string paths)) place) (items_of (map string paths)) _ (Ok (names.Paths paths)) (three-back string paths place fits)
     (bound (each_from text_in [] 0 (items_of (map string paths)) place) paths (λ all. Ok (names.Paths all)) (Ok (names.Paths paths)) (each_from-back string text_in paths [] 0 place (each_text paths)) refl)
 
 pub names-back : (n : NamesWish) (d : Data) (place : Place) → FitsNames n → HasNames n d → names_in d place ≡ Ok n
-unfolding names_in
+unfolding names_in names_at
 names-back (names.Digest digest) d place fits has = rw (has.0, has.1, has.2, digest-back digest (at_member place (codes "nameHash")) fits)
 names-back (names.Names list) d place fits has = rw (has.0, has.1, has.2, names_list-back list (at_member place (codes "objectNames")) fits)
 names-back (names.Paths paths) d place fits has = rw (has.0, has.1, has.2, paths_list-back paths (at_member place (codes "namePaths")) fits)
