@@ -10,12 +10,14 @@ use Rattle.serde_json.specs.Data.{Data, null, boolean, number, string, array, ob
 use Rattle.serde_json.specs.Find.{get, as_array}
 use Rattle.serde_json.specs.View.{items_of}
 use Rattle.tpol_base.specs.declared.digest.Digest32.{Digest32}
+use Rattle.tpol_base.specs.Answers.{◌>>=◌}
 use Rattle.tpol_base.specs.Pcr.{is_in_mask, pcrs_of_mask}
 use Rattle.tpol_elements.proofs.OneOf.{all_of}
 use Rattle.tpol_elements.proofs.Limits.{Is32, digest-fits, localities-fits, mask-fits, unsigned-fits}
 use Rattle.tpol_json.proofs.Limits.{FitsDigest}
 use Rattle.tpol_tree.specs.Bounds.{LocalityHasBounds}
 use Rattle.tpol_write.proofs.BytesBack.{bound, unsigned-back, digest-back}
+use Rattle.tpol_write.proofs.OneBack.{one_of-back}
 use Rattle.tpol_write.proofs.WishesBack.{Leaving, all_still}
 use Rattle.tpol_json.specs.Words.{same_word}
 use Rattle.tpol_json.specs.Places.{at_member, at_item}
@@ -302,8 +304,13 @@ wish-fits d place walk =
 
 wish-back : (wish : PcrWish) (place : Place) (walk : Walk) → FitsPcrs wish → pcrs_in (typed (codes "POLICYPCR") (pcrs_member wish ∷ [])) place walk ≡ Ok (wish, walk)
 unfolding pcrs_in pcrs_at
-wish-back (Values values) place walk rising = rw (values-back 0 [] values 0 (at_member place (codes "pcrs")) walk tt rising)
-wish-back (Current mask) place walk is = rw (mask-back mask (at_member place (codes "currentPCRs")) is)
+wish-back (Values values) place walk rising =
+    let at = at_member place (codes "pcrs") in
+    one_of-back [] (codes "currentPCRs" ∷ codes "currentPCRandBanks" ∷ []) (codes "pcrs") (pcrs_at walk) (typed (codes "POLICYPCR") (pcrs_member (Values values) ∷ [])) (list_of (map pcr_value values)) place (Values values, walk) tt refl (refl, refl, tt)
+    (bound (pcr_values_from [] 0 (items_of (map pcr_value values)) at walk) (values, walk) (λ found. Ok (Values found.0, found.1)) (Ok (Values values, walk)) (values-back 0 [] values 0 at walk tt rising) refl)
+wish-back (Current mask) place walk is =
+    one_of-back (codes "pcrs" ∷ []) (codes "currentPCRandBanks" ∷ []) (codes "currentPCRs") (pcrs_at walk) (typed (codes "POLICYPCR") (pcrs_member (Current mask) ∷ [])) (list_of (map natural (pcrs_of_mask mask))) place (Current mask, walk) (refl, tt) refl (refl, tt)
+    (ap (λ (found : Found ℕ). still (found >>= λ m. Ok (Current m)) walk) (mask-back mask (at_member place (codes "currentPCRs")) is))
 
 -- the PCRs that a document writes read back from the one member that canonical text writes of them, which leaves no note
 pub pcrs_back : (d : Data) (place : Place) (walk : Walk) → AllFound (λ found. (found.1.left ≡ walk.left) × ((other : Place) (before : Walk) → pcrs_in (typed (codes "POLICYPCR") (pcrs_member found.0 ∷ [])) other before ≡ Ok (found.0, before))) (pcrs_in d place walk)

@@ -9,6 +9,7 @@ use Rattle.tpol_elements.proofs.OneOf.{all_of}
 use Rattle.tpol_elements.proofs.Limits.{digest-fits}
 use Rattle.tpol_json.proofs.Limits.{FitsDigest}
 use Rattle.tpol_write.proofs.BytesBack.{bound, digest-back}
+use Rattle.tpol_write.proofs.OneBack.{one_of-back}
 use Rattle.tpol_write.proofs.PublicsBack.{name_back, object_public_back, index_public_back}
 use Rattle.tpol_json.specs.Places.{at_member, at_item}
 use Rattle.tpol_json.specs.declared.place.Place.{Place}
@@ -87,8 +88,12 @@ key-fits third d place walk =
 
 pub key-back : (third : List ℕ) (k : KeyWish) (d : Data) (place : Place) (walk : Walk) → FitsKey k → HasKey third k d → key_in third d place walk ≡ Ok (k, walk)
 unfolding key_in key_at
-key-back third (key.Path path) d place walk fits has = rw (has.0, has.1, has.2)
-key-back third (key.Public area) d place walk fits has = rw (has.0, has.1, has.2, fits (at_member place (codes "keyPublic")) walk)
+key-back third (key.Path path) d place walk fits has =
+    one_of-back [] (codes "keyPublic" ∷ third ∷ []) (codes "keyPath") (key_at walk) d (string path) place (key.Path path, walk) tt has.0 (has.1, has.2, tt) refl
+key-back third (key.Public area) d place walk fits has =
+    let at = at_member place (codes "keyPublic") in
+    one_of-back (codes "keyPath" ∷ []) (third ∷ []) (codes "keyPublic") (key_at walk) d (object_public_value area) place (key.Public area, walk) (has.0, tt) has.1 (has.2, tt)
+    (bound (object_public_in (object_public_value area) at walk) (area, walk) (λ found. Ok (key.Public found.0, found.1)) (Ok (key.Public area, walk)) (fits at walk) refl)
 
 -- ---- indices
 
@@ -113,8 +118,12 @@ index-fits d place walk = all_of (Leaving FitsIndex walk) (codes "nvPath" ∷ co
 
 pub index-back : (i : IndexWish) (d : Data) (place : Place) (walk : Walk) → FitsIndex i → HasIndex i d → index_in d place walk ≡ Ok (i, walk)
 unfolding index_in index_at
-index-back (index.Path path) d place walk fits has = rw (has.0, has.1)
-index-back (index.Public area) d place walk fits has = rw (has.0, has.1, fits (at_member place (codes "nvPublic")) walk)
+index-back (index.Path path) d place walk fits has =
+    one_of-back [] (codes "nvPublic" ∷ []) (codes "nvPath") (index_at walk) d (string path) place (index.Path path, walk) tt has.0 (has.1, tt) refl
+index-back (index.Public area) d place walk fits has =
+    let at = at_member place (codes "nvPublic") in
+    one_of-back (codes "nvPath" ∷ []) [] (codes "nvPublic") (index_at walk) d (nv_public_value area) place (index.Public area, walk) (has.0, tt) has.1 tt
+    (bound (index_public_in (nv_public_value area) at walk) (area, walk) (λ found. Ok (index.Public found.0, found.1)) (Ok (index.Public area, walk)) (fits at walk) refl)
 
 -- ---- entities
 
@@ -152,8 +161,12 @@ entity-fits d place = all_of FitsEntity (codes "objectPath" ∷ codes "objectNam
 
 pub entity-back : (e : EntityWish) (d : Data) (place : Place) → FitsEntity e → HasEntity e d → entity_in d place ≡ Ok e
 unfolding entity_in entity_at
-entity-back (entity.Path path) d place fits has = rw (has.0, has.1)
-entity-back (entity.Named name) d place fits has = rw (has.0, has.1, fits (at_member place (codes "objectName")))
+entity-back (entity.Path path) d place fits has =
+    one_of-back [] (codes "objectName" ∷ []) (codes "objectPath") entity_at d (string path) place (entity.Path path) tt has.0 (has.1, tt) refl
+entity-back (entity.Named name) d place fits has =
+    let at = at_member place (codes "objectName") in
+    one_of-back (codes "objectPath" ∷ []) [] (codes "objectName") entity_at d (name_value name) place (entity.Named name) (has.0, tt) has.1 tt
+    (bound (full_name_in (name_value name) at) name (λ n. Ok (entity.Named n)) (Ok (entity.Named name)) (fits at) refl)
 
 -- ---- parents
 
@@ -184,9 +197,15 @@ parent-fits d place walk =
 
 pub parent-back : (p : ParentWish) (d : Data) (place : Place) (walk : Walk) → FitsParent p → HasParent p d → parent_in d place walk ≡ Ok (p, walk)
 unfolding parent_in parent_at
-parent-back (parent.Path path) d place walk fits has = rw (has.0, has.1, has.2)
-parent-back (parent.Public area) d place walk fits has = rw (has.0, has.1, has.2, fits (at_member place (codes "newParentPublic")) walk)
-parent-back (parent.Named name) d place walk fits has = rw (has.0, has.1, has.2, fits (at_member place (codes "newParentName")))
+parent-back (parent.Path path) d place walk fits has =
+    one_of-back [] (codes "newParentPublic" ∷ codes "newParentName" ∷ []) (codes "newParentPath") (parent_at walk) d (string path) place (parent.Path path, walk) tt has.0 (has.1, has.2, tt) refl
+parent-back (parent.Public area) d place walk fits has =
+    let at = at_member place (codes "newParentPublic") in
+    one_of-back (codes "newParentPath" ∷ []) (codes "newParentName" ∷ []) (codes "newParentPublic") (parent_at walk) d (object_public_value area) place (parent.Public area, walk) (has.0, tt) has.1 (has.2, tt)
+    (bound (object_public_in (object_public_value area) at walk) (area, walk) (λ found. Ok (parent.Public found.0, found.1)) (Ok (parent.Public area, walk)) (fits at walk) refl)
+parent-back (parent.Named name) d place walk fits has =
+    one_of-back (codes "newParentPath" ∷ codes "newParentPublic" ∷ []) [] (codes "newParentName") (parent_at walk) d (name_value name) place (parent.Named name, walk) (has.0, has.1, tt) has.2 tt
+    (ap (λ (found : Found Name). still (found >>= λ n. Ok (parent.Named n)) walk) (fits (at_member place (codes "newParentName"))))
 
 -- ---- lists
 
@@ -295,6 +314,13 @@ paths_list-back paths place fits =
 
 pub names-back : (n : NamesWish) (d : Data) (place : Place) → FitsNames n → HasNames n d → names_in d place ≡ Ok n
 unfolding names_in names_at
-names-back (names.Digest digest) d place fits has = rw (has.0, has.1, has.2, digest-back digest (at_member place (codes "nameHash")) fits)
-names-back (names.Names list) d place fits has = rw (has.0, has.1, has.2, names_list-back list (at_member place (codes "objectNames")) fits)
-names-back (names.Paths paths) d place fits has = rw (has.0, has.1, has.2, paths_list-back paths (at_member place (codes "namePaths")) fits)
+names-back (names.Digest digest) d place fits has =
+    let at = at_member place (codes "nameHash") in
+    one_of-back [] (codes "objectNames" ∷ codes "namePaths" ∷ []) (codes "nameHash") names_at d (hex_text digest.bytes) place (names.Digest digest) tt has.0 (has.1, has.2, tt)
+    (bound (digest_in (hex_text digest.bytes) at) digest (λ n. Ok (names.Digest n)) (Ok (names.Digest digest)) (digest-back digest at fits) refl)
+names-back (names.Names list) d place fits has =
+    one_of-back (codes "nameHash" ∷ []) (codes "namePaths" ∷ []) (codes "objectNames") names_at d (list_of (map name_value list)) place (names.Names list) (has.0, tt) has.1 (has.2, tt)
+    (names_list-back list (at_member place (codes "objectNames")) fits)
+names-back (names.Paths paths) d place fits has =
+    one_of-back (codes "nameHash" ∷ codes "objectNames" ∷ []) [] (codes "namePaths") names_at d (list_of (map string paths)) place (names.Paths paths) (has.0, has.1, tt) has.2 tt
+    (paths_list-back paths (at_member place (codes "namePaths")) fits)
