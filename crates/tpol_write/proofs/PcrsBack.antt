@@ -306,7 +306,7 @@ wish-back : (wish : PcrWish) (place : Place) (walk : Walk) → FitsPcrs wish →
 unfolding pcrs_in pcrs_at
 wish-back (Values values) place walk rising =
     let at = at_member place (codes "pcrs") in
-    one_of-back [] (codes "currentPCRs" ∷ codes "currentPCRandBanks" ∷ []) (codes "pcrs") (pcrs_at walk) (typed (codes "POLICYPCR") (pcrs_member (Values values) ∷ [])) (list_of (map pcr_value values)) place (Values values, walk) tt refl (refl, refl, tt)
+    one_of-back [] (codes "currentPCRs" ∷ codes "currentPCRandBanks" ∷ []) (codes "pcrs") (pcrs_at walk) (typed (codes "POLICYPCR") (pcrs_member (Values values) ∷ [])) (list_of (map pcr_value values)) place (Values values, walk) tt refl (refl, (refl, tt))
     (bound (pcr_values_from [] 0 (items_of (map pcr_value values)) at walk) (values, walk) (λ found. Ok (Values found.0, found.1)) (Ok (Values values, walk)) (values-back 0 [] values 0 at walk tt rising) refl)
 wish-back (Current mask) place walk is =
     one_of-back (codes "pcrs" ∷ []) (codes "currentPCRandBanks" ∷ []) (codes "currentPCRs") (pcrs_at walk) (typed (codes "POLICYPCR") (pcrs_member (Current mask) ∷ [])) (list_of (map natural (pcrs_of_mask mask))) place (Current mask, walk) (refl, tt) refl (refl, tt)

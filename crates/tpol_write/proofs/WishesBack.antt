@@ -89,7 +89,7 @@ key-fits third d place walk =
 pub key-back : (third : List ℕ) (k : KeyWish) (d : Data) (place : Place) (walk : Walk) → FitsKey k → HasKey third k d → key_in third d place walk ≡ Ok (k, walk)
 unfolding key_in key_at
 key-back third (key.Path path) d place walk fits has =
-    one_of-back [] (codes "keyPublic" ∷ third ∷ []) (codes "keyPath") (key_at walk) d (string path) place (key.Path path, walk) tt has.0 (has.1, has.2, tt) refl
+    one_of-back [] (codes "keyPublic" ∷ third ∷ []) (codes "keyPath") (key_at walk) d (string path) place (key.Path path, walk) tt has.0 (has.1, (has.2, tt)) refl
 key-back third (key.Public area) d place walk fits has =
     let at = at_member place (codes "keyPublic") in
     one_of-back (codes "keyPath" ∷ []) (third ∷ []) (codes "keyPublic") (key_at walk) d (object_public_value area) place (key.Public area, walk) (has.0, tt) has.1 (has.2, tt)
@@ -198,13 +198,13 @@ parent-fits d place walk =
 pub parent-back : (p : ParentWish) (d : Data) (place : Place) (walk : Walk) → FitsParent p → HasParent p d → parent_in d place walk ≡ Ok (p, walk)
 unfolding parent_in parent_at
 parent-back (parent.Path path) d place walk fits has =
-    one_of-back [] (codes "newParentPublic" ∷ codes "newParentName" ∷ []) (codes "newParentPath") (parent_at walk) d (string path) place (parent.Path path, walk) tt has.0 (has.1, has.2, tt) refl
+    one_of-back [] (codes "newParentPublic" ∷ codes "newParentName" ∷ []) (codes "newParentPath") (parent_at walk) d (string path) place (parent.Path path, walk) tt has.0 (has.1, (has.2, tt)) refl
 parent-back (parent.Public area) d place walk fits has =
     let at = at_member place (codes "newParentPublic") in
     one_of-back (codes "newParentPath" ∷ []) (codes "newParentName" ∷ []) (codes "newParentPublic") (parent_at walk) d (object_public_value area) place (parent.Public area, walk) (has.0, tt) has.1 (has.2, tt)
     (bound (object_public_in (object_public_value area) at walk) (area, walk) (λ found. Ok (parent.Public found.0, found.1)) (Ok (parent.Public area, walk)) (fits at walk) refl)
 parent-back (parent.Named name) d place walk fits has =
-    one_of-back (codes "newParentPath" ∷ codes "newParentPublic" ∷ []) [] (codes "newParentName") (parent_at walk) d (name_value name) place (parent.Named name, walk) (has.0, has.1, tt) has.2 tt
+    one_of-back (codes "newParentPath" ∷ codes "newParentPublic" ∷ []) [] (codes "newParentName") (parent_at walk) d (name_value name) place (parent.Named name, walk) (has.0, (has.1, tt)) has.2 tt
     (ap (λ (found : Found Name). still (found >>= λ n. Ok (parent.Named n)) walk) (fits (at_member place (codes "newParentName"))))
 
 -- ---- lists
@@ -316,11 +316,11 @@ pub names-back : (n : NamesWish) (d : Data) (place : Place) → FitsNames n → 
 unfolding names_in names_at
 names-back (names.Digest digest) d place fits has =
     let at = at_member place (codes "nameHash") in
-    one_of-back [] (codes "objectNames" ∷ codes "namePaths" ∷ []) (codes "nameHash") names_at d (hex_text digest.bytes) place (names.Digest digest) tt has.0 (has.1, has.2, tt)
+    one_of-back [] (codes "objectNames" ∷ codes "namePaths" ∷ []) (codes "nameHash") names_at d (hex_text digest.bytes) place (names.Digest digest) tt has.0 (has.1, (has.2, tt))
     (bound (digest_in (hex_text digest.bytes) at) digest (λ n. Ok (names.Digest n)) (Ok (names.Digest digest)) (digest-back digest at fits) refl)
 names-back (names.Names list) d place fits has =
     one_of-back (codes "nameHash" ∷ []) (codes "namePaths" ∷ []) (codes "objectNames") names_at d (list_of (map name_value list)) place (names.Names list) (has.0, tt) has.1 (has.2, tt)
     (names_list-back list (at_member place (codes "objectNames")) fits)
 names-back (names.Paths paths) d place fits has =
-    one_of-back (codes "nameHash" ∷ codes "objectNames" ∷ []) [] (codes "namePaths") names_at d (list_of (map string paths)) place (names.Paths paths) (has.0, has.1, tt) has.2 tt
+    one_of-back (codes "nameHash" ∷ codes "objectNames" ∷ []) [] (codes "namePaths") names_at d (list_of (map string paths)) place (names.Paths paths) (has.0, (has.1, tt)) has.2 tt
     (paths_list-back paths (at_member place (codes "namePaths")) fits)
