@@ -1,3 +1,4 @@
 mod Wrappers
 mod Banks
+pub mod OneOf
 pub mod Limits

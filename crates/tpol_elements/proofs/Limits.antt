@@ -1,5 +1,5 @@
 -- What rows find of their members lies within the bounds of the wire.
-use Rattle.std.proofs.Common.{◌≡◌, T, ℕ, suc, ◌^◌, ◌-◌, ◌≤◌, ◌<◌, bit_or, leb, ℤ, pos, negsuc, ◌≤ℤ◌, Bool, true, false, List, [], ◌∷◌, codes, length, Option, Some, None, Ok, Err, refl, arith, ◌&&◌, if◌then◌else◌}
+use Rattle.std.proofs.Common.{ℕ, zero, suc, ◌^◌, ◌-◌, ◌≤◌, ◌<◌, bit_or, leb, ℤ, pos, negsuc, Bool, true, false, List, [], ◌∷◌, codes, length, Option, Some, None, Ok, Err, refl, arith, ◌&&◌, if◌then◌else◌}
 use Rattle.std.specs.Int.{w32}
 use Rattle.std.specs.Prelude.{FitsSigned}
 use Rattle.std.proofs.lemmas.Bool.{leb-true}
@@ -10,31 +10,28 @@ use Rattle.tpol_base.specs.declared.name.Name.{Name}
 use Rattle.tpol_base.specs.declared.name.Name.TheVariants as names
 use Rattle.tpol_base.specs.Answers.{◌>>=◌}
 use Rattle.tpol_base.specs.CommandCode.{command_codes}
-use Rattle.tpol_json.proofs.AllFound.{AllFound, all_after, all_then, all_map, all_if, all_read, all_ways, needed-fits, optional-fits}
+use Rattle.tpol_json.proofs.AllFound.{AllFound, all_after, all_then, all_map, all_if, all_read, needed-fits, optional-fits}
 use Rattle.tpol_json.proofs.Limits as json
 use Rattle.tpol_json.proofs.Limits.{FitsBytes, FitsDigest, FitsName, IsSigned32, is_up_to, passed}
 use Rattle.tpol_json.specs.Places.{at_member, at_item}
 use Rattle.tpol_json.specs.Values as values
 use Rattle.tpol_json.specs.Words.{find_word, same_word, word_in}
 use Rattle.tpol_json.specs.declared.place.Place.{Place}
+use Rattle.tpol_elements.proofs.OneOf.{all_of}
 use Rattle.tpol_elements.specs.Faults.{Found, bad, kind_of}
 use Rattle.tpol_elements.specs.Fields.{policy_ref_in, expiration_in, operand_in, offset_in}
 use Rattle.tpol_elements.specs.Localities.{locality_word_in, localities_from, locality_list, localities_or, locality_in}
-use Rattle.tpol_elements.specs.Members.{needed}
 use Rattle.tpol_elements.specs.Operations.{code_in}
 use Rattle.tpol_elements.specs.Pcrs.{pcr_bit, mask_from, mask_of_list, mask_in}
 use Rattle.tpol_elements.specs.Publics.{object_public_in}
 use Rattle.tpol_elements.specs.Rows.{object_member, included_object}
 use Rattle.tpol_elements.specs.Values.{text_in, bytes_up_to, digest_in, empty_or_32, full_name_in, is_empty_name, name_in, signed_in, u32_in, unsigned_in}
 use Rattle.tpol_elements.specs.Walks.{still}
-use Rattle.tpol_elements.specs.Wishes.{entity_in, entity_among, entity_by_path, entity_by_name, parent_in, parent_among, parent_by_path, parent_by_public, parent_by_name}
+use Rattle.tpol_elements.specs.Wishes.{entity_at, entity_in, parent_at, parent_in}
 use Rattle.tpol_elements.specs.Words.{found_or, localities}
-use Rattle.tpol_elements.specs.declared.fault.PolicyKind.{PolicyKind}
-use Rattle.tpol_elements.specs.declared.fault.PolicyKind.TheVariants.{BadHex, BadNumber, Missing, Twice}
+use Rattle.tpol_elements.specs.declared.fault.PolicyKind.TheVariants.{BadHex, BadNumber, Missing}
 use Rattle.tpol_elements.specs.declared.walk.Walk.{Walk}
 use Rattle.tpol_tree.specs.Bounds.{NameHasBounds, ReferenceHasBounds, OffsetHasBounds, LocalityHasBounds, EntityHasBounds, ParentHasBounds}
-use Rattle.tpol_tree.specs.declared.wishes.EntityWish.{EntityWish}
-use Rattle.tpol_tree.specs.declared.wishes.EntityWish.TheVariants as entity
 use Rattle.tpol_tree.specs.declared.wishes.ParentWish.{ParentWish}
 use Rattle.tpol_tree.specs.declared.wishes.ParentWish.TheVariants as parent
 
@@ -217,42 +214,32 @@ mask-fits d place = mask_of_list-fits (as_array d) place
 
 -- ---- entities, parents and the object of a duplication
 
-entity_by_path-bounded : (d : Data) (place : Place) → AllFound EntityHasBounds (entity_by_path d place)
-entity_by_path-bounded d place = all_after EntityHasBounds (text_in d place) _ (λ path. tt {0})
-
-entity_by_name-bounded : (d : Data) (place : Place) → AllFound EntityHasBounds (entity_by_name d place)
-entity_by_name-bounded d place = all_then NameHasBounds EntityHasBounds (full_name_in d place) _ (full_name-bounded d place) (λ name has. has)
+entity_at-bounded : (position : ℕ) (d : Data) (place : Place) → AllFound EntityHasBounds (entity_at position d place)
+unfolding entity_at
+entity_at-bounded zero d place = all_after EntityHasBounds (text_in d place) _ (λ path. tt {0})
+entity_at-bounded (suc position) d place = all_then NameHasBounds EntityHasBounds (full_name_in d place) _ (full_name-bounded d place) (λ name has. has)
 
 pub entity-bounded : (d : Data) (place : Place) → AllFound EntityHasBounds (entity_in d place)
-unfolding entity_among
+unfolding entity_in
 entity-bounded d place =
-    all_ways EntityHasBounds Twice ((codes "objectPath", entity_by_path) ∷ (codes "objectName", entity_by_name) ∷ []) (Missing, at_member place (codes "objectPath")) d place
-    (entity_by_path-bounded, (entity_by_name-bounded, tt))
+    all_of EntityHasBounds (codes "objectPath" ∷ codes "objectName" ∷ []) entity_at d place entity_at-bounded
 
 abbrev LeavesBounded : ParentWish × Walk → Type 0
 LeavesBounded found = ParentHasBounds found.0
 
-parent_by_path-bounded : (d : Data) (place : Place) → AllFound ParentHasBounds (parent_by_path d place)
-parent_by_path-bounded d place = all_after ParentHasBounds (text_in d place) _ (λ path. tt {0})
-
-parent_by_name-bounded : (d : Data) (place : Place) → AllFound ParentHasBounds (parent_by_name d place)
-parent_by_name-bounded d place = all_then NameHasBounds ParentHasBounds (name_in d place) _ (name-bounded d place) (λ name has. has)
+parent_at-bounded : (walk : Walk) (position : ℕ) (d : Data) (place : Place) → AllFound LeavesBounded (parent_at walk position d place)
+unfolding parent_at
+parent_at-bounded walk zero d place =
+    all_still ParentHasBounds (text_in d place >>= λ path. Ok (parent.Path path)) walk (all_after ParentHasBounds (text_in d place) _ (λ path. tt {0}))
+parent_at-bounded walk (suc zero) d place = all_after LeavesBounded (object_public_in d place walk) _ (λ area. tt {0})
+parent_at-bounded walk (suc (suc position)) d place =
+    all_still ParentHasBounds (name_in d place >>= λ name. Ok (parent.Named name)) walk
+    (all_then NameHasBounds ParentHasBounds (name_in d place) _ (name-bounded d place) (λ name has. has))
 
 pub parent-bounded : (d : Data) (place : Place) (walk : Walk) → AllFound LeavesBounded (parent_in d place walk)
-unfolding parent_among
+unfolding parent_in
 parent-bounded d place walk =
-    all_ways LeavesBounded Twice
-    (
-    (codes "newParentPath", λ e p. still (parent_by_path e p) walk) ∷ (codes "newParentPublic", parent_by_public walk)
-    ∷ (codes "newParentName", λ e p. still (parent_by_name e p) walk) ∷ []
-    )
-    (Missing, at_member place (codes "newParentPath")) d place (
-      λ e p. all_still ParentHasBounds (parent_by_path e p) walk (parent_by_path-bounded e p),
-      (
-        λ e p. all_after LeavesBounded (object_public_in e p walk) _ (λ area. tt {0}),
-        (λ e p. all_still ParentHasBounds (parent_by_name e p) walk (parent_by_name-bounded e p), tt),
-      ),
-    )
+    all_of LeavesBounded (codes "newParentPath" ∷ codes "newParentPublic" ∷ codes "newParentName" ∷ []) (parent_at walk) d place (parent_at-bounded walk)
 
 object_member-bounded : (d : Data) (place : Place) → AllFound NameHasBounds (object_member d place)
 unfolding object_member

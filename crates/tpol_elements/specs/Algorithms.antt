@@ -1,5 +1,5 @@
 -- Algorithms of public areas: hashes, types of keys and schemes (TPM 2.0 Part 2, TPM_ALG_ID).
-use Rattle.std.specs.Prelude.{ℕ, ◌==◌, ◌||◌, List, [], ◌∷◌, codes, Result, Ok, Err, Bool, if◌then◌else◌, ⊤}
+use Rattle.std.specs.Prelude.{ℕ, ◌==◌, ◌||◌, [], ◌∷◌, codes, Result, Ok, Err, Bool, if◌then◌else◌, ⊤}
 use Rattle.serde_json.specs.Data.{Data}
 use Rattle.tpol_base.specs.Answers.{◌>>=◌}
 use Rattle.tpol_json.specs.Reading as reading

@@ -1,5 +1,5 @@
 -- Comparisons and commands, by their names or their numbers.
-use Rattle.std.specs.Prelude.{ℕ, codes, Option, Some, None, Ok}
+use Rattle.std.specs.Prelude.{ℕ, codes}
 use Rattle.serde_json.specs.Data.{Data}
 use Rattle.tpol_base.specs.Answers.{◌>>=◌}
 use Rattle.tpol_base.specs.CommandCode.{command_codes}

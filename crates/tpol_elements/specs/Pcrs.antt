@@ -1,5 +1,5 @@
 -- The PCRs of a POLICYPCR.
-use Rattle.std.specs.Prelude.{ℕ, suc, ◌^◌, ◌==◌, nat_lt, bit_or, List, [], ◌∷◌, codes, length, position, unwrap_or, insert, Option, Some, None, Ok, Bool, if◌then◌else◌, ⊤}
+use Rattle.std.specs.Prelude.{ℕ, zero, suc, ◌^◌, ◌==◌, nat_lt, bit_or, List, [], ◌∷◌, codes, length, position, unwrap_or, insert, Option, Some, None, Ok, Bool, if◌then◌else◌, ⊤}
 use Rattle.std.specs.List.{list_any}
 use Rattle.serde_json.specs.Data.{Data, Items, no_items, item}
 use Rattle.serde_json.specs.Find.{as_array}
@@ -110,10 +110,12 @@ bank_or_list (Some ds) walk d place = only_bank walk ds place
 abbrev pub banks_in : Walk → Data → Place → Found (PcrWish × Walk)
 banks_in walk d place = bank_or_list (as_array d) walk d place
 
-unfoldable pub pcrs_among : List ℕ → List ℕ → List ℕ → Data → Place → Reading PcrWish
-pcrs_among first second third d place walk =
-    one_of first (pcr_values_in walk) ((second, λ e p. still (current_pcrs_in e p) walk) ∷ (third, banks_in walk) ∷ []) d place
+-- PCRs with their values first, then current PCRs, and then banks of them
+unfoldable pub pcrs_at : Walk → ℕ → Data → Place → Found (PcrWish × Walk)
+pcrs_at walk zero d place = pcr_values_in walk d place
+pcrs_at walk (suc zero) d place = still (current_pcrs_in d place) walk
+pcrs_at walk (suc (suc position)) d place = banks_in walk d place
 
 -- one of `pcrs`, `currentPCRs` and `currentPCRandBanks`
-abbrev pub pcrs_in : Data → Place → Reading PcrWish
-pcrs_in = pcrs_among (codes "pcrs") (codes "currentPCRs") (codes "currentPCRandBanks")
+unfoldable pub pcrs_in : Data → Place → Reading PcrWish
+pcrs_in d place walk = one_of (codes "pcrs" ∷ codes "currentPCRs" ∷ codes "currentPCRandBanks" ∷ []) (pcrs_at walk) d place

@@ -1,15 +1,52 @@
 //! One of several members, and members that are unknown.
 
-ghost use Rattle.std.specs.Prelude.{◌≡◌, map, OnOk};
+ghost use Rattle.std.specs.Prelude.{◌≡◌, ◌<◌, suc, drop, length, map, IfOk, OnOk};
 ghost use Rattle.serde_json.specs.View.{view};
-ghost use Rattle.tpol_elements.specs.Faults.{Gives};
-ghost use Rattle.tpol_elements.specs.Members.{IsAlone, noted, without};
+ghost use Rattle.tpol_base.specs.Answers as answers;
+ghost use Rattle.tpol_elements.specs.Faults.{Gives, cause};
+ghost use Rattle.tpol_elements.specs.Members.{first_of, noted, without};
 
-use crate::{ElementFault, Walk};
+use crate::fault::refuse;
+use crate::{ElementFault, PolicyKind, Walk};
 use serde_json::Value;
 use std::alloc::Global;
 use tpol_base::NoMemory;
-use tpol_json::PlaceRef;
+use tpol_json::{PlaceRef, member};
+
+/// The first of these members that is there: its position among them, what it says, and its name. Without
+/// one the first is `Missing`.
+pub fn first_of<'v, 'n>(
+    alloc: Global,
+    value: &'v Value,
+    names: &[&'n str],
+    place: &PlaceRef<'_>,
+) -> Result<(usize, &'v Value, &'n str), ElementFault>
+    requires { 0 < length names.now }
+    ensures first { answers.Gives (λ found. (found.0, view found.1.now, found.2.now)) cause result (first_of (map (λ name. name.now) names.now) (view value.now) place.now) }
+    ensures within { IfOk result (λ found. found.0 < length names.now) }
+{
+    for (position, name) in names.iter().enumerate() {
+        if let Some(found) = member(value, name) {
+            return Ok((position, found, name));
+        }
+    }
+    refuse(alloc, PolicyKind::Missing, &place.member(names[0]))
+}
+
+/// The members after this one of several may not stand beside it: the first that does is `Twice`, at its own
+/// place.
+pub fn alone(
+    alloc: Global,
+    value: &Value,
+    names: &[&str],
+    position: usize,
+    place: &PlaceRef<'_>,
+) -> Result<(), ElementFault>
+    requires { position < length names.now }
+    ensures { Gives result (without (drop (suc position) (map (λ name. name.now) names.now)) (view value.now) place.now) }
+{
+    without(alloc, value, &names[position + 1..], place)
+}
 
 // None of these members may stand in the object: the first of them that does is `Twice`, at its own place.
 fn without(
@@ -21,26 +58,6 @@ fn without(
     ensures { Gives result (without (map (λ name. name.now) names.now) (view value.now) place.now) }
 {
     Ok(tpol_json::without(alloc, value, names, place)?)
-}
-
-/// What was read, or its fault. Where something was read, the first of these later members that stands
-/// beside it is `Twice`, at its own place.
-pub fn alone<T: Drop>(
-    alloc: Global,
-    found: Result<T, ElementFault>,
-    value: &Value,
-    later: &[&str],
-    place: &PlaceRef<'_>,
-) -> Result<T, ElementFault>
-    ensures { IsAlone result found (without (map (λ name. name.now) later.now) (view value.now) place.now) }
-{
-    match found {
-        Ok(found) => match without(alloc, value, later, place) {
-            Ok(()) => Ok(found),
-            Err(fault) => Err(fault),
-        },
-        Err(fault) => Err(fault),
-    }
 }
 
 /// Notes the members of an object that are none of these, in ascending byte order of their names.

@@ -3,17 +3,17 @@
 ghost use Rattle.std.specs.Prelude.{◌≡◌, ◌≤◌, ◌^◌, [], length, nat_lt, position, IfSome, OnOk};
 ghost use Rattle.serde_json.specs.View.{view, items_view};
 ghost use Rattle.tpol_elements.specs.Faults.{Gives};
-ghost use Rattle.tpol_elements.specs.Pcrs.{bank_in, banks_in, current_pcrs_in, has_value, mask_from, mask_in, new_pcr_in, only_bank, pcr_bit, pcr_member, pcr_value_in, pcr_values_from, pcr_values_in, pcrs_among, pcrs_in, select_member, value_member, with_value, bank_member};
+ghost use Rattle.tpol_elements.specs.Pcrs.{bank_in, banks_in, current_pcrs_in, has_value, mask_from, mask_in, new_pcr_in, only_bank, pcr_bit, pcr_member, pcr_value_in, pcr_values_from, pcr_values_in, pcrs_at, pcrs_in, select_member, value_member, with_value, bank_member};
 ghost use Rattle.tpol_elements.specs.Walks.{Leaves};
 
 use crate::algorithms::check_hash;
 use crate::fault::refuse;
-use crate::members::{alone, note_unknown};
+use crate::members::{alone, first_of, note_unknown};
 use crate::{ElementFault, PolicyKind, Walk};
 use serde_json::Value;
 use std::alloc::Global;
 use tpol_base::{Digest32, NoMemory};
-use tpol_json::{PlaceRef, check_object, digest, items, member, needed, unsigned};
+use tpol_json::{PlaceRef, check_object, digest, items, needed, unsigned};
 use tpol_tree::{PcrValues, PcrWish};
 
 fn has_value(values: &[(u8, Digest32)], pcr: u8) -> bool
@@ -243,9 +243,27 @@ fn banks(
     }
 }
 
+#[tactic(auto, unfolding(crate::specs::Pcrs::pcrs_at))]
+fn pcrs_at(
+    alloc: Global,
+    position: usize,
+    value: &Value,
+    place: &PlaceRef<'_>,
+    walk: &mut Walk,
+) -> Result<PcrWish, ElementFault>
+    ensures { Leaves result walk.new (pcrs_at walk.old position (view value.now) place.now) }
+{
+    match position {
+        0 => wish_of_values(alloc, value, place, walk),
+        1 => current_pcrs(alloc, value, place),
+        _ => banks(alloc, value, place, walk),
+    }
+}
+
 /// One of `pcrs`, `currentPCRs` and `currentPCRandBanks`. `Missing` without one, `Twice` at a further one
 /// and at a PCR that has a value already; `WrongKind`, `BadNumber`, `BadHex`, `OtherHash` or `Missing` as
 /// the lists' items have it, and `BadNumber` for a list of banks that is not of one.
+#[tactic(auto, unfolding(crate::specs::Pcrs::pcrs_in))]
 pub fn pcr_wish(
     alloc: Global,
     value: &Value,
@@ -254,44 +272,9 @@ pub fn pcr_wish(
 ) -> Result<PcrWish, ElementFault>
     ensures { Leaves result walk.new (pcrs_in (view value.now) place.now walk.old) }
 {
-    pcrs_among(
-        alloc,
-        value,
-        "pcrs",
-        "currentPCRs",
-        "currentPCRandBanks",
-        place,
-        walk,
-    )
-}
-
-// The names are parameters and no literals, since the proof is of any names and does not spell them out.
-#[tactic(auto, unfolding(crate::specs::Pcrs::pcrs_among))]
-fn pcrs_among(
-    alloc: Global,
-    value: &Value,
-    first: &str,
-    second: &str,
-    third: &str,
-    place: &PlaceRef<'_>,
-    walk: &mut Walk,
-) -> Result<PcrWish, ElementFault>
-    ensures { Leaves result walk.new (pcrs_among first.now second.now third.now (view value.now) place.now walk.old) }
-{
-    match member(value, first) {
-        Some(list) => {
-            let found = wish_of_values(alloc, list, &place.member(first), walk);
-            alone(alloc, found, value, &[second, third], place)
-        }
-        None => match member(value, second) {
-            Some(list) => {
-                let found = current_pcrs(alloc, list, &place.member(second));
-                alone(alloc, found, value, &[third], place)
-            }
-            None => match member(value, third) {
-                Some(list) => banks(alloc, list, &place.member(third), walk),
-                None => refuse(alloc, PolicyKind::Missing, &place.member(first)),
-            },
-        },
-    }
+    let names = ["pcrs", "currentPCRs", "currentPCRandBanks"];
+    let (position, found, name) = first_of(alloc, value, &names, place)?;
+    let wish = pcrs_at(alloc, position, found, &place.member(name), walk)?;
+    alone(alloc, value, &names, position, place)?;
+    Ok(wish)
 }

@@ -7,37 +7,37 @@ ghost use Rattle.tpol_base.specs.Answers as answers;
 ghost use Rattle.tpol_elements.specs.Values.{full_name_in, name_in, one_to_three, text_in};
 ghost use Rattle.tpol_elements.specs.Walks.{Leaves};
 ghost use Rattle.tpol_json.specs.Values.{items_of};
-ghost use Rattle.tpol_elements.specs.Wishes.{each_from, entity_among, entity_by_name, entity_by_path, entity_in, index_among, index_by_path, index_by_public, index_in, key_among, key_by_path, key_by_public, key_in, names_among, names_by_digest, names_by_names, names_by_paths, names_in, parent_among, parent_by_name, parent_by_path, parent_by_public, parent_in};
+ghost use Rattle.tpol_elements.specs.Wishes.{each_from, entity_at, entity_in, index_at, index_in, key_at, key_in, names_at, names_in, parent_at, parent_in};
 
 use crate::fault::refuse;
-use crate::members::alone;
+use crate::members::{alone, first_of};
 use crate::publics::{index_public_area, object_public_area};
 use crate::{ElementFault, PolicyKind, Walk};
 use serde_json::Value;
 use std::alloc::Global;
 use tpol_base::{Name, Sequence, Texts};
-use tpol_json::{PlaceRef, digest, items, member, name, text};
+use tpol_json::{PlaceRef, digest, items, name, text};
 use tpol_tree::{EntityWish, IndexWish, KeyWish, Names, NamesWish, ParentWish};
 
-fn key_by_path(alloc: Global, value: &Value, place: &PlaceRef<'_>) -> Result<KeyWish, ElementFault>
-    ensures { Gives result (key_by_path (view value.now) place.now) }
-{
-    Ok(KeyWish::Path(text(alloc, value, place)?))
-}
-
-fn key_by_public(
+#[tactic(auto, unfolding(crate::specs::Wishes::key_at))]
+fn key_at(
     alloc: Global,
+    position: usize,
     value: &Value,
     place: &PlaceRef<'_>,
     walk: &mut Walk,
 ) -> Result<KeyWish, ElementFault>
-    ensures { Leaves result walk.new (key_by_public walk.old (view value.now) place.now) }
+    ensures { Leaves result walk.new (key_at walk.old position (view value.now) place.now) }
 {
-    Ok(KeyWish::Public(object_public_area(alloc, value, place, walk)?))
+    match position {
+        0 => Ok(KeyWish::Path(text(alloc, value, place)?)),
+        _ => Ok(KeyWish::Public(object_public_area(alloc, value, place, walk)?)),
+    }
 }
 
 /// One of `keyPath`, `keyPublic` and a third name for the public area. `Missing` without one, `Twice` at a
 /// further one, `WrongKind` for a path that is no text, and else the first fault in the public area.
+#[tactic(auto, unfolding(crate::specs::Wishes::key_in))]
 pub fn key_wish(
     alloc: Global,
     value: &Value,
@@ -47,63 +47,32 @@ pub fn key_wish(
 ) -> Result<KeyWish, ElementFault>
     ensures { Leaves result walk.new (key_in third.now (view value.now) place.now walk.old) }
 {
-    key_among(alloc, value, "keyPath", "keyPublic", third, place, walk)
+    let names = ["keyPath", "keyPublic", third];
+    let (position, found, name) = first_of(alloc, value, &names, place)?;
+    let wish = key_at(alloc, position, found, &place.member(name), walk)?;
+    alone(alloc, value, &names, position, place)?;
+    Ok(wish)
 }
 
-// The names are parameters and no literals, since the proof is of any names and does not spell them out.
-#[tactic(auto, unfolding(crate::specs::Wishes::key_among))]
-fn key_among(
+#[tactic(auto, unfolding(crate::specs::Wishes::index_at))]
+fn index_at(
     alloc: Global,
+    position: usize,
     value: &Value,
-    first: &str,
-    second: &str,
-    third: &str,
     place: &PlaceRef<'_>,
     walk: &mut Walk,
-) -> Result<KeyWish, ElementFault>
-    ensures { Leaves result walk.new (key_among first.now second.now third.now (view value.now) place.now walk.old) }
+) -> Result<IndexWish, ElementFault>
+    ensures { Leaves result walk.new (index_at walk.old position (view value.now) place.now) }
 {
-    match member(value, first) {
-        Some(path) => {
-            let found = key_by_path(alloc, path, &place.member(first));
-            alone(alloc, found, value, &[second, third], place)
-        }
-        None => match member(value, second) {
-            Some(area) => {
-                let found = key_by_public(alloc, area, &place.member(second), walk);
-                alone(alloc, found, value, &[third], place)
-            }
-            None => match member(value, third) {
-                Some(area) => key_by_public(alloc, area, &place.member(third), walk),
-                None => refuse(alloc, PolicyKind::Missing, &place.member(first)),
-            },
-        },
+    match position {
+        0 => Ok(IndexWish::Path(text(alloc, value, place)?)),
+        _ => Ok(IndexWish::Public(index_public_area(alloc, value, place, walk)?)),
     }
-}
-
-fn index_by_path(
-    alloc: Global,
-    value: &Value,
-    place: &PlaceRef<'_>,
-) -> Result<IndexWish, ElementFault>
-    ensures { Gives result (index_by_path (view value.now) place.now) }
-{
-    Ok(IndexWish::Path(text(alloc, value, place)?))
-}
-
-fn index_by_public(
-    alloc: Global,
-    value: &Value,
-    place: &PlaceRef<'_>,
-    walk: &mut Walk,
-) -> Result<IndexWish, ElementFault>
-    ensures { Leaves result walk.new (index_by_public walk.old (view value.now) place.now) }
-{
-    Ok(IndexWish::Public(index_public_area(alloc, value, place, walk)?))
 }
 
 /// One of `nvPath` and `nvPublic`. `Missing` without one, `Twice` at a further one, `WrongKind` for a path
 /// that is no text, and else the first fault in the public area.
+#[tactic(auto, unfolding(crate::specs::Wishes::index_in))]
 pub fn index_wish(
     alloc: Global,
     value: &Value,
@@ -112,41 +81,11 @@ pub fn index_wish(
 ) -> Result<IndexWish, ElementFault>
     ensures { Leaves result walk.new (index_in (view value.now) place.now walk.old) }
 {
-    index_among(alloc, value, "nvPath", "nvPublic", place, walk)
-}
-
-// The names are parameters and no literals, since the proof is of any names and does not spell them out.
-#[tactic(auto, unfolding(crate::specs::Wishes::index_among))]
-fn index_among(
-    alloc: Global,
-    value: &Value,
-    first: &str,
-    second: &str,
-    place: &PlaceRef<'_>,
-    walk: &mut Walk,
-) -> Result<IndexWish, ElementFault>
-    ensures { Leaves result walk.new (index_among first.now second.now (view value.now) place.now walk.old) }
-{
-    match member(value, first) {
-        Some(path) => {
-            let found = index_by_path(alloc, path, &place.member(first));
-            alone(alloc, found, value, &[second], place)
-        }
-        None => match member(value, second) {
-            Some(area) => index_by_public(alloc, area, &place.member(second), walk),
-            None => refuse(alloc, PolicyKind::Missing, &place.member(first)),
-        },
-    }
-}
-
-fn entity_by_path(
-    alloc: Global,
-    value: &Value,
-    place: &PlaceRef<'_>,
-) -> Result<EntityWish, ElementFault>
-    ensures { Gives result (entity_by_path (view value.now) place.now) }
-{
-    Ok(EntityWish::Path(text(alloc, value, place)?))
+    let names = ["nvPath", "nvPublic"];
+    let (position, found, name) = first_of(alloc, value, &names, place)?;
+    let wish = index_at(alloc, position, found, &place.member(name), walk)?;
+    alone(alloc, value, &names, position, place)?;
+    Ok(wish)
 }
 
 // The bytes of a Name that is not empty; others are `BadHex`. `WrongKind`, `BadHex` or `BadNumber` as
@@ -160,19 +99,25 @@ fn full_name(alloc: Global, value: &Value, place: &PlaceRef<'_>) -> Result<Name,
     }
 }
 
-fn entity_by_name(
+#[tactic(auto, unfolding(crate::specs::Wishes::entity_at))]
+fn entity_at(
     alloc: Global,
+    position: usize,
     value: &Value,
     place: &PlaceRef<'_>,
 ) -> Result<EntityWish, ElementFault>
-    ensures { Gives result (entity_by_name (view value.now) place.now) }
+    ensures { Gives result (entity_at position (view value.now) place.now) }
 {
-    Ok(EntityWish::Named(full_name(alloc, value, place)?))
+    match position {
+        0 => Ok(EntityWish::Path(text(alloc, value, place)?)),
+        _ => Ok(EntityWish::Named(full_name(alloc, value, place)?)),
+    }
 }
 
 /// One of `objectPath` and `objectName`. `Missing` without one, `Twice` at a further one, `WrongKind` for a
 /// path that is no text; of a Name `WrongKind`, `BadHex` or `BadNumber` as `bytes_of`, and `BadHex` for an
 /// empty one and for bytes that are none.
+#[tactic(auto, unfolding(crate::specs::Wishes::entity_in))]
 pub fn entity_wish(
     alloc: Global,
     value: &Value,
@@ -180,66 +125,34 @@ pub fn entity_wish(
 ) -> Result<EntityWish, ElementFault>
     ensures { Gives result (entity_in (view value.now) place.now) }
 {
-    entity_among(alloc, value, "objectPath", "objectName", place)
+    let names = ["objectPath", "objectName"];
+    let (position, found, name) = first_of(alloc, value, &names, place)?;
+    let wish = entity_at(alloc, position, found, &place.member(name))?;
+    alone(alloc, value, &names, position, place)?;
+    Ok(wish)
 }
 
-// The names are parameters and no literals, since the proof is of any names and does not spell them out.
-#[tactic(auto, unfolding(crate::specs::Wishes::entity_among))]
-fn entity_among(
+#[tactic(auto, unfolding(crate::specs::Wishes::parent_at))]
+fn parent_at(
     alloc: Global,
-    value: &Value,
-    first: &str,
-    second: &str,
-    place: &PlaceRef<'_>,
-) -> Result<EntityWish, ElementFault>
-    ensures { Gives result (entity_among first.now second.now (view value.now) place.now) }
-{
-    match member(value, first) {
-        Some(path) => {
-            let found = entity_by_path(alloc, path, &place.member(first));
-            alone(alloc, found, value, &[second], place)
-        }
-        None => match member(value, second) {
-            Some(bytes) => entity_by_name(alloc, bytes, &place.member(second)),
-            None => refuse(alloc, PolicyKind::Missing, &place.member(first)),
-        },
-    }
-}
-
-fn parent_by_path(
-    alloc: Global,
-    value: &Value,
-    place: &PlaceRef<'_>,
-) -> Result<ParentWish, ElementFault>
-    ensures { Gives result (parent_by_path (view value.now) place.now) }
-{
-    Ok(ParentWish::Path(text(alloc, value, place)?))
-}
-
-fn parent_by_public(
-    alloc: Global,
+    position: usize,
     value: &Value,
     place: &PlaceRef<'_>,
     walk: &mut Walk,
 ) -> Result<ParentWish, ElementFault>
-    ensures { Leaves result walk.new (parent_by_public walk.old (view value.now) place.now) }
+    ensures { Leaves result walk.new (parent_at walk.old position (view value.now) place.now) }
 {
-    Ok(ParentWish::Public(object_public_area(alloc, value, place, walk)?))
-}
-
-fn parent_by_name(
-    alloc: Global,
-    value: &Value,
-    place: &PlaceRef<'_>,
-) -> Result<ParentWish, ElementFault>
-    ensures { Gives result (parent_by_name (view value.now) place.now) }
-{
-    Ok(ParentWish::Named(name(alloc, value, place)?))
+    match position {
+        0 => Ok(ParentWish::Path(text(alloc, value, place)?)),
+        1 => Ok(ParentWish::Public(object_public_area(alloc, value, place, walk)?)),
+        _ => Ok(ParentWish::Named(name(alloc, value, place)?)),
+    }
 }
 
 /// One of `newParentPath`, `newParentPublic` and `newParentName`. `Missing` without one, `Twice` at a further
 /// one, `WrongKind` for a path that is no text; of a Name `WrongKind`, `BadHex` or `BadNumber` as `bytes_of`,
 /// and `BadHex` for bytes that are none; else the first fault in the public area.
+#[tactic(auto, unfolding(crate::specs::Wishes::parent_in))]
 pub fn parent_wish(
     alloc: Global,
     value: &Value,
@@ -248,46 +161,11 @@ pub fn parent_wish(
 ) -> Result<ParentWish, ElementFault>
     ensures { Leaves result walk.new (parent_in (view value.now) place.now walk.old) }
 {
-    parent_among(
-        alloc,
-        value,
-        "newParentPath",
-        "newParentPublic",
-        "newParentName",
-        place,
-        walk,
-    )
-}
-
-// The names are parameters and no literals, since the proof is of any names and does not spell them out.
-#[tactic(auto, unfolding(crate::specs::Wishes::parent_among))]
-fn parent_among(
-    alloc: Global,
-    value: &Value,
-    first: &str,
-    second: &str,
-    third: &str,
-    place: &PlaceRef<'_>,
-    walk: &mut Walk,
-) -> Result<ParentWish, ElementFault>
-    ensures { Leaves result walk.new (parent_among first.now second.now third.now (view value.now) place.now walk.old) }
-{
-    match member(value, first) {
-        Some(path) => {
-            let found = parent_by_path(alloc, path, &place.member(first));
-            alone(alloc, found, value, &[second, third], place)
-        }
-        None => match member(value, second) {
-            Some(area) => {
-                let found = parent_by_public(alloc, area, &place.member(second), walk);
-                alone(alloc, found, value, &[third], place)
-            }
-            None => match member(value, third) {
-                Some(bytes) => parent_by_name(alloc, bytes, &place.member(third)),
-                None => refuse(alloc, PolicyKind::Missing, &place.member(first)),
-            },
-        },
-    }
+    let names = ["newParentPath", "newParentPublic", "newParentName"];
+    let (position, found, name) = first_of(alloc, value, &names, place)?;
+    let wish = parent_at(alloc, position, found, &place.member(name), walk)?;
+    alone(alloc, value, &names, position, place)?;
+    Ok(wish)
 }
 
 fn names_of(alloc: Global, items: &[Value], place: &PlaceRef<'_>) -> Result<Names, ElementFault>
@@ -327,41 +205,32 @@ fn one_to_three<'v>(
     }
 }
 
-fn names_by_digest(
+#[tactic(auto, unfolding(crate::specs::Wishes::names_at))]
+fn names_at(
     alloc: Global,
+    position: usize,
     value: &Value,
     place: &PlaceRef<'_>,
 ) -> Result<NamesWish, ElementFault>
-    ensures { Gives result (names_by_digest (view value.now) place.now) }
+    ensures { Gives result (names_at position (view value.now) place.now) }
 {
-    Ok(NamesWish::Digest(digest(alloc, value, place)?))
-}
-
-fn names_by_names(
-    alloc: Global,
-    value: &Value,
-    place: &PlaceRef<'_>,
-) -> Result<NamesWish, ElementFault>
-    ensures { Gives result (names_by_names (view value.now) place.now) }
-{
-    let items = one_to_three(alloc, value, place)?;
-    Ok(NamesWish::Names(names_of(alloc, items, place)?))
-}
-
-fn names_by_paths(
-    alloc: Global,
-    value: &Value,
-    place: &PlaceRef<'_>,
-) -> Result<NamesWish, ElementFault>
-    ensures { Gives result (names_by_paths (view value.now) place.now) }
-{
-    let items = one_to_three(alloc, value, place)?;
-    Ok(NamesWish::Paths(paths_of(alloc, items, place)?))
+    match position {
+        0 => Ok(NamesWish::Digest(digest(alloc, value, place)?)),
+        1 => {
+            let items = one_to_three(alloc, value, place)?;
+            Ok(NamesWish::Names(names_of(alloc, items, place)?))
+        }
+        _ => {
+            let items = one_to_three(alloc, value, place)?;
+            Ok(NamesWish::Paths(paths_of(alloc, items, place)?))
+        }
+    }
 }
 
 /// One of `nameHash`, `objectNames` and `namePaths`. `Missing` without one, `Twice` at a further one; of a
 /// list `WrongKind`, and `BadNumber` where it has not 1 to 3 items; `WrongKind` at a path that is no text; of
 /// bytes `WrongKind`, `BadHex` or `BadNumber` as `bytes_of`, and `BadHex` where they are no digest or no Name.
+#[tactic(auto, unfolding(crate::specs::Wishes::names_in))]
 pub fn names_wish(
     alloc: Global,
     value: &Value,
@@ -369,35 +238,9 @@ pub fn names_wish(
 ) -> Result<NamesWish, ElementFault>
     ensures { Gives result (names_in (view value.now) place.now) }
 {
-    names_among(alloc, value, "nameHash", "objectNames", "namePaths", place)
-}
-
-// The names are parameters and no literals, since the proof is of any names and does not spell them out.
-#[tactic(auto, unfolding(crate::specs::Wishes::names_among))]
-fn names_among(
-    alloc: Global,
-    value: &Value,
-    first: &str,
-    second: &str,
-    third: &str,
-    place: &PlaceRef<'_>,
-) -> Result<NamesWish, ElementFault>
-    ensures { Gives result (names_among first.now second.now third.now (view value.now) place.now) }
-{
-    match member(value, first) {
-        Some(bytes) => {
-            let found = names_by_digest(alloc, bytes, &place.member(first));
-            alone(alloc, found, value, &[second, third], place)
-        }
-        None => match member(value, second) {
-            Some(list) => {
-                let found = names_by_names(alloc, list, &place.member(second));
-                alone(alloc, found, value, &[third], place)
-            }
-            None => match member(value, third) {
-                Some(list) => names_by_paths(alloc, list, &place.member(third)),
-                None => refuse(alloc, PolicyKind::Missing, &place.member(first)),
-            },
-        },
-    }
+    let names = ["nameHash", "objectNames", "namePaths"];
+    let (position, found, name) = first_of(alloc, value, &names, place)?;
+    let wish = names_at(alloc, position, found, &place.member(name))?;
+    alone(alloc, value, &names, position, place)?;
+    Ok(wish)
 }

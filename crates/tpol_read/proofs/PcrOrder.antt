@@ -9,14 +9,15 @@ use Rattle.serde_json.specs.Find.{get, as_array}
 use Rattle.tpol_base.specs.declared.digest.Digest32.{Digest32}
 use Rattle.tpol_json.specs.Places.{at_member, at_item}
 use Rattle.tpol_json.specs.declared.place.Place.{Place}
+use Rattle.tpol_elements.proofs.OneOf.{all_of}
 use Rattle.tpol_elements.proofs.Limits.{all_still, mask-fits, Is32}
-use Rattle.tpol_json.proofs.AllFound.{AllFound, all_after, all_then, all_ways, needed-fits}
+use Rattle.tpol_json.proofs.AllFound.{AllFound, all_after, all_then, needed-fits}
 use Rattle.tpol_read.specs.RisingPcrs.{IsRising}
 use Rattle.tpol_tree.specs.Bounds.{PcrsHaveBounds}
 use Rattle.tpol_elements.specs.Faults.{bad}
 use Rattle.tpol_elements.specs.Members.{object_in, read_needed}
 use Rattle.tpol_elements.specs.Values.{unsigned_in}
-use Rattle.tpol_elements.specs.Pcrs.{PcrList, has_value, with_value, new_pcr_in, pcr_member, bank_member, value_member, pcr_value_in, pcr_values_from, wish_of_values, pcr_values_in, mask_in, current_pcrs_in, select_member, bank_in, only_bank, bank_or_list, banks_in, pcrs_among, pcrs_in}
+use Rattle.tpol_elements.specs.Pcrs.{PcrList, has_value, with_value, new_pcr_in, pcr_member, bank_member, value_member, pcr_value_in, pcr_values_from, wish_of_values, pcr_values_in, mask_in, current_pcrs_in, select_member, bank_in, only_bank, bank_or_list, banks_in, pcrs_at, pcrs_in}
 use Rattle.tpol_elements.specs.Walks.{still}
 use Rattle.tpol_elements.specs.declared.fault.PolicyKind.TheVariants.{Missing, Twice}
 use Rattle.tpol_elements.specs.declared.walk.Walk.{Walk}
@@ -177,14 +178,14 @@ banks-rise : (list : Option Items) (walk : Walk) (d : Data) (place : Place) → 
 banks-rise None walk d place = bank-rises walk d place
 banks-rise (Some ds) walk d place = only_bank-rises walk ds place
 
+pcrs_at-rise : (walk : Walk) (position : ℕ) (d : Data) (place : Place) → AllFound WishRises (pcrs_at walk position d place)
+unfolding pcrs_at
+pcrs_at-rise walk zero d place = wish_of_values-rises (as_array d) place walk
+pcrs_at-rise walk (suc zero) d place = all_still IsGoodWish (current_pcrs_in d place) walk (current_pcrs-rise d place)
+pcrs_at-rise walk (suc (suc position)) d place = banks-rise (as_array d) walk d place
+
 -- the PCRs that a document writes
 pub pcrs-rise : (d : Data) (place : Place) (walk : Walk) → AllFound WishRises (pcrs_in d place walk)
-unfolding pcrs_among
+unfolding pcrs_in
 pcrs-rise d place walk =
-    all_ways WishRises Twice ((codes "pcrs", pcr_values_in walk) ∷ (codes "currentPCRs", λ e at. still (current_pcrs_in e at) walk) ∷ (codes "currentPCRandBanks", banks_in walk) ∷ []) (Missing, at_member place (codes "pcrs")) d place (
-      λ e at. wish_of_values-rises (as_array e) at walk,
-      (
-        λ e at. all_still IsGoodWish (current_pcrs_in e at) walk (current_pcrs-rise e at),
-        (λ e at. banks-rise (as_array e) walk e at, tt),
-      ),
-    )
+    all_of WishRises (codes "pcrs" ∷ codes "currentPCRs" ∷ codes "currentPCRandBanks" ∷ []) (pcrs_at walk) d place (pcrs_at-rise walk)

@@ -7,12 +7,12 @@ use Rattle.tpol_json.specs.Places.{root, at_member, at_item}
 use Rattle.tpol_elements.specs.declared.fault.PolicyKind.TheVariants as kinds
 use Rattle.tpol_elements.specs.Faults.{Found}
 use Rattle.tpol_elements.specs.Members.{noted}
-use Rattle.tpol_elements.specs.Pcrs.{pcr_member, pcr_value_in, pcrs_among}
+use Rattle.tpol_elements.specs.Pcrs.{pcr_member, pcr_value_in, pcrs_at, pcrs_in}
 use Rattle.tpol_base.specs.declared.compare.Compare.TheVariants.{Neq}
 use Rattle.tpol_base.specs.declared.name.Name.TheVariants.{Handle}
 use Rattle.tpol_elements.specs.Fields.{policy_ref_in, cp_hash_in, expiration_in, operand_in, offset_in, operation_member_in}
 use Rattle.tpol_elements.specs.Rows.{pcr_row, nv_row, secret_row, signed_row, authorize_row, authorize_nv_row, locality_member, locality_row, command_code_row, name_hash_row, counter_timer_row, duplication_row, include_member, included_object, object_member, nv_written_row, written_member, without_pem}
-use Rattle.tpol_elements.specs.Wishes.{entity_among, index_among, key_among, names_among, parent_among}
+use Rattle.tpol_elements.specs.Wishes.{entity_at, entity_in, index_at, index_in, key_at, key_in, names_at, names_in, parent_at, parent_in}
 use Rattle.tpol_elements.specs.Types.{type_in}
 use Rattle.tpol_json.specs.Words.{find_word}
 use Rattle.tpol_tree.specs.declared.policy.Element.{Element}
@@ -70,8 +70,13 @@ two_faults = refl
 
 -- {"policy":[{"pcrs":[{"pcr":32}],"type":"POLICYPCR"}]}
 pcr_past_31 : policy_faults (only (two (codes "pcrs") (array (item (one (codes "pcr") (number (unsigned 32))) no_items)) (codes "type") (string (codes "POLICYPCR")))) ≡ (kinds.BadNumber, at_member (at_item (at_member (at_item (at_member root (codes "policy")) 0) (codes "pcrs")) 0) (codes "pcr")) ∷ []
-unfolding policy_faults member_faults only one two description_member element_faults counted element_by element_type_in type_in find_word element_of_type leaf_element pcr_row pcrs_among pcr_value_in pcr_member element_count
+unfolding policy_faults member_faults only one two description_member element_faults counted element_by element_type_in type_in find_word element_of_type leaf_element pcr_row pcrs_in pcrs_at pcr_value_in pcr_member element_count
 pcr_past_31 = refl
+
+-- {"policy":[{"objectName":0,"objectPath":"a","type":"POLICYSECRET"}]}: the first of two members is read whole, and then the second comes twice
+second_of_one : policy_faults (only (object (member (codes "objectName") (number (unsigned 0)) (member (codes "objectPath") (string (codes "a")) (member (codes "type") (string (codes "POLICYSECRET")) no_members))))) ≡ (kinds.Twice, at_member (at_item (at_member root (codes "policy")) 0) (codes "objectName")) ∷ []
+unfolding policy_faults member_faults only one description_member element_faults counted element_by element_type_in type_in find_word element_of_type leaf_element secret_row entity_in entity_at element_count
+second_of_one = refl
 
 -- {"policy":[{"type":"authvalue","x":1}]}: the policy of AUTHVALUE, and a note at policy[0].x
 noted_member : ◌≡◌ {A = Found (Policy × List Place)} (policy_of (only (two (codes "type") (string (codes "authvalue")) (codes "x") (number (unsigned 1)))))
@@ -123,23 +128,23 @@ abbrev SaysOnly : Data → Element → Type 0
 SaysOnly d element = ◌≡◌ {A = Found (Policy × List Place)} (policy_of (only d)) (Ok (record { description = []; elements = More' nowhere element nowhere End; approvals = [] }, []))
 
 nv : SaysOnly (object (member (codes "nvPath") (string (codes "a")) (member (codes "offset") (number (unsigned 1)) (member (codes "operandB") (array (item (number (unsigned 128)) no_items)) (member (codes "operation") (string (codes "NEQ")) (member (codes "type") (string (codes "NV")) no_members)))))) (Nv (index.Path (codes "a")) (128 ∷ []) 1 Neq)
-unfolding policy_of document_in only one description_member policy_member elements_in elements_from counted element_by element_type_in type_in find_word element_of_type leaf_element noted approvals_member nv_row index_among operand_in offset_in operation_member_in bytes_from
+unfolding policy_of document_in only one description_member policy_member elements_in elements_from counted element_by element_type_in type_in find_word element_of_type leaf_element noted approvals_member nv_row index_in index_at operand_in offset_in operation_member_in bytes_from
 nv = refl
 
 secret : SaysOnly (object (member (codes "expiration") (number (unsigned 1)) (member (codes "objectPath") (string (codes "a")) (member (codes "policyRef") (array (item (number (unsigned 128)) no_items)) (member (codes "type") (string (codes "SECRET")) no_members))))) (Secret (entity.Path (codes "a")) (128 ∷ []) None (pos 1))
-unfolding policy_of document_in only one description_member policy_member elements_in elements_from counted element_by element_type_in type_in find_word element_of_type leaf_element noted approvals_member secret_row entity_among policy_ref_in cp_hash_in expiration_in bytes_from
+unfolding policy_of document_in only one description_member policy_member elements_in elements_from counted element_by element_type_in type_in find_word element_of_type leaf_element noted approvals_member secret_row entity_in entity_at policy_ref_in cp_hash_in expiration_in bytes_from
 secret = refl
 
 signed : SaysOnly (object (member (codes "expiration") (number (unsigned 1)) (member (codes "keyPath") (string (codes "a")) (member (codes "policyRef") (array (item (number (unsigned 128)) no_items)) (member (codes "type") (string (codes "SIGNED")) no_members))))) (Signed (key.Path (codes "a")) (128 ∷ []) None (pos 1))
-unfolding policy_of document_in only one description_member policy_member elements_in elements_from counted element_by element_type_in type_in find_word element_of_type leaf_element noted approvals_member signed_row without_pem key_among policy_ref_in cp_hash_in expiration_in bytes_from
+unfolding policy_of document_in only one description_member policy_member elements_in elements_from counted element_by element_type_in type_in find_word element_of_type leaf_element noted approvals_member signed_row without_pem key_in key_at policy_ref_in cp_hash_in expiration_in bytes_from
 signed = refl
 
 authorize : SaysOnly (object (member (codes "approvedPolicy") null (member (codes "keyPath") (string (codes "a")) (member (codes "policyRef") (array (item (number (unsigned 128)) no_items)) (member (codes "type") (string (codes "AUTHORIZE")) no_members))))) (Authorize (key.Path (codes "a")) (128 ∷ []))
-unfolding policy_of document_in only one description_member policy_member elements_in elements_from counted element_by element_type_in type_in find_word element_of_type leaf_element noted approvals_member authorize_row without_pem key_among policy_ref_in bytes_from
+unfolding policy_of document_in only one description_member policy_member elements_in elements_from counted element_by element_type_in type_in find_word element_of_type leaf_element noted approvals_member authorize_row without_pem key_in key_at policy_ref_in bytes_from
 authorize = refl
 
 authorize_nv : SaysOnly (object (member (codes "nvPath") (string (codes "a")) (member (codes "type") (string (codes "AUTHORIZENV")) no_members))) (AuthorizeNv (index.Path (codes "a")))
-unfolding policy_of document_in only one description_member policy_member elements_in elements_from counted element_by element_type_in type_in find_word element_of_type leaf_element noted approvals_member authorize_nv_row index_among
+unfolding policy_of document_in only one description_member policy_member elements_in elements_from counted element_by element_type_in type_in find_word element_of_type leaf_element noted approvals_member authorize_nv_row index_in index_at
 authorize_nv = refl
 
 locality : SaysOnly (object (member (codes "locality") (number (unsigned 5)) (member (codes "type") (string (codes "LOCALITY")) no_members))) (Locality 5)
@@ -147,7 +152,7 @@ unfolding policy_of document_in only one description_member policy_member elemen
 locality = refl
 
 name_hash : SaysOnly (object (member (codes "namePaths") (array (item (string (codes "a")) no_items)) (member (codes "type") (string (codes "NAMEHASH")) no_members))) (NameHash (names.Paths (codes "a" ∷ [])))
-unfolding policy_of document_in only one description_member policy_member elements_in elements_from counted element_by element_type_in type_in find_word element_of_type leaf_element noted approvals_member name_hash_row names_among
+unfolding policy_of document_in only one description_member policy_member elements_in elements_from counted element_by element_type_in type_in find_word element_of_type leaf_element noted approvals_member name_hash_row names_in names_at
 name_hash = refl
 
 counter_timer : SaysOnly (object (member (codes "offset") (number (unsigned 1)) (member (codes "operandB") (array (item (number (unsigned 128)) no_items)) (member (codes "operation") (string (codes "NEQ")) (member (codes "type") (string (codes "COUNTERTIMER")) no_members))))) (CounterTimer (128 ∷ []) 1 Neq)
@@ -155,7 +160,7 @@ unfolding policy_of document_in only one description_member policy_member elemen
 counter_timer = refl
 
 duplication : SaysOnly (object (member (codes "includeObject") (boolean true) (member (codes "newParentPath") (string (codes "a")) (member (codes "objectName") (array (item (number (unsigned 64)) (item (number (unsigned 0)) (item (number (unsigned 0)) (item (number (unsigned 1)) no_items))))) (member (codes "type") (string (codes "DUPLICATIONSELECT")) no_members))))) (Duplication (Handle 0x40000001) (parent.Path (codes "a")) true)
-unfolding policy_of document_in only one description_member policy_member elements_in elements_from counted element_by element_type_in type_in find_word element_of_type leaf_element noted approvals_member duplication_row parent_among include_member included_object object_member bytes_from
+unfolding policy_of document_in only one description_member policy_member elements_in elements_from counted element_by element_type_in type_in find_word element_of_type leaf_element noted approvals_member duplication_row parent_in parent_at include_member included_object object_member bytes_from
 duplication = refl
 
 nv_written : SaysOnly (object (member (codes "type") (string (codes "NVWRITTEN")) (member (codes "writtenSet") (boolean false) no_members))) (NvWritten false)

@@ -4,6 +4,7 @@ mod ReadBack
 mod BytesBack
 mod WordsBack
 mod PublicsBack
+mod OneBack
 mod WishesBack
 mod FieldsBack
 mod PcrsBack

@@ -10,22 +10,25 @@ use Rattle.serde_json.specs.Data.{Data, null, boolean, number, string, array, ob
 use Rattle.serde_json.specs.Find.{get, as_array}
 use Rattle.serde_json.specs.View.{items_of}
 use Rattle.tpol_base.specs.declared.digest.Digest32.{Digest32}
+use Rattle.tpol_base.specs.Answers.{◌>>=◌}
 use Rattle.tpol_base.specs.Pcr.{is_in_mask, pcrs_of_mask}
+use Rattle.tpol_elements.proofs.OneOf.{all_of}
 use Rattle.tpol_elements.proofs.Limits.{Is32, digest-fits, localities-fits, mask-fits, unsigned-fits}
 use Rattle.tpol_json.proofs.Limits.{FitsDigest}
 use Rattle.tpol_tree.specs.Bounds.{LocalityHasBounds}
 use Rattle.tpol_write.proofs.BytesBack.{bound, unsigned-back, digest-back}
+use Rattle.tpol_write.proofs.OneBack.{one_of-back}
 use Rattle.tpol_write.proofs.WishesBack.{Leaving, all_still}
 use Rattle.tpol_json.specs.Words.{same_word}
 use Rattle.tpol_json.specs.Places.{at_member, at_item}
 use Rattle.tpol_json.specs.declared.place.Place.{Place}
-use Rattle.tpol_json.proofs.AllFound.{AllFound, all_after, all_then, all_map, all_ways, needed-fits}
+use Rattle.tpol_json.proofs.AllFound.{AllFound, all_after, all_then, all_map, needed-fits}
 use Rattle.tpol_read.proofs.PcrOrder.{put_value, with_value-is, first_no, second_no}
 use Rattle.tpol_elements.specs.Values.{digest_in, unsigned_in}
 use Rattle.tpol_elements.specs.Faults.{Found, bad}
 use Rattle.tpol_elements.specs.Members.{object_in, noted}
 use Rattle.tpol_elements.specs.Localities.{locality_in}
-use Rattle.tpol_elements.specs.Pcrs.{PcrList, has_value, with_value, new_pcr_in, pcr_member, bank_member, value_member, pcr_value_in, pcr_values_from, wish_of_values, pcr_values_in, pcr_bit, mask_from, mask_of_list, mask_in, current_pcrs_in, select_member, bank_in, only_bank, bank_or_list, banks_in, pcrs_among, pcrs_in}
+use Rattle.tpol_elements.specs.Pcrs.{PcrList, has_value, with_value, new_pcr_in, pcr_member, bank_member, value_member, pcr_value_in, pcr_values_from, wish_of_values, pcr_values_in, pcr_bit, mask_from, mask_of_list, mask_in, current_pcrs_in, select_member, bank_in, only_bank, bank_or_list, banks_in, pcrs_at, pcrs_in}
 use Rattle.tpol_elements.specs.Walks.{still}
 use Rattle.tpol_elements.specs.declared.fault.PolicyKind.{PolicyKind}
 use Rattle.tpol_elements.specs.declared.fault.PolicyKind.TheVariants.{Missing, Twice}
@@ -288,21 +291,26 @@ banks-fits : (list : Option Items) (walk : Walk) (d : Data) (place : Place) → 
 banks-fits None walk d place = bank-fits walk d place
 banks-fits (Some ds) walk d place = only_bank-fits walk ds place
 
+pcrs_at-fits : (walk : Walk) (position : ℕ) (d : Data) (place : Place) → AllFound (Leaving FitsPcrs walk) (pcrs_at walk position d place)
+unfolding pcrs_at
+pcrs_at-fits walk zero d place = wish_of_values-fits (as_array d) place walk
+pcrs_at-fits walk (suc zero) d place = all_still FitsPcrs (current_pcrs_in d place) walk (current_pcrs-fits d place)
+pcrs_at-fits walk (suc (suc position)) d place = banks-fits (as_array d) walk d place
+
 wish-fits : (d : Data) (place : Place) (walk : Walk) → AllFound (Leaving FitsPcrs walk) (pcrs_in d place walk)
-unfolding pcrs_among
+unfolding pcrs_in
 wish-fits d place walk =
-    all_ways (Leaving FitsPcrs walk) Twice ((codes "pcrs", pcr_values_in walk) ∷ (codes "currentPCRs", λ e at. still (current_pcrs_in e at) walk) ∷ (codes "currentPCRandBanks", banks_in walk) ∷ []) (Missing, at_member place (codes "pcrs")) d place (
-      λ e at. wish_of_values-fits (as_array e) at walk,
-      (
-        λ e at. all_still FitsPcrs (current_pcrs_in e at) walk (current_pcrs-fits e at),
-        (λ e at. banks-fits (as_array e) walk e at, tt),
-      ),
-    )
+    all_of (Leaving FitsPcrs walk) (codes "pcrs" ∷ codes "currentPCRs" ∷ codes "currentPCRandBanks" ∷ []) (pcrs_at walk) d place (pcrs_at-fits walk)
 
 wish-back : (wish : PcrWish) (place : Place) (walk : Walk) → FitsPcrs wish → pcrs_in (typed (codes "POLICYPCR") (pcrs_member wish ∷ [])) place walk ≡ Ok (wish, walk)
-unfolding pcrs_among
-wish-back (Values values) place walk rising = rw (values-back 0 [] values 0 (at_member place (codes "pcrs")) walk tt rising)
-wish-back (Current mask) place walk is = rw (mask-back mask (at_member place (codes "currentPCRs")) is)
+unfolding pcrs_in pcrs_at
+wish-back (Values values) place walk rising =
+    let at = at_member place (codes "pcrs") in
+    one_of-back [] (codes "currentPCRs" ∷ codes "currentPCRandBanks" ∷ []) (codes "pcrs") (pcrs_at walk) (typed (codes "POLICYPCR") (pcrs_member (Values values) ∷ [])) (list_of (map pcr_value values)) place (Values values, walk) tt refl (refl, (refl, tt))
+    (bound (pcr_values_from [] 0 (items_of (map pcr_value values)) at walk) (values, walk) (λ found. Ok (Values found.0, found.1)) (Ok (Values values, walk)) (values-back 0 [] values 0 at walk tt rising) refl)
+wish-back (Current mask) place walk is =
+    one_of-back (codes "pcrs" ∷ []) (codes "currentPCRandBanks" ∷ []) (codes "currentPCRs") (pcrs_at walk) (typed (codes "POLICYPCR") (pcrs_member (Current mask) ∷ [])) (list_of (map natural (pcrs_of_mask mask))) place (Current mask, walk) (refl, tt) refl (refl, tt)
+    (ap (λ (found : Found ℕ). still (found >>= λ m. Ok (Current m)) walk) (mask-back mask (at_member place (codes "currentPCRs")) is))
 
 -- the PCRs that a document writes read back from the one member that canonical text writes of them, which leaves no note
 pub pcrs_back : (d : Data) (place : Place) (walk : Walk) → AllFound (λ found. (found.1.left ≡ walk.left) × ((other : Place) (before : Walk) → pcrs_in (typed (codes "POLICYPCR") (pcrs_member found.0 ∷ [])) other before ≡ Ok (found.0, before))) (pcrs_in d place walk)
