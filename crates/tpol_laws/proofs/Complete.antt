@@ -46,7 +46,7 @@ use Rattle.tpol_laws.proofs.Step.{areas-same}
 
 -- ---- whether something is found
 
-some-map : {A B : Type 0} (f : A → B) (o : Option A) → is_some (option_map f o) ≡ is_some o
+pub some-map : {A B : Type 0} (f : A → B) (o : Option A) → is_some (option_map f o) ≡ is_some o
 some-map f None = refl
 some-map f (Some x) = refl
 
@@ -74,14 +74,14 @@ module _ (setup : Setup) (is : IsSetup setup) (sight : Sight) (shown : IsShown s
   same-object : (name : Name) → object_in_sight sight name ≡ object_in_sight (first_sight setup) name
   same-object name = ap (find (λ (object : ObjectEntry). is_same_name (object_name object.public) name)) shown.objects
 
-  index-there : (name : Name) → is_some (index_in_sight sight name) ≡ is_some (index_of_name (directory_of setup) name)
+  pub index-there : (name : Name) → is_some (index_in_sight sight name) ≡ is_some (index_of_name (directory_of setup) name)
   index-there name =
       same-index name ∙ sym (some-map line_of_index (index_in_sight (first_sight setup) name)) ∙ ap is_some (index_of_lines (first_sight setup) name first-is-sight)
 
-  object-there : (name : Name) → option_map line_of_object (object_in_sight sight name) ≡ object_of_name (directory_of setup) name
+  pub object-there : (name : Name) → option_map line_of_object (object_in_sight sight name) ≡ object_of_name (directory_of setup) name
   object-there name = ap (option_map line_of_object) (same-object name) ∙ object_of_lines (first_sight setup) name first-is-sight
 
-  entity-there : (name : Name) → is_some (entity_at_name sight name) ≡ is_some (entity_of_name (directory_of setup) name)
+  pub entity-there : (name : Name) → is_some (entity_at_name sight name) ≡ is_some (entity_of_name (directory_of setup) name)
   entity-there name =
       some-or (option_map (hierarchy_at sight) (hierarchy_of_name name)) (option_or (option_map object_at (object_in_sight sight name)) (option_map index_at (index_in_sight sight name)))
       ∙ ap (λ b. b || is_some (option_or (option_map object_at (object_in_sight sight name)) (option_map index_at (index_in_sight sight name)))) (some-map (hierarchy_at sight) (hierarchy_of_name name))

@@ -19,6 +19,7 @@ use Rattle.tpol_base.specs.Handle.{kind_of_handle, rh_endorsement, rh_lockout, r
 use Rattle.tpol_base.specs.Name.{is_same_name}
 use Rattle.tpol_choose.specs.Entities.{EntityAt, hierarchy_at, hierarchy_value, index_at, name_as_is, object_at, entity_of_name as entity_at_name}
 use Rattle.tpol_choose.specs.Moves.{authority_at}
+use Rattle.tpol_driver.specs.Commands.{index_authority, index_handle, or_null}
 use Rattle.tpol_goal.specs.declared.grants.Grants.{Grants}
 use Rattle.tpol_goal.specs.Entities.{entity_of_name, hierarchy_of_name, index_in_sight, index_of_name, is_hierarchy, object_in_sight, object_of_name}
 use Rattle.tpol_goal.specs.Grants.{authority, is_granted}
@@ -105,6 +106,14 @@ pub record SeenEntity (setup : Setup) (world : WorldState) (name : Name) (found 
 pub record ReadBy (world : WorldState) (handle : ℕ) (reader : EntityAt) : Type 0 where
   pub same : reader.handle ≡ handle
   pub there : entity_at world reader.handle ≡ Some reader.entity
+
+-- the handles that the driver finds
+pub index-handle : (setup : Setup) (world : WorldState) (name : Name) (entry : IndexEntry) → SeenIndex setup world name entry → index_handle (directory_of setup) name ≡ entry.public.index
+index-handle setup world name entry seen = ap (λ (o : Option DirEntry). or_null (option_map (λ (line : DirEntry). line.handle) o)) seen.listed ∙ seen.handle
+
+pub reader-handle : (setup : Setup) (world : WorldState) (name : Name) (entry : IndexEntry) → SeenIndex setup world name entry → (grants : Grants) → index_authority (directory_of setup) grants name ≡ authority grants entry.public.index entry.public.attributes
+reader-handle setup world name entry seen grants =
+    ap (λ (o : Option DirEntry). or_null (option_map (λ (line : DirEntry). authority grants line.handle line.attributes) o)) seen.listed ∙ seen.authority grants
 
 keys-areas : (indices : List IndexEntry) → map (λ (e : IndexEntry). e.public.index) indices ≡ map (λ (p : NvPublic). p.index) (map area indices)
 keys-areas [] = refl

@@ -39,6 +39,6 @@
 mod laws;
 
 pub use laws::{
-    a_path_that_can_is_complete, a_path_that_can_is_served, a_run_ends, a_run_goes_on,
+    a_blocked_path_fails, a_path_that_can_is_complete, a_path_that_can_is_served, a_run_ends, a_run_goes_on,
     session_digest_is_compiled,
 };
