@@ -1,14 +1,13 @@
 -- A run that succeeds had a path that nothing blocked, or an HMAC of it was right by chance: each of its commands
 -- was carried out, one after the other.
-use Rattle.std.proofs.Common.{◌≡◌, ◌≤◌, ◌⊎◌, inl, inr, ℕ, zero, suc, ◌+◌, ◌&&◌, Bool, true, false, not, List, [], ◌∷◌, length, replicate, refl, ap, sym, subst, ◌∙◌, arith}
-use Rattle.std.specs.Prelude.{Option, Some, None, slice_get}
+use Rattle.std.proofs.Common.{◌≡◌, ◌⊎◌, inl, inr, ℕ, zero, suc, ◌+◌, Bool, true, false, not, List, [], ◌∷◌, refl, ap, sym, subst, ◌∙◌}
+use Rattle.std.specs.Prelude.{Some, None, slice_get}
 use Rattle.std.specs.List.{list_all}
 use Rattle.std.proofs.lemmas.Bool.{false≢true}
 use Rattle.std.proofs.lemmas.Option.{none-some}
 use Rattle.tpm_bindings.specs.State.{SessionState}
 use Rattle.tpm_engine.specs.declared.event.Event.{Event}
 use Rattle.tpm_engine.specs.Sights.{sight_after}
-use Rattle.tpm_engine.specs.Views.{session_state}
 use Rattle.tpm_rules.specs.Rule.{or_else}
 use Rattle.tpol_base.specs.declared.digest.Digest32.{Digest32}
 use Rattle.tpol_base.specs.declared.name.Name.{Name}
@@ -18,24 +17,20 @@ use Rattle.tpol_choose.specs.Facts.{fresh_session, session_after}
 use Rattle.tpol_choose.specs.Goals.{goal_block}
 use Rattle.tpol_choose.specs.Moves.{move_block}
 use Rattle.tpol_digest.specs.Laws.{MoveHasBounds}
-use Rattle.tpol_driver.specs.declared.end.End.TheVariants as ends
 use Rattle.tpol_driver.specs.declared.session.Session.{Session}
-use Rattle.tpol_driver.specs.Driving.{Over, is_verification, sends}
+use Rattle.tpol_driver.specs.Driving.{is_verification}
 use Rattle.tpol_driver.specs.Plans.{is_complete, is_known_move}
 use Rattle.tpol_driver.specs.States.{is_over}
 use Rattle.tpol_name.specs.declared.entries.DirEntry.{DirEntry}
 use Rattle.tpol_name.specs.Directories.{directory_of}
 use Rattle.tpol_tree.specs.declared.path.Move.{Move}
 use Rattle.tpol_tree.specs.declared.path.Move.TheVariants.{Assert, Or, Approve, ApproveNv}
-use Rattle.tpol_wire.specs.declared.ticket.Ticket.{Ticket}
-use Rattle.tpol_laws.specs.Acts.{Course, Run, Turn, after_act, after_acts, begun, succeeds}
+use Rattle.tpol_laws.specs.Acts.{Run, Turn, after_act, after_acts, begun, succeeds}
 use Rattle.tpol_laws.specs.Chances.{HasShortOffset, IsByChance}
-use Rattle.tpol_laws.specs.Others.{place_of}
 use Rattle.tpol_laws.specs.Runs.{IsBegun, IsRun}
 use Rattle.tpol_laws.proofs.BlockedSteps.{Authorized, Goes, Verified, authorize-goes, goal-goes, plain-goes, start-goes, verify-goes, whole-open}
-use Rattle.tpol_laws.proofs.BlockedTurns.{HasChance, IsCarriedOut, IsServedAt, SucceedsAfter, chance-later, chance-now, next-turn, not-yet, on_path}
+use Rattle.tpol_laws.proofs.BlockedTurns.{HasChance, SucceedsAfter, chance-later, chance-now, next-turn, not-yet, on_path}
 use Rattle.tpol_laws.proofs.Finds.{all-at, both}
-use Rattle.tpol_laws.proofs.Moved.{Moved}
 use Rattle.tpol_laws.proofs.Served.{Ahead, Begun, all-ahead, has-room, next-ahead, next-at, start-moved}
 use Rattle.tpol_laws.proofs.Standing.{Stands, chooser_of, judged_after}
 use Rattle.tpol_laws.proofs.Step.{known-at}

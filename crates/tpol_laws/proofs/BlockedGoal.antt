@@ -1,5 +1,5 @@
 -- A goal that the machine serves nothing blocks for a chooser, or its HMAC is right by chance.
-use Rattle.std.proofs.Common.{◌≡◌, ◌≢◌, ◌≤◌, ◌⊎◌, inl, inr, ℕ, Bool, true, false, List, [], ◌∷◌, length, map, nat_eq, if◌then◌else◌, refl, ap, sym, subst, ◌∙◌}
+use Rattle.std.proofs.Common.{◌≡◌, ◌≢◌, ◌≤◌, ◌⊎◌, inl, inr, ℕ, true, false, List, [], ◌∷◌, length, map, nat_eq, if◌then◌else◌, refl, ap, sym, subst, ◌∙◌}
 use Rattle.std.specs.Prelude.{Option, Some, None, find, option_map}
 use Rattle.std.specs.Option.{option_and_then, option_map_or}
 use Rattle.std.specs.List.{Contains}
@@ -7,7 +7,7 @@ use Rattle.std.proofs.lemmas.Bool.{eq-eqb, false≢true}
 use Rattle.tpm_bindings.specs.Facts.{last_auth}
 use Rattle.tpm_bindings.specs.State.{SessionState}
 use Rattle.tpm_engine.specs.Answers.{first_stop}
-use Rattle.tpm_engine.specs.Authorization.{area_stop, authorization_stop, authorized_entity, broken_check, check_stop, entity_stop, field_of, number_of_command, occasion_of, password_stop, policy_stop}
+use Rattle.tpm_engine.specs.Authorization.{area_stop, authorization_stop, broken_check, check_stop, entity_stop, field_of, number_of_command, occasion_of, password_stop, policy_stop}
 use Rattle.tpm_engine.specs.Stops.{denies, refuses}
 use Rattle.tpm_engine.specs.Tables.{TableState}
 use Rattle.tpm_engine.proofs.Stopping.{Found, map-none, or_else-none, unless-none}
@@ -28,7 +28,6 @@ use Rattle.tpol_base.specs.declared.check.Check.{Check}
 use Rattle.tpol_base.specs.declared.check.Check.TheVariants.{AuthValue}
 use Rattle.tpol_base.specs.declared.command_code.CommandCode.{CommandCode}
 use Rattle.tpol_base.specs.declared.command_code.CommandCode.TheVariants as codes
-use Rattle.tpol_base.specs.declared.digest.Digest32.{Digest32}
 use Rattle.tpol_base.specs.declared.name.Name.{Name}
 use Rattle.tpol_base.specs.declared.name.Name.TheVariants.{Empty, Handle, Hash}
 use Rattle.tpol_base.specs.CommandCode.{number_of_code}
@@ -64,13 +63,13 @@ use Rattle.tpol_laws.proofs.Answered.{own-passed}
 use Rattle.tpol_laws.proofs.Binds.{AreAlike}
 use Rattle.tpol_laws.proofs.BlockedMacs.{IsAlike, field-judged}
 use Rattle.tpol_laws.proofs.BlockedMoves.{authorized}
-use Rattle.tpol_laws.proofs.GoalAt.{FoundAmong, IsGoalAt, duplicate-fits, found-place, goal-at, hmac-fits, increment-fits, judged_object, parent-at, read-fits, unseal-fits, write-fits}
+use Rattle.tpol_laws.proofs.GoalAt.{IsGoalAt, duplicate-fits, found-place, hmac-fits, increment-fits, judged_object, parent-at, read-fits, unseal-fits, write-fits}
 use Rattle.tpol_laws.proofs.GoalChecks.{auth-alike, before-alike, is-proved}
 use Rattle.tpol_laws.proofs.GoalEntities.{IsKept, find-flip, index-there, kept as kept-of, object-there, same-indices}
 use Rattle.tpol_laws.proofs.GoalKeys.{same-bytes}
 use Rattle.tpol_laws.proofs.GoalMacs.{asks}
 use Rattle.tpol_laws.proofs.GoalShape.{shape-area, shape-code, shape-entity, shape-rule}
-use Rattle.tpol_laws.proofs.GoalUses.{area-fits, no-password, use-same}
+use Rattle.tpol_laws.proofs.GoalUses.{no-password, use-same}
 use Rattle.tpol_laws.proofs.Named.{mapped}
 use Rattle.tpol_laws.proofs.Seen.{name-as-is}
 

@@ -1,6 +1,6 @@
 -- What the machine carries out nothing blocks for a chooser: each kind of move, by its command. Where the two
 -- differ, a signature is right by chance.
-use Rattle.std.proofs.Common.{◌≡◌, ◌⊎◌, inl, inr, ℕ, ◌+◌, Bool, true, false, [], ◌∷◌, List, refl, ap, sym, subst, ◌∙◌}
+use Rattle.std.proofs.Common.{◌≡◌, ◌⊎◌, inl, inr, ℕ, ◌+◌, Bool, true, false, [], List, refl, ap, sym, subst, ◌∙◌}
 use Rattle.std.specs.Prelude.{ℤ, Option, Some, None, is_some, option_map, slice_index, unwrap_or}
 use Rattle.std.specs.Option.{option_map_or}
 use Rattle.std.proofs.lemmas.Bool.{false≢true}
@@ -12,10 +12,10 @@ use Rattle.tpm_engine.specs.Authorization.{authorization_stop, number_of_command
 use Rattle.tpm_engine.specs.PolicyCommands.{policy_rule, verified_digest}
 use Rattle.tpm_engine.specs.Stops.{handles_stop, refuses, room_stop, session_stop}
 use Rattle.tpm_engine.specs.Tables.{TableState}
-use Rattle.tpm_engine.proofs.Stopping.{Found, found, map-none, or_else-none, unless-none}
+use Rattle.tpm_engine.proofs.Stopping.{found, map-none, or_else-none, unless-none}
 use Rattle.tpm_policy.specs.Judgments.{is_approval_ticket, is_signature}
 use Rattle.tpm_pcr.specs.Pcrs.{selection_digest}
-use Rattle.tpm_rules.specs.Entity.{Entity, Index, Object}
+use Rattle.tpm_rules.specs.Entity.{Entity}
 use Rattle.tpm_rules.specs.NvAuthority.{nv_authority_rule}
 use Rattle.tpm_rules.specs.Objects.{signing_key_rule, verify_signature_rule}
 use Rattle.tpm_rules.specs.Password.{password_denial}
@@ -44,7 +44,7 @@ use Rattle.tpol_choose.specs.Entities.{EntityAt, entity_of_name as entity_at_nam
 use Rattle.tpol_choose.specs.Keys.{is_same_block}
 use Rattle.tpol_choose.specs.Moves.{answered, assertion_block, code_of_denial, index_block, move_block, password_rule, reader_of, reading_rule, secret_block, signed_block, signing_block}
 use Rattle.tpol_digest.proofs.Digests.{same_digest as digest-same}
-use Rattle.tpol_driver.specs.Commands.{command_of_assertion, command_of_move, index_authority, index_handle as handle_of_index, key_of, optional_bytes, or_null, password_area}
+use Rattle.tpol_driver.specs.Commands.{command_of_assertion, command_of_move, key_of, optional_bytes, or_null, password_area}
 use Rattle.tpol_driver.specs.Driving.{is_verification}
 use Rattle.tpol_driver.specs.Plans.{is_granted_key, is_known_assertion, is_known_move}
 use Rattle.tpol_goal.specs.declared.goal.Goal.{Goal}

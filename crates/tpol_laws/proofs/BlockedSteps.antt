@@ -1,19 +1,15 @@
 -- What the machine carries out of a run nothing blocks for its chooser: the start, a move, an approval, the goal.
-use Rattle.std.proofs.Common.{◌≡◌, ◌≤◌, ◌<◌, ◌⊎◌, inl, inr, ℕ, zero, suc, ◌+◌, ◌&&◌, Bool, true, false, not, List, [], ◌∷◌, length, nat_eq, replicate, refl, ap, sym, subst, ◌∙◌, arith, zero-add}
-use Rattle.std.specs.Prelude.{Option, Some, None, is_some, option_map, slice_get, if◌then◌else◌, ⊤}
-use Rattle.std.specs.List.{list_all}
+use Rattle.std.proofs.Common.{◌≡◌, ◌<◌, ◌⊎◌, inl, inr, ℕ, zero, suc, ◌+◌, Bool, true, false, not, List, length, nat_eq, refl, ap, sym, subst, ◌∙◌, arith}
+use Rattle.std.specs.Prelude.{Option, Some, None, is_some, option_map, slice_get, if◌then◌else◌}
 use Rattle.std.specs.Option.{option_or}
 use Rattle.std.proofs.lemmas.Bool.{false≢true}
-use Rattle.std.proofs.lemmas.Option.{none-some, same_Some, slice_get_within}
 use Rattle.tpm_bindings.specs.State.{SessionState}
 use Rattle.tpm_engine.specs.declared.event.Event.{Event}
-use Rattle.tpm_engine.specs.declared.stop.Stop.{Stop}
 use Rattle.tpm_engine.specs.Answers.{first_stop, own_rule}
-use Rattle.tpm_engine.specs.Events.{event_of, is_success}
+use Rattle.tpm_engine.specs.Events.{is_success}
 use Rattle.tpm_engine.specs.SessionCommands.{free_slot, start_rule}
 use Rattle.tpm_engine.specs.Sights.{sight_after}
-use Rattle.tpm_engine.specs.Tables.{TableState}
-use Rattle.tpm_engine.specs.Views.{next_number, session_state, view_of, world_at}
+use Rattle.tpm_engine.specs.Views.{session_state, view_of, world_at}
 use Rattle.tpm_engine.proofs.Stopping.{found, unless-none}
 use Rattle.tpm_rules.specs.PolicyAuthorize.{approval_hash}
 use Rattle.tpm_rules.specs.Rule.{or_else, unless}
@@ -23,23 +19,19 @@ use Rattle.tpol_base.specs.declared.command_code.CommandCode.TheVariants as code
 use Rattle.tpol_base.specs.declared.digest.Digest32.{Digest32}
 use Rattle.tpol_base.specs.declared.name.Name.{Name}
 use Rattle.tpol_base.specs.CommandCode.{number_of_code}
-use Rattle.tpol_choose.specs.declared.block.Block.{Block}
-use Rattle.tpol_choose.specs.declared.block.Why.{Why}
 use Rattle.tpol_choose.specs.declared.block.Why.TheVariants.{NoSession, Outside}
-use Rattle.tpol_choose.specs.Blocks.{block_of, first_block, moves_block, whole_block}
+use Rattle.tpol_choose.specs.Blocks.{block_of, whole_block}
 use Rattle.tpol_choose.specs.Clients.{Client}
-use Rattle.tpol_choose.specs.Facts.{fresh_session, session_after}
-use Rattle.tpol_choose.specs.Goals.{goal_block, judged}
+use Rattle.tpol_choose.specs.Facts.{session_after}
+use Rattle.tpol_choose.specs.Goals.{goal_block}
 use Rattle.tpol_choose.specs.Moves.{answered, approve_block, is_approved_by, move_block}
 use Rattle.tpol_digest.specs.Laws.{MoveHasBounds}
-use Rattle.tpol_driver.specs.declared.end.End.{End}
-use Rattle.tpol_driver.specs.declared.end.End.TheVariants as ends
 use Rattle.tpol_driver.specs.declared.session.Session.{Session}
 use Rattle.tpol_driver.specs.Answers.{answer_of}
 use Rattle.tpol_driver.specs.Commands.{command_of_move, or_null, start_command}
-use Rattle.tpol_driver.specs.Driving.{Closing, Moving, Over, Standing, Starting, after_goal, goal_heard, goes_on, is_verification, move_heard, next_command, sends, start_heard}
-use Rattle.tpol_driver.specs.GoalUse.{auth_of_path, goal_command}
-use Rattle.tpol_driver.specs.Plans.{is_complete, is_known_move}
+use Rattle.tpol_driver.specs.Driving.{after_goal, goal_heard, is_verification, next_command, start_heard}
+use Rattle.tpol_driver.specs.GoalUse.{goal_command}
+use Rattle.tpol_driver.specs.Plans.{is_known_move}
 use Rattle.tpol_driver.specs.States.{is_over}
 use Rattle.tpol_goal.specs.Entities.{object_in_sight}
 use Rattle.tpol_goal.specs.Goals.{entity_of_goal}
@@ -47,28 +39,23 @@ use Rattle.tpol_name.specs.declared.entries.DirEntry.{DirEntry}
 use Rattle.tpol_name.specs.declared.entries.ObjectEntry.{ObjectEntry}
 use Rattle.tpol_name.specs.Directories.{directory_of, line_of_object}
 use Rattle.tpol_tree.specs.declared.path.Move.{Move}
-use Rattle.tpol_tree.specs.declared.path.Move.TheVariants.{Assert, Or, Approve, ApproveNv}
+use Rattle.tpol_tree.specs.declared.path.Move.TheVariants.{Approve}
 use Rattle.tpol_wire.specs.declared.auth_area.ReplyAuth.{ReplyAuth}
 use Rattle.tpol_wire.specs.declared.command.Command.{Command}
 use Rattle.tpol_wire.specs.declared.command.Command.TheVariants as commands
 use Rattle.tpol_wire.specs.declared.reply.Reply.{Reply}
-use Rattle.tpol_wire.specs.declared.reply.Reply.TheVariants as replies
 use Rattle.tpol_wire.specs.declared.ticket.Ticket.{Ticket}
-use Rattle.tpol_wire.specs.Commands.{FitsCommand, code_of_command, spelling}
-use Rattle.tpol_wire.specs.Replies.{spell_reply}
+use Rattle.tpol_wire.specs.Commands.{FitsCommand, code_of_command}
 use Rattle.tpol_wire.specs.ReplyReading.{reply_reading}
-use Rattle.tpol_laws.specs.Acts.{Course, Run, Turn, after_act, after_acts, answer_in, begun, event_in, succeeds}
+use Rattle.tpol_laws.specs.Acts.{Run, Turn, after_act, after_acts, answer_in, begun, succeeds}
 use Rattle.tpol_laws.specs.Chances.{ChanceOf, HasShortOffset, IsByChance, IsProvedByChance, SignsByChance}
-use Rattle.tpol_laws.specs.Others.{place_of}
 use Rattle.tpol_laws.specs.Runs.{IsBegun, IsRun}
-use Rattle.tpol_laws.proofs.Answered.{on-answer, own-passed, read-back, refusal-read, stop-code, stop-fails}
-use Rattle.tpol_laws.proofs.Codes.{Coded, HasCode, IsCode, first-coded, goal-coded, policy-own-coded, start-coded, verify-coded}
-use Rattle.tpol_laws.proofs.Finds.{all-at, both}
+use Rattle.tpol_laws.proofs.Answered.{own-passed, refusal-read}
+use Rattle.tpol_laws.proofs.Codes.{HasCode, goal-coded, policy-own-coded, start-coded, verify-coded}
 use Rattle.tpol_laws.proofs.Fit.{fits-start, fits-verify, object-handle, value-short}
-use Rattle.tpol_laws.proofs.Moved.{Moved, after_sent, chooser-now, move-sends, plain-moved, stands-live, turn-sends}
-use Rattle.tpol_laws.proofs.Served.{Ahead, Begun, all-ahead, has-room, next-ahead, next-at, start-moved}
+use Rattle.tpol_laws.proofs.Moved.{Moved, after_sent, chooser-now, plain-moved, stands-live, turn-sends}
 use Rattle.tpol_laws.proofs.Standing.{Stands, chooser_of, judged_after}
-use Rattle.tpol_laws.proofs.Step.{is-of, known-at}
+use Rattle.tpol_laws.proofs.Step.{is-of}
 use Rattle.std.proofs.lemmas.Bool.Decides.{nat_tests}
 use Rattle.tpm_bindings.specs.Facts.{last_auth}
 use Rattle.tpm_world.specs.VerifySignature as verification
@@ -77,7 +64,7 @@ use Rattle.tpm_rules.specs.Objects.{verify_signature_rule}
 use Rattle.tpol_laws.proofs.Approved.{Ticketed, authorized-moved, verified-with, verify_of}
 use Rattle.tpol_laws.proofs.BlockedGoal.{goal-fits, goal-found, goal-opens}
 use Rattle.tpol_laws.proofs.BlockedMoves.{authorize-holds, move-opens, verify-holds}
-use Rattle.tpol_laws.proofs.BlockedTurns.{SucceedsAfter, HasFailed, carried-unstopped, move-unstopped, not-yet, on_path, unstopped-by}
+use Rattle.tpol_laws.proofs.BlockedTurns.{SucceedsAfter, HasFailed, carried-unstopped, move-unstopped, on_path, unstopped-by}
 use Rattle.tpol_laws.proofs.Complete.{IsShown, object-there, some-map}
 use Rattle.tpol_laws.proofs.Goal.{auth-kept}
 use Rattle.tpol_laws.proofs.GoalAt.{goal-at}

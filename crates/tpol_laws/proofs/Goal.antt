@@ -1,12 +1,10 @@
 -- Before its goal, which nothing blocks, a run is served: the machine stops nothing of the goal's command, and the
 -- run finds the reply's authorization right.
-use Rattle.std.proofs.Common.{◌≡◌, ◌≤◌, ◌<◌, ℕ, ◌+◌, ◌||◌, ◌++◌, true, false, List, [], length, map, nat_eq, if◌then◌else◌, refl, ap, sym, subst, ◌∙◌, arith}
+use Rattle.std.proofs.Common.{◌≡◌, ◌≤◌, ℕ, ◌++◌, true, List, [], length, map, if◌then◌else◌, refl, ap, sym, subst, ◌∙◌, arith}
 use Rattle.std.specs.Prelude.{Option, Some, None, option_map}
 use Rattle.std.specs.Int.{to_be_bytes, w32}
 use Rattle.std.specs.List.{flat_map}
 use Rattle.std.specs.Option.{option_and_then}
-use Rattle.std.proofs.lemmas.Bool.{eq-eqb, false≢true}
-use Rattle.std.proofs.lemmas.Bool.Decides.{nat_tests}
 use Rattle.std.proofs.lemmas.Option.{none-some}
 use Rattle.tpm_auth.specs.SessionMacs.{reply_mac}
 use Rattle.tpm_bindings.specs.Facts.{last_auth}
@@ -23,25 +21,24 @@ use Rattle.tpm_engine.proofs.Stopping.{Asked, first-asked, judged as stopped_by,
 use Rattle.tpm_rules.specs.declared.checks.Use.{Use}
 use Rattle.tpm_rules.specs.AuthValue.{proves}
 use Rattle.tpm_rules.specs.Checks.{first_broken_check}
-use Rattle.tpm_rules.specs.Entity.{Entity, auth_policy_of, auth_value_of, is_duplicate, is_policy_available, written_state}
+use Rattle.tpm_rules.specs.Entity.{Entity, auth_policy_of, auth_value_of, is_policy_available}
 use Rattle.tpm_rules.specs.Rule.{unless}
 use Rattle.tpm_session.specs.Slots.{IsSlotHandle, bits_of, free_count, state_at}
 use Rattle.tpm_world.specs.Entities.{entity_at}
-use Rattle.tpm_world.specs.Hashes.{cp_hash, joined_names, name_hash, nonce_of_event, rp_hash}
+use Rattle.tpm_world.specs.Hashes.{cp_hash, joined_names, nonce_of_event, rp_hash}
 use Rattle.tpm_world.specs.Plain.{plain_reply}
 use Rattle.tpm_world.specs.World.{sight_of}
 use Rattle.tpol_base.specs.declared.command_code.CommandCode.{CommandCode}
 use Rattle.tpol_base.specs.declared.digest.Digest32.{Digest32}
 use Rattle.tpol_base.specs.CommandCode.{number_of_code}
 use Rattle.tpol_base.specs.Digest.{digest_of_bytes}
-use Rattle.tpol_base.specs.Handle.{is_policy_session, rs_pw}
 use Rattle.tpol_base.specs.Name.{name_bytes}
 use Rattle.tpol_base.specs.ResponseCode.{rc_auth_unavailable}
 use Rattle.tpol_choose.specs.declared.block.Why.TheVariants.{Deferred, GoalRule}
 use Rattle.tpol_choose.specs.Blocks.{client_of}
 use Rattle.tpol_choose.specs.Clients.{Client}
 use Rattle.tpol_choose.specs.Facts.{fresh_session}
-use Rattle.tpol_choose.specs.Goals.{Judged, authorization_block, broken_check as planned_check, goal_block, goal_cp_hash as chosen_cp_hash, goal_use, judged, judged_block, name_list, own_block, proves as is_planned}
+use Rattle.tpol_choose.specs.Goals.{Judged, authorization_block, broken_check as planned_check, goal_block, goal_use, judged, judged_block, own_block, proves as is_planned}
 use Rattle.tpol_choose.specs.Moves.{rc_of}
 use Rattle.tpol_driver.specs.declared.end.End.TheVariants as ends
 use Rattle.tpol_driver.specs.declared.end.Stage.TheVariants as stages
@@ -50,7 +47,7 @@ use Rattle.tpol_driver.specs.declared.session.Session.{Session}
 use Rattle.tpol_driver.specs.Answers.{answer_of, answer_of_reply}
 use Rattle.tpol_driver.specs.Commands.{caller_nonce}
 use Rattle.tpol_driver.specs.Driving.{goal_done, goal_heard}
-use Rattle.tpol_driver.specs.GoalUse.{area_of_goal, auth_of_path, bytes_of_reply, command_of_goal, goal_command, goal_cp_hash, goal_hmac, goal_rp_hash, goal_secret, hmac_by, mac_key, right_hmac}
+use Rattle.tpol_driver.specs.GoalUse.{area_of_goal, auth_of_path, bytes_of_reply, command_of_goal, goal_command, goal_cp_hash, goal_hmac, goal_rp_hash, goal_secret, mac_key, right_hmac}
 use Rattle.tpol_goal.specs.Goals.{IsGoal, IsGoalAmong, code_of_goal, entity_of_goal, handles_of_goal, names_of_goal}
 use Rattle.tpol_hash.specs.Sha256.{sha256_digest}
 use Rattle.tpol_name.specs.declared.entries.DirEntry.{DirEntry}
@@ -64,7 +61,7 @@ use Rattle.tpol_wire.specs.declared.auth_area.ReplyAuth.{ReplyAuth}
 use Rattle.tpol_wire.specs.declared.command.Command.{Command}
 use Rattle.tpol_wire.specs.declared.reply.Reply.{Reply}
 use Rattle.tpol_wire.specs.declared.reply.Reply.TheVariants as replies
-use Rattle.tpol_wire.specs.Authorizations.{AreaFits, ReplyAuthFits}
+use Rattle.tpol_wire.specs.Authorizations.{ReplyAuthFits}
 use Rattle.tpol_wire.specs.Commands.{FitsCommand, code_of_command, spell_parameters}
 use Rattle.tpol_wire.specs.Replies.{PartsAnswer, parts_of, spell_reply}
 use Rattle.tpol_wire.specs.ReplyReading.{reply_reading}
@@ -72,12 +69,12 @@ use Rattle.tpol_wire.proofs.ReplyLaws.{reply_read}
 use Rattle.tpol_laws.specs.Acts.{Run}
 use Rattle.tpol_laws.specs.Runs.{IsBegun}
 use Rattle.tpol_laws.proofs.Binds.{AreAlike}
-use Rattle.tpol_laws.proofs.Fit.{session-handle, value-short}
+use Rattle.tpol_laws.proofs.Fit.{value-short}
 use Rattle.tpol_laws.proofs.GoalAt.{IsGoalAt, IsNameListed, goal-at}
 use Rattle.tpol_laws.proofs.GoalChecks.{auth-alike, is-proved, no-check}
 use Rattle.tpol_laws.proofs.GoalEntities.{IsKept}
-use Rattle.tpol_laws.proofs.GoalMacs.{asks, auth-along, field-right, hmac-short, reply-right, right-area, unless-short}
-use Rattle.tpol_laws.proofs.GoalShape.{shape-apart, shape-area, shape-code, shape-cp_hash, shape-entity, shape-handles, shape-name_hash, shape-parameters, shape-reply, shape-rule}
+use Rattle.tpol_laws.proofs.GoalMacs.{asks, auth-along, field-right, reply-right, right-area, unless-short}
+use Rattle.tpol_laws.proofs.GoalShape.{shape-apart, shape-area, shape-code, shape-cp_hash, shape-entity, shape-handles, shape-parameters, shape-reply, shape-rule}
 use Rattle.tpol_laws.proofs.GoalUses.{area-fits, no-password, use-same}
 use Rattle.tpol_laws.proofs.GoalWorld.{is-kept}
 use Rattle.tpol_laws.proofs.Heard.{IsAcceptance}
