@@ -58,7 +58,8 @@ use Rattle.tpol_wire.specs.declared.auth_area.AuthArea.{AuthArea}
 use Rattle.tpol_wire.specs.declared.command.Command.{Command}
 use Rattle.tpol_wire.specs.Authorizations.{AreaFits}
 use Rattle.tpol_wire.specs.Commands.{FitsCommand}
-use Rattle.tpol_laws.specs.Chances.{HasShortOffset, IsProvedByChance}
+use Rattle.tpol_laws.specs.Chances.{IsProvedByChance}
+use Rattle.tpol_laws.specs.Runs.{HasShortOffset}
 use Rattle.tpol_laws.proofs.Answered.{own-passed}
 use Rattle.tpol_laws.proofs.Binds.{AreAlike}
 use Rattle.tpol_laws.proofs.BlockedMacs.{IsAlike, field-judged}

@@ -84,10 +84,10 @@ authorized tables locality command none =
     (or_else-none (authorization_stop tables locality command) (room_stop tables command) rest).0
 
 -- its password is not denied
-undenied : (tables : TableState) (locality : ℕ) (command : Command) (grants : Grants) (handle : ℕ) (entity : Entity) (code : CommandCode)
+undenied : (tables : TableState) (locality : ℕ) (command : Command) (grants : Grants) (handle : ℕ) (entity : Entity)
     → area_of command ≡ Some (password_area grants handle) → slice_index (handles_of command) 0 ≡ handle → entity_at tables.world handle ≡ Some entity
     → authorization_stop tables locality command ≡ None → password_denial entity (number_of_command command) (secret_of grants.secrets handle) ≡ None
-undenied tables locality command grants handle entity code has first there none =
+undenied tables locality command grants handle entity has first there none =
     map-none _ (password_denial entity (number_of_command command) (secret_of grants.secrets handle)) (sym (password-stopped tables locality command grants handle entity has first there) ∙ none)
 
 -- ---- the commands on an index
@@ -138,9 +138,9 @@ module _ (setup : Setup) (is : IsSetup setup) (tables : TableState) (of : IsOf s
       let reader = reader_of (client_on tables.world free grants goal locality) entry in
       let read = read-by setup is tables.world of free grants name entry seen in
       let there = ap (entity_at tables.world) (sym read.same) ∙ read.there in
-      let undenied_now = undenied tables locality command grants (authority grants entry.public.index entry.public.attributes) reader.entity code area handle there (authorized tables locality command first) in
+      let right = undenied tables locality command grants (authority grants entry.public.index entry.public.attributes) reader.entity area handle there (authorized tables locality command first) in
       reading-by tables.world grants code entry rule (authority grants entry.public.index entry.public.attributes) (reader_of (client_on tables.world free grants goal locality) entry) read
-      (subst (λ (n : ℕ). password_denial reader.entity n (secret_of grants.secrets (authority grants entry.public.index entry.public.attributes)) ≡ None) same undenied_now) held
+      (subst (λ (n : ℕ). password_denial reader.entity n (secret_of grants.secrets (authority grants entry.public.index entry.public.attributes)) ≡ None) same right) held
 
   nv-opens : (name : Name) (operand : List ℕ) (offset : ℕ) (operation : Compare) → is_some (index_of_name (directory_of setup) name) ≡ true
       → first_stop tables locality (command_of_assertion (directory_of setup) grants (record { handle = own; nonce = nonce }) (assertions.Nv name operand offset operation)) ≡ None
@@ -186,7 +186,7 @@ module _ (setup : Setup) (is : IsSetup setup) (tables : TableState) (of : IsOf s
       let seen = see-entity setup is tables.world of free name it.value it.is in
       let command = commands.PolicySecret entity.handle own (password_area grants entity.handle) nonce.bytes cp_hash policy_ref expiration in
       let now = subst (λ (n : ℕ). first_stop tables locality (commands.PolicySecret n own (password_area grants n) nonce.bytes cp_hash policy_ref expiration) ≡ None) (ap or_null seen.listed) first in
-      let right = undenied tables locality command grants entity.handle entity.entity codes.PolicySecret refl refl seen.there (authorized tables locality command now) in
+      let right = undenied tables locality command grants entity.handle entity.entity refl refl seen.there (authorized tables locality command now) in
       let rule = sym (secret-alike kept chosen alike nonce owns tables.world.time cp_hash expiration) ∙ rule-held command 2 refl now in
       ap (secret_block (client_on tables.world free grants goal locality) chosen cp_hash expiration) it.is
       ∙ ap answered (ap (λ denial. or_else (option_map (code_of_denial entity.entity codes.PolicySecret) denial) (policy_secret_rule chosen tables.world.time chosen.nonce.bytes cp_hash expiration)) right ∙ rule)

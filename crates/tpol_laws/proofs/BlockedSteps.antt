@@ -48,8 +48,8 @@ use Rattle.tpol_wire.specs.declared.ticket.Ticket.{Ticket}
 use Rattle.tpol_wire.specs.Commands.{FitsCommand, code_of_command}
 use Rattle.tpol_wire.specs.ReplyReading.{reply_reading}
 use Rattle.tpol_laws.specs.Acts.{Run, Turn, after_act, after_acts, answer_in, begun, succeeds}
-use Rattle.tpol_laws.specs.Chances.{ChanceOf, HasShortOffset, IsByChance, IsProvedByChance, SignsByChance}
-use Rattle.tpol_laws.specs.Runs.{IsBegun, IsRun}
+use Rattle.tpol_laws.specs.Chances.{ChanceOf, IsByChance, IsProvedByChance, SignsByChance}
+use Rattle.tpol_laws.specs.Runs.{HasShortOffset, IsBegun, IsRun}
 use Rattle.tpol_laws.proofs.Answered.{own-passed, refusal-read}
 use Rattle.tpol_laws.proofs.Codes.{HasCode, goal-coded, policy-own-coded, start-coded, verify-coded}
 use Rattle.tpol_laws.proofs.Fit.{fits-start, fits-verify, object-handle, value-short}

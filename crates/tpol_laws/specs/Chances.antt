@@ -1,6 +1,6 @@
 -- HMACs that are one by chance: a run's and the machine's, though the blocks of their keys differ, or the Names
 -- that they are over.
-use Rattle.std.specs.Prelude.{◌≡◌, ◌≢◌, ◌⊎◌, ◌<◌, ◌^◌, ⊤, ℕ, false, List, [], map, Option, Some, None, slice_get}
+use Rattle.std.specs.Prelude.{◌≡◌, ◌≢◌, ◌⊎◌, ℕ, false, List, [], map, Option, Some, None, slice_get}
 use Rattle.tpm_auth.specs.SessionMacs.{command_mac}
 use Rattle.tpm_auth.specs.Signatures.{signature_of, signed_hash}
 use Rattle.tpm_engine.specs.declared.event.Event.{Event}
@@ -17,8 +17,6 @@ use Rattle.tpol_driver.specs.declared.session.Session.{Session}
 use Rattle.tpol_driver.specs.Commands.{caller_nonce, command_of_move, key_of, optional_bytes}
 use Rattle.tpol_driver.specs.Driving.{Closing, Moving, Over, Standing, Starting}
 use Rattle.tpol_driver.specs.GoalUse.{area_of_goal, goal_command, goal_cp_hash, goal_hmac, goal_secret}
-use Rattle.tpol_goal.specs.declared.goal.Goal.{Goal}
-use Rattle.tpol_goal.specs.declared.goal.Goal.TheVariants.{Unseal, Hmac, NvRead, NvWrite, NvIncrement, Duplicate}
 use Rattle.tpol_goal.specs.declared.grants.Grants.{Grants}
 use Rattle.tpol_goal.specs.Goals.{entity_of_goal, handles_of_goal, names_of_goal}
 use Rattle.tpol_name.specs.declared.entries.ObjectEntry.{ObjectEntry}
@@ -82,14 +80,3 @@ ChanceAt run past (Over end) = ⊥
 -- what the run sends next has an HMAC that is right by chance
 abbrev pub IsByChance : Run → Course → Type 0
 IsByChance run course = ChanceAt run course.past course.standing
-
--- ---- goals
-
--- an offset that has two bytes
-abbrev pub HasShortOffset : Goal → Type 0
-HasShortOffset (Unseal object) = ⊤
-HasShortOffset (Hmac key buffer) = ⊤
-HasShortOffset (NvRead index size offset) = offset < 2 ^ 16
-HasShortOffset (NvWrite index offset bytes) = offset < 2 ^ 16
-HasShortOffset (NvIncrement index) = ⊤
-HasShortOffset (Duplicate object parent) = ⊤

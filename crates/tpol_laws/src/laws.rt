@@ -22,9 +22,9 @@ ghost use Rattle.tpm_engine.specs.declared.event.Event.{Event as EventOf};
 ghost use Rattle.tpm_engine.specs.Sights.{sight_after};
 ghost use Rattle.tpm_engine.specs.Views.{facts_of};
 ghost use Rattle.tpol_laws.specs.Acts.{Act, Run, Turn, after_act, after_acts, begun, succeeds, turns_in};
-ghost use Rattle.tpol_laws.specs.Chances.{HasShortOffset, IsByChance};
+ghost use Rattle.tpol_laws.specs.Chances.{IsByChance};
 ghost use Rattle.tpol_laws.specs.Others.{AreOthersApart, AreSecretsOnWritten, HasGoneOn, place_of};
-ghost use Rattle.tpol_laws.specs.Runs.{IsBegun, IsRun};
+ghost use Rattle.tpol_laws.specs.Runs.{HasShortOffset, IsBegun, IsRun};
 
 /// A path that nothing stops on the machine as it is now is one whose commands can all be made: it is not outside,
 /// each Name on it is in the directory with its kind, and each key that signs is granted.
