@@ -90,7 +90,7 @@ verify-unstopped tables locality object digest signature there held rule =
     unstopped tables locality (commands.VerifySignature object.handle digest signature) (λ i. or_else (handle i) None) refl refl refl
     (ap (λ (o : Option ObjectEntry). option_map_or (λ (e : ObjectEntry). verify_signature_rule e.public (is_same_digest signature (signature_of e.secret digest))) o (Some missing_object)) held ∙ rule)
 
-abbrev verify_of : ObjectEntry → List ℕ → Digest32 → Digest32 → Command
+abbrev pub verify_of : ObjectEntry → List ℕ → Digest32 → Digest32 → Command
 verify_of object policy_ref approved signature = commands.VerifySignature object.handle (approval_hash approved policy_ref) signature
 
 -- the turn after which its ticket is there
@@ -102,7 +102,7 @@ pub record Ticketed (run : Run) (first past : List Event) (session : Session) (s
 
 module _ (run : Run) (is : IsRun run) (first past : List Event) (session : Session) (sent done : ℕ) (chosen : SessionState) (on : Stands run first past session chosen) (key : Name) (policy_ref : List ℕ) (approved signature : Digest32)
     (at : slice_get run.plan.path.moves done ≡ Some (Approve key policy_ref approved signature)) where
-  verified-with : (object : ObjectEntry) → SeenObject run.setup (view_of run.setup past).world key object → verify_signature_rule object.public (is_approved_by object policy_ref approved signature) ≡ None → Ticketed run first past session sent done chosen policy_ref approved object
+  pub verified-with : (object : ObjectEntry) → SeenObject run.setup (view_of run.setup past).world key object → verify_signature_rule object.public (is_approved_by object policy_ref approved signature) ≡ None → Ticketed run first past session sent done chosen policy_ref approved object
   unfolding view_of
   verified-with object seen rule =
       let same : command_of_move (directory_of run.setup) run.plan.grants session None (Approve key policy_ref approved signature) ≡ verify_of object policy_ref approved signature =
@@ -146,7 +146,7 @@ module _ (run : Run) (is : IsRun run) (first past : List Event) (session : Sessi
 
 -- ---- PolicyAuthorize, with the ticket
 
-authorized-moved : (run : Run) (is : IsRun run) (first past : List Event) (session : Session) (sent done : ℕ) (chosen : SessionState) → Stands run first past session chosen → length (session_state run.setup past session.handle).facts < 512
+pub authorized-moved : (run : Run) (is : IsRun run) (first past : List Event) (session : Session) (sent done : ℕ) (chosen : SessionState) → Stands run first past session chosen → length (session_state run.setup past session.handle).facts < 512
     → (key : Name) (policy_ref : List ℕ) (approved signature : Digest32) → slice_get run.plan.path.moves done ≡ Some (Approve key policy_ref approved signature) → MoveHasBounds (Approve key policy_ref approved signature)
     → is_known_move (directory_of run.setup) run.plan.grants (Approve key policy_ref approved signature) ≡ true
     → (object : ObjectEntry) → object_in_sight (sight_after run.setup first) key ≡ Some object → policy_authorize_rule chosen approved true ≡ None

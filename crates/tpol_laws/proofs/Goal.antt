@@ -1,12 +1,10 @@
 -- Before its goal, which nothing blocks, a run is served: the machine stops nothing of the goal's command, and the
 -- run finds the reply's authorization right.
-use Rattle.std.proofs.Common.{◌≡◌, ◌≤◌, ◌<◌, ℕ, ◌+◌, ◌||◌, ◌++◌, true, false, List, [], length, map, nat_eq, if◌then◌else◌, refl, ap, sym, subst, ◌∙◌, arith}
+use Rattle.std.proofs.Common.{◌≡◌, ◌≤◌, ℕ, ◌++◌, true, List, [], length, map, if◌then◌else◌, refl, ap, sym, subst, ◌∙◌, arith}
 use Rattle.std.specs.Prelude.{Option, Some, None, option_map}
 use Rattle.std.specs.Int.{to_be_bytes, w32}
 use Rattle.std.specs.List.{flat_map}
 use Rattle.std.specs.Option.{option_and_then}
-use Rattle.std.proofs.lemmas.Bool.{eq-eqb, false≢true}
-use Rattle.std.proofs.lemmas.Bool.Decides.{nat_tests}
 use Rattle.std.proofs.lemmas.Option.{none-some}
 use Rattle.tpm_auth.specs.SessionMacs.{reply_mac}
 use Rattle.tpm_bindings.specs.Facts.{last_auth}
@@ -23,25 +21,24 @@ use Rattle.tpm_engine.proofs.Stopping.{Asked, first-asked, judged as stopped_by,
 use Rattle.tpm_rules.specs.declared.checks.Use.{Use}
 use Rattle.tpm_rules.specs.AuthValue.{proves}
 use Rattle.tpm_rules.specs.Checks.{first_broken_check}
-use Rattle.tpm_rules.specs.Entity.{Entity, auth_policy_of, auth_value_of, is_duplicate, is_policy_available, written_state}
+use Rattle.tpm_rules.specs.Entity.{Entity, auth_policy_of, auth_value_of, is_policy_available}
 use Rattle.tpm_rules.specs.Rule.{unless}
 use Rattle.tpm_session.specs.Slots.{IsSlotHandle, bits_of, free_count, state_at}
 use Rattle.tpm_world.specs.Entities.{entity_at}
-use Rattle.tpm_world.specs.Hashes.{cp_hash, joined_names, name_hash, nonce_of_event, rp_hash}
+use Rattle.tpm_world.specs.Hashes.{cp_hash, joined_names, nonce_of_event, rp_hash}
 use Rattle.tpm_world.specs.Plain.{plain_reply}
 use Rattle.tpm_world.specs.World.{sight_of}
 use Rattle.tpol_base.specs.declared.command_code.CommandCode.{CommandCode}
 use Rattle.tpol_base.specs.declared.digest.Digest32.{Digest32}
 use Rattle.tpol_base.specs.CommandCode.{number_of_code}
 use Rattle.tpol_base.specs.Digest.{digest_of_bytes}
-use Rattle.tpol_base.specs.Handle.{is_policy_session, rs_pw}
 use Rattle.tpol_base.specs.Name.{name_bytes}
 use Rattle.tpol_base.specs.ResponseCode.{rc_auth_unavailable}
 use Rattle.tpol_choose.specs.declared.block.Why.TheVariants.{Deferred, GoalRule}
 use Rattle.tpol_choose.specs.Blocks.{client_of}
 use Rattle.tpol_choose.specs.Clients.{Client}
 use Rattle.tpol_choose.specs.Facts.{fresh_session}
-use Rattle.tpol_choose.specs.Goals.{Judged, authorization_block, broken_check as planned_check, goal_block, goal_cp_hash as chosen_cp_hash, goal_use, judged, judged_block, name_list, own_block, proves as is_planned}
+use Rattle.tpol_choose.specs.Goals.{Judged, authorization_block, broken_check as planned_check, goal_block, goal_use, judged, judged_block, own_block, proves as is_planned}
 use Rattle.tpol_choose.specs.Moves.{rc_of}
 use Rattle.tpol_driver.specs.declared.end.End.TheVariants as ends
 use Rattle.tpol_driver.specs.declared.end.Stage.TheVariants as stages
@@ -50,7 +47,7 @@ use Rattle.tpol_driver.specs.declared.session.Session.{Session}
 use Rattle.tpol_driver.specs.Answers.{answer_of, answer_of_reply}
 use Rattle.tpol_driver.specs.Commands.{caller_nonce}
 use Rattle.tpol_driver.specs.Driving.{goal_done, goal_heard}
-use Rattle.tpol_driver.specs.GoalUse.{area_of_goal, auth_of_path, bytes_of_reply, command_of_goal, goal_command, goal_cp_hash, goal_hmac, goal_rp_hash, goal_secret, hmac_by, mac_key, right_hmac}
+use Rattle.tpol_driver.specs.GoalUse.{area_of_goal, auth_of_path, bytes_of_reply, command_of_goal, goal_command, goal_cp_hash, goal_hmac, goal_rp_hash, goal_secret, mac_key, right_hmac}
 use Rattle.tpol_goal.specs.Goals.{IsGoal, IsGoalAmong, code_of_goal, entity_of_goal, handles_of_goal, names_of_goal}
 use Rattle.tpol_hash.specs.Sha256.{sha256_digest}
 use Rattle.tpol_name.specs.declared.entries.DirEntry.{DirEntry}
@@ -64,7 +61,7 @@ use Rattle.tpol_wire.specs.declared.auth_area.ReplyAuth.{ReplyAuth}
 use Rattle.tpol_wire.specs.declared.command.Command.{Command}
 use Rattle.tpol_wire.specs.declared.reply.Reply.{Reply}
 use Rattle.tpol_wire.specs.declared.reply.Reply.TheVariants as replies
-use Rattle.tpol_wire.specs.Authorizations.{AreaFits, ReplyAuthFits}
+use Rattle.tpol_wire.specs.Authorizations.{ReplyAuthFits}
 use Rattle.tpol_wire.specs.Commands.{FitsCommand, code_of_command, spell_parameters}
 use Rattle.tpol_wire.specs.Replies.{PartsAnswer, parts_of, spell_reply}
 use Rattle.tpol_wire.specs.ReplyReading.{reply_reading}
@@ -72,16 +69,17 @@ use Rattle.tpol_wire.proofs.ReplyLaws.{reply_read}
 use Rattle.tpol_laws.specs.Acts.{Run}
 use Rattle.tpol_laws.specs.Runs.{IsBegun}
 use Rattle.tpol_laws.proofs.Binds.{AreAlike}
-use Rattle.tpol_laws.proofs.Fit.{session-handle, value-short}
+use Rattle.tpol_laws.proofs.Fit.{value-short}
 use Rattle.tpol_laws.proofs.GoalAt.{IsGoalAt, IsNameListed, goal-at}
 use Rattle.tpol_laws.proofs.GoalChecks.{auth-alike, is-proved, no-check}
-use Rattle.tpol_laws.proofs.GoalMacs.{asks, auth-along, field-right, hmac-short, reply-right, right-area, unless-short}
-use Rattle.tpol_laws.proofs.GoalShape.{shape-apart, shape-area, shape-code, shape-cp_hash, shape-entity, shape-handles, shape-name_hash, shape-parameters, shape-reply, shape-rule}
-use Rattle.tpol_laws.proofs.Lasting.{IsKept, is-kept}
+use Rattle.tpol_laws.proofs.GoalMacs.{asks, auth-along, field-right, reply-right, right-area, unless-short}
+use Rattle.tpol_laws.proofs.GoalShape.{shape-apart, shape-area, shape-code, shape-cp_hash, shape-entity, shape-handles, shape-parameters, shape-reply, shape-rule}
+use Rattle.tpol_laws.proofs.GoalUses.{area-fits, no-password, use-same}
 use Rattle.tpol_laws.proofs.Heard.{IsAcceptance}
+use Rattle.tpol_laws.proofs.Lasting.{IsKept, is-kept}
 use Rattle.tpol_laws.proofs.Moved.{carried-out, chooser-now, stands-live}
 use Rattle.tpol_laws.proofs.Passing.{client_on}
-use Rattle.tpol_laws.proofs.Standing.{ServesGoal, judged_after}
+use Rattle.tpol_laws.proofs.Standing.{ServesGoal, Stands, judged_after}
 
 -- ---- what a goal has that nothing blocks
 
@@ -110,12 +108,6 @@ opens client chosen (Some found) none =
 done-reply : (plan : Plan) (sent : ℕ) (reply : Reply) (auth : ReplyAuth) → IsAcceptance reply → goal_heard plan sent (answer_of_reply reply (Some auth)) ≡ goal_done plan sent reply (Some auth)
 done-reply plan sent (replies.Refused rc) auth accepts = absurd accepts
 done-reply plan sent reply auth accepts = refl
-
--- a slot's handle stands for no password
-no-password : (handle : ℕ) → IsSlotHandle handle → nat_eq handle rs_pw ≡ false
-no-password handle slot =
-    let most : handle < 0x03000000 + 64 = slot.1 in
-    grind (arith, nat_tests, most)
 
 -- ---- the goal's command on the tables
 
@@ -154,29 +146,6 @@ module _ (setup : Setup) (is : IsSetup setup) (tables : TableState) (of : IsKept
     handles = ap (handles_from tables 1) (shape-handles plan.goal area) ∙ goal-is.there;
   }
 
-  -- ---- the use of the session
-
-  abbrev used : ℕ → Digest32 → Digest32 → Use
-  used code cp names = record {
-    code = code;
-    duplicate_role = is_duplicate code;
-    cp_hash = cp;
-    name_hash = names;
-    locality = locality;
-    presence = tables.world.presence;
-    time = tables.world.time;
-    pcr_counter = tables.world.pcrs.counter;
-    written = written_state entity;
-  }
-
-  use-same : occasion_of tables locality command entity ≡ goal_use (client_of (sight_of tables.world free) plan.grants plan.goal locality) shown.found.found
-  use-same =
-      ap (λ (c : CommandCode). used (number_of_code c) (cp_hash tables.world command) (name_hash tables.world command)) (shape-code plan.goal area)
-      ∙ ap (λ (d : Digest32). used (number_of_code (code_of_goal plan.goal)) d (name_hash tables.world command))
-      (shape-cp_hash tables.world plan.goal area (name_list (sight_of tables.world free) plan.goal) goal-is.seen)
-      ∙ ap (λ (d : Digest32). used (number_of_code (code_of_goal plan.goal)) (chosen_cp_hash (sight_of tables.world free) plan.goal) d)
-      (shape-name_hash tables.world plan.goal area (name_list (sight_of tables.world free) plan.goal) goal-is.seen)
-
   -- the run's cpHash is the machine's, where the directory lists the entity by the Name that it has
   driven-same : IsNameListed shown.found → goal_cp_hash plan (area_of_goal session caller []) ≡ cp_hash tables.world command
   driven-same same =
@@ -193,7 +162,7 @@ module _ (setup : Setup) (is : IsSetup setup) (tables : TableState) (of : IsKept
   broken-none : broken_check tables locality command area entity kept ≡ None
   broken-none =
       no-check kept chosen alike (occasion_of tables locality command entity) (auth_policy_of entity) (is_planned plan.grants shown.found.found) (proves (field_of tables command area kept) (auth_value_of entity))
-      (ap (λ (u : Use). first_broken_check chosen u (auth_policy_of entity) (is_planned plan.grants shown.found.found)) use-same ∙ shown.checks)
+      (ap (λ (u : Use). first_broken_check chosen u (auth_policy_of entity) (is_planned plan.grants shown.found.found)) (use-same setup tables free locality plan session sent shown.found goal-is) ∙ shown.checks)
       (λ right. field-right plan session sent shown.found.found goal-is.handle goal-is.value (last_auth kept.facts) (cp_hash tables.world command) kept.nonce auth nonce driven-same right)
 
   pub nothing-stops : first_stop tables locality command ≡ None
@@ -206,21 +175,8 @@ module _ (setup : Setup) (is : IsSetup setup) (tables : TableState) (of : IsKept
 
   -- ---- bounds
 
-  hmac-fits : length (goal_hmac plan session caller) ≤ 64
-  hmac-fits =
-      subst (λ (hmac : List ℕ). length hmac ≤ 64) (sym (ap (λ by. hmac_by by plan session caller) auth)) (hmac-short plan session caller (last_auth kept.facts) short)
-
-  area-fits : AreaFits area
-  area-fits = record {
-    nonce = omega (arith, (caller_nonce plan.nonce_seed sent).whole);
-    hmac = hmac-fits;
-    session = ap (λ b. b || is_policy_session session.handle) (no-password session.handle slot) ∙ (session-handle session.handle slot).kind;
-    attributes = omega arith;
-    password = λ same. absurd (false≢true (sym (no-password session.handle slot) ∙ eq-eqb session.handle rs_pw same));
-  }
-
   pub command-fits : FitsCommand command
-  command-fits = goal-is.fits shown.rule area area-fits
+  command-fits = goal-is.fits shown.rule area (area-fits plan session sent slot short (last_auth kept.facts) auth)
 
   -- ---- the reply
 
@@ -275,6 +231,13 @@ module _ (setup : Setup) (is : IsSetup setup) (tables : TableState) (of : IsKept
 
 -- ---- the run
 
+-- its session has the last PolicyAuthValue or PolicyPassword of the path
+pub auth-kept : (run : Run) (first past : List Event) (session : Session) → Stands run first past session (judged_after run first run.plan.path.moves)
+    → auth_of_path run.plan.path.moves ≡ auth_of_path (asks (last_auth (session_state run.setup past session.handle).facts))
+auth-kept run first past session on =
+    auth-along (sight_after run.setup first) run.plan.path.moves (fresh_session (sight_after run.setup first))
+    ∙ ap (λ last. auth_of_path (asks last)) (sym (auth-alike (session_state run.setup past session.handle) (judged_after run first run.plan.path.moves) on.alike))
+
 pub serves-goal : (run : Run) → IsBegun run → (first : List Event) → ServesGoal run first
 serves-goal run is first past session sent on none =
     let tables = view_of run.setup past in
@@ -284,9 +247,7 @@ serves-goal run is first past session sent on none =
     let live = stands-live run first past session (judged_after run first run.plan.path.moves) on in
     let now = subst (λ (c : Client). goal_block c (judged_after run first run.plan.path.moves) ≡ None) (sym (chooser-now run first past on.world)) none in
     let shown = opens (client_on (view_of run.setup past).world free run.plan.grants run.plan.goal run.locality) (judged_after run first run.plan.path.moves) (judged (sight_of (view_of run.setup past).world free) run.plan.goal) now in
-    let auth : auth_of_path run.plan.path.moves ≡ auth_of_path (asks (last_auth kept.facts)) =
-    auth-along (sight_after run.setup first) run.plan.path.moves (fresh_session (sight_after run.setup first))
-    ∙ ap (λ last. auth_of_path (asks last)) (sym (auth-alike kept chosen on.alike)) in
+    let auth = auth-kept run first past session on in
     let short = value-short run.plan.grants.secrets (entity_of_goal run.plan.goal) is.grants.secrets in
     let stops = nothing-stops run.setup is.setup tables (is-kept run.setup past) free run.locality (next_number past) run.plan is.directory short is.fits is.among session sent on.slot kept chosen live on.nonce on.alike auth shown in
     let fits = command-fits run.setup is.setup tables (is-kept run.setup past) free run.locality (next_number past) run.plan is.directory short is.fits is.among session sent on.slot kept chosen live on.nonce on.alike auth shown in

@@ -57,9 +57,9 @@ use Rattle.tpm_world.specs.Plain.{plain_reply, plain_rule}
 use Rattle.tpm_world.specs.World.{sight_of}
 use Rattle.tpol_laws.proofs.Finds.{names-same}
 use Rattle.tpol_laws.proofs.Fit.{index-kind, object-kind}
-use Rattle.tpol_laws.proofs.Lasting.{IsKept}
 use Rattle.tpol_laws.proofs.GoalEntities.{IsThere, index-there, null-there, object-there}
 use Rattle.tpol_laws.proofs.Heard.{IsAcceptance}
+use Rattle.tpol_laws.proofs.Lasting.{IsKept}
 use Rattle.tpol_laws.proofs.Named.{mapped}
 
 -- ---- what holds of a goal that was judged
@@ -85,25 +85,24 @@ pub record IsGoalAt (setup : Setup) (tables : TableState) (free : ℕ) (goal : G
   pub fits : found.rule ≡ None → (area : AuthArea) → AreaFits area → FitsCommand (command_of_goal goal area)
   pub reply : (area : AuthArea) → IsGoalReply goal (plain_reply tables.world (command_of_goal goal area))
 
--- ---- an object of a list of handles
+-- ---- what has a handle of a list
 
-pub record FoundAmong (handle : ℕ) (objects : List ObjectEntry) : Type 0 where
-  pub value : ObjectEntry
-  pub is : find (λ (o : ObjectEntry). nat_eq o.handle handle) objects ≡ Some value
+pub record FoundAmong {A : Type 0} (key : A → ℕ) (handle : ℕ) (xs : List A) : Type 0 where
+  pub value : A
+  pub is : find (λ x. nat_eq (key x) handle) xs ≡ Some value
 
-found-place : (handle : ℕ) (objects : List ObjectEntry) (k : ℕ) → k < length (map (λ (o : ObjectEntry). o.handle) objects) → slice_index_or (map (λ (o : ObjectEntry). o.handle) objects) k handle ≡ handle
-    → FoundAmong handle objects
-found-place handle [] k within is = absurd (omega (arith, within))
-found-place handle (object ∷ objects) k within is = at (nat_eq object.handle handle) refl k within is (found-place handle objects)
+pub found-place : {A : Type 0} (key : A → ℕ) (handle : ℕ) (xs : List A) (k : ℕ) → k < length (map key xs) → slice_index_or (map key xs) k handle ≡ handle → FoundAmong key handle xs
+found-place key handle [] k within is = absurd (omega (arith, within))
+found-place key handle (x ∷ xs) k within is = at (nat_eq (key x) handle) refl k within is (found-place key handle xs)
   where
-    at : (b : Bool) → nat_eq object.handle handle ≡ b → (k : ℕ) → k < length (map (λ (o : ObjectEntry). o.handle) (object ∷ objects)) → slice_index_or (map (λ (o : ObjectEntry). o.handle) (object ∷ objects)) k handle ≡ handle
-        → ((k : ℕ) → k < length (map (λ (o : ObjectEntry). o.handle) objects) → slice_index_or (map (λ (o : ObjectEntry). o.handle) objects) k handle ≡ handle → FoundAmong handle objects)
-        → FoundAmong handle (object ∷ objects)
-    at true e k within is later = record { value = object; is = ap (λ b. cond b (Some object) (find (λ (o : ObjectEntry). nat_eq o.handle handle) objects)) e }
-    at false e zero within is later = absurd (false≢true (sym e ∙ eq-eqb object.handle handle is))
+    at : (b : Bool) → nat_eq (key x) handle ≡ b → (k : ℕ) → k < length (map key (x ∷ xs)) → slice_index_or (map key (x ∷ xs)) k handle ≡ handle
+        → ((k : ℕ) → k < length (map key xs) → slice_index_or (map key xs) k handle ≡ handle → FoundAmong key handle xs)
+        → FoundAmong key handle (x ∷ xs)
+    at true e k within is later = record { value = x; is = ap (λ b. cond b (Some x) (find (λ y. nat_eq (key y) handle) xs)) e }
+    at false e zero within is later = absurd (false≢true (sym e ∙ eq-eqb (key x) handle is))
     at false e (suc k) within is later =
         let rest = later k (omega (arith, within)) is in
-        record { value = rest.value; is = ap (λ b. cond b (Some object) (find (λ (o : ObjectEntry). nat_eq o.handle handle) objects)) e ∙ rest.is }
+        record { value = rest.value; is = ap (λ b. cond b (Some x) (find (λ y. nat_eq (key y) handle) xs)) e ∙ rest.is }
 
 -- ---- one handle, and two
 
@@ -175,15 +174,15 @@ write-offset entry offset count none = not-below entry.public.size offset (behin
 short-offset : (offset size : ℕ) → offset ≤ size → size ≤ 2048 → offset < 2 ^ 16
 short-offset offset size below most = omega (arith, below, most)
 
-unseal-fits : (object : ℕ) (area : AuthArea) → 0x80000000 ≤ object → object ≤ 0x80ffffff → AreaFits area → FitsCommand (commands.Unseal object area)
+pub unseal-fits : (object : ℕ) (area : AuthArea) → 0x80000000 ≤ object → object ≤ 0x80ffffff → AreaFits area → FitsCommand (commands.Unseal object area)
 unfolding ValuesFit Fits
 unseal-fits object area low high fits = record { handles = ((object-low object high, object-kind object low high), tt); area = fits; parameters = tt }
 
-hmac-fits : (key : ℕ) (area : AuthArea) (buffer : List ℕ) → 0x80000000 ≤ key → key ≤ 0x80ffffff → AreaFits area → length buffer ≤ 1024 → FitsCommand (commands.Hmac key area buffer alg_sha256)
+pub hmac-fits : (key : ℕ) (area : AuthArea) (buffer : List ℕ) → 0x80000000 ≤ key → key ≤ 0x80ffffff → AreaFits area → length buffer ≤ 1024 → FitsCommand (commands.Hmac key area buffer alg_sha256)
 unfolding ValuesFit Fits
 hmac-fits key area buffer low high fits short = record { handles = ((object-low key high, object-kind key low high), tt); area = fits; parameters = (short, ((omega arith, refl), tt)) }
 
-read-fits : (index : ℕ) (area : AuthArea) (size offset : ℕ) → 0x01000000 ≤ index → index ≤ 0x01ffffff → AreaFits area → size ≤ 1024 → offset < 2 ^ 16 → FitsCommand (commands.NvRead index index area size offset)
+pub read-fits : (index : ℕ) (area : AuthArea) (size offset : ℕ) → 0x01000000 ≤ index → index ≤ 0x01ffffff → AreaFits area → size ≤ 1024 → offset < 2 ^ 16 → FitsCommand (commands.NvRead index index area size offset)
 unfolding ValuesFit Fits
 read-fits index area size offset low high fits short few =
     let within : nat_le size 1024 ≡ true = grind (arith, nat_tests, short) in
@@ -193,7 +192,7 @@ read-fits index area size offset low high fits short few =
       parameters = ((omega (arith, short), within), ((few, refl), tt));
     }
 
-write-fits : (index : ℕ) (area : AuthArea) (bytes : List ℕ) (offset : ℕ) → 0x01000000 ≤ index → index ≤ 0x01ffffff → AreaFits area → length bytes ≤ 1024 → offset < 2 ^ 16 → FitsCommand (commands.NvWrite index index area bytes offset)
+pub write-fits : (index : ℕ) (area : AuthArea) (bytes : List ℕ) (offset : ℕ) → 0x01000000 ≤ index → index ≤ 0x01ffffff → AreaFits area → length bytes ≤ 1024 → offset < 2 ^ 16 → FitsCommand (commands.NvWrite index index area bytes offset)
 unfolding ValuesFit Fits
 write-fits index area bytes offset low high fits short few = record {
   handles = ((index-low index high, authority-kind index low high), ((index-low index high, index-kind index low high), tt));
@@ -201,7 +200,7 @@ write-fits index area bytes offset low high fits short few = record {
   parameters = (short, ((few, refl), tt));
 }
 
-increment-fits : (index : ℕ) (area : AuthArea) → 0x01000000 ≤ index → index ≤ 0x01ffffff → AreaFits area → FitsCommand (commands.NvIncrement index index area)
+pub increment-fits : (index : ℕ) (area : AuthArea) → 0x01000000 ≤ index → index ≤ 0x01ffffff → AreaFits area → FitsCommand (commands.NvIncrement index index area)
 unfolding ValuesFit Fits
 increment-fits index area low high fits = record {
   handles = ((index-low index high, authority-kind index low high), ((index-low index high, index-kind index low high), tt));
@@ -209,7 +208,7 @@ increment-fits index area low high fits = record {
   parameters = tt;
 }
 
-duplicate-fits : (object parent : ℕ) (area : AuthArea) → 0x80000000 ≤ object → object ≤ 0x80ffffff → parent < 2 ^ 32 → (nat_eq parent rh_null || is_object parent) ≡ true → AreaFits area → FitsCommand (commands.Duplicate object parent area)
+pub duplicate-fits : (object parent : ℕ) (area : AuthArea) → 0x80000000 ≤ object → object ≤ 0x80ffffff → parent < 2 ^ 32 → (nat_eq parent rh_null || is_object parent) ≡ true → AreaFits area → FitsCommand (commands.Duplicate object parent area)
 unfolding ValuesFit Fits
 duplicate-fits object parent area low high few kind fits = record {
   handles = ((object-low object high, object-kind object low high), ((few, kind), tt));
@@ -254,7 +253,7 @@ duplicate-reply handle parent object value secret = record { fits = λ auth fits
 
 -- ---- each goal
 
-abbrev judged_object : (ObjectPublic → Option ℕ) → ObjectEntry → Judged
+abbrev pub judged_object : (ObjectPublic → Option ℕ) → ObjectEntry → Judged
 judged_object rule entry = record { found = object_at entry; rule = rule entry.public }
 
 module _ (setup : Setup) (is : IsSetup setup) (tables : TableState) (of : IsKept setup tables.world) (free : ℕ) where
@@ -363,10 +362,10 @@ module _ (setup : Setup) (is : IsSetup setup) (tables : TableState) (of : IsKept
     pub low : handle < 2 ^ 32
     pub kind : (nat_eq handle rh_null || is_object handle) ≡ true
 
-  parent-at : (handle : ℕ) → (handle ≡ rh_null) ⊎ Contains (map (λ (o : ObjectEntry). o.handle) setup.objects) handle → IsParentAt handle
+  pub parent-at : (handle : ℕ) → (handle ≡ rh_null) ⊎ Contains (map (λ (o : ObjectEntry). o.handle) setup.objects) handle → IsParentAt handle
   parent-at handle (inl null) = subst IsParentAt (sym null) (record { name = Handle rh_null; there = null-there setup is tables of free; low = omega arith; kind = refl })
   parent-at handle (inr among) =
-      let it = found-place handle setup.objects among.0 among.1 among.2 in
+      let it = found-place (λ (o : ObjectEntry). o.handle) handle setup.objects among.0 among.1 among.2 in
       let at = object-there setup is tables of free handle it.value (ap (find (λ (o : ObjectEntry). nat_eq o.handle handle)) of.objects ∙ it.is) in
       record { name = object_name it.value.public; there = at.there; low = object-low handle at.high; kind = parent-kind handle at.low at.high }
 

@@ -40,7 +40,7 @@ use Rattle.tpol_laws.proofs.Unstopped.{entity-there}
 flip : (a b : ℕ) → nat_eq a b ≡ nat_eq b a
 flip a b = grind (arith, nat_tests)
 
-find-flip : {A : Type 0} (key : A → ℕ) (handle : ℕ) (xs : List A) → find (λ x. nat_eq (key x) handle) xs ≡ find (λ x. nat_eq handle (key x)) xs
+pub find-flip : {A : Type 0} (key : A → ℕ) (handle : ℕ) (xs : List A) → find (λ x. nat_eq (key x) handle) xs ≡ find (λ x. nat_eq handle (key x)) xs
 find-flip key handle [] = refl
 find-flip key handle (x ∷ xs) =
     ap (λ b. cond b (Some x) (find (λ y. nat_eq (key y) handle) xs)) (flip (key x) handle)
@@ -137,7 +137,7 @@ module _ (setup : Setup) (is : IsSetup setup) (tables : TableState) (of : IsKept
 
   -- ---- an index
 
-  same-indices : (handle : ℕ) → option_map kept (index_of handle tables.world.indices) ≡ option_map kept (index_of handle setup.indices)
+  pub same-indices : (handle : ℕ) → option_map kept (index_of handle tables.world.indices) ≡ option_map kept (index_of handle setup.indices)
   same-indices handle =
       sym (find-map (λ (p : NvPublic × List ℕ). nat_eq handle p.0.index) kept tables.world.indices)
       ∙ ap (find (λ (p : NvPublic × List ℕ). nat_eq handle p.0.index)) of.indices

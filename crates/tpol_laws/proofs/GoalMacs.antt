@@ -90,10 +90,10 @@ or-true : (a : Bool) → (a || true) ≡ true
 or-true true = refl
 or-true false = refl
 
-some-bytes : (byte : ℕ) (key : List ℕ) → nat_eq (length (byte ∷ key)) 0 ≡ false
+pub some-bytes : (byte : ℕ) (key : List ℕ) → nat_eq (length (byte ∷ key)) 0 ≡ false
 some-bytes byte key = grind (arith, nat_tests)
 
-whole-bytes : (digest : Digest32) → nat_eq (length digest.bytes) 0 ≡ false
+pub whole-bytes : (digest : Digest32) → nat_eq (length digest.bytes) 0 ≡ false
 whole-bytes digest = ap (λ n. nat_eq n 0) digest.whole
 
 -- the machine finds right what was made with a key of the same block
@@ -143,13 +143,13 @@ module _ (plan : Plan) (session : Session) (number : ℕ) (found : EntityAt) (ha
       ap (λ a. hmac_by a plan session (caller_nonce plan.nonce_seed number)) same
       ∙ ap (λ (key : List ℕ). unless_empty key (command_mac key (goal_cp_hash plan (area_of_goal session (caller_nonce plan.nonce_seed number) [])) (caller_nonce plan.nonce_seed number).bytes session.nonce 0)) (key-by lasts.Neither same)
 
-  hmac-value : auth_of_path plan.path.moves ≡ auth_of_path (asks lasts.AuthValue) → goal_hmac plan session (caller_nonce plan.nonce_seed number)
+  pub hmac-value : auth_of_path plan.path.moves ≡ auth_of_path (asks lasts.AuthValue) → goal_hmac plan session (caller_nonce plan.nonce_seed number)
       ≡ unless_empty (goal_secret plan) (command_mac (goal_secret plan) (goal_cp_hash plan (area_of_goal session (caller_nonce plan.nonce_seed number) [])) (caller_nonce plan.nonce_seed number).bytes session.nonce 0)
   hmac-value same =
       ap (λ a. hmac_by a plan session (caller_nonce plan.nonce_seed number)) same
       ∙ ap (λ (key : List ℕ). unless_empty key (command_mac key (goal_cp_hash plan (area_of_goal session (caller_nonce plan.nonce_seed number) [])) (caller_nonce plan.nonce_seed number).bytes session.nonce 0)) (key-by lasts.AuthValue same)
 
-  secret-same : secret_of plan.grants.secrets found.handle ≡ goal_secret plan
+  pub secret-same : secret_of plan.grants.secrets found.handle ≡ goal_secret plan
   secret-same = ap (secret_of plan.grants.secrets) handle
 
   -- what an HMAC of who plans says

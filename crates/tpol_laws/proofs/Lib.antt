@@ -3,6 +3,12 @@ mod Alike
 mod Answered
 mod Approved
 mod Binds
+mod Blocked
+mod BlockedGoal
+mod BlockedMacs
+mod BlockedMoves
+mod BlockedSteps
+mod BlockedTurns
 mod Calm
 mod Codes
 mod Complete
@@ -16,6 +22,7 @@ mod GoalEntities
 mod GoalKeys
 mod GoalMacs
 mod GoalShape
+mod GoalUses
 mod Heard
 mod Kept
 mod Lasting

@@ -71,7 +71,7 @@ use Rattle.tpol_laws.proofs.Binds.{AreAlike, bind_of}
 use Rattle.tpol_laws.proofs.Finds.{area-written}
 use Rattle.tpol_laws.proofs.Own.{IsOf}
 use Rattle.tpol_laws.proofs.SameKeys.{same-mac}
-use Rattle.tpol_laws.proofs.Seen.{ReadBy, SeenEntity, SeenIndex, SeenObject, name-as-is, read-by, see-entity, see-index, see-object}
+use Rattle.tpol_laws.proofs.Seen.{ReadBy, SeenEntity, SeenIndex, SeenObject, index-handle, name-as-is, read-by, reader-handle, see-entity, see-index, see-object}
 use Rattle.tpol_laws.proofs.Unstopped.{entity-there, password-passes, plain-unstopped, policy-unstopped, session-there}
 
 -- nothing stops the command, and the session is shown a fact that binds what the move does
@@ -118,6 +118,11 @@ readable-by world grants code entry own reader read h =
       rule = second.1;
     }
 
+-- the bytes of a cpHashA, for the driver and for the machine
+pub optional-same : (o : Option Digest32) → optional_bytes o ≡ cp_hash_bytes o
+optional-same None = refl
+optional-same (Some digest) = refl
+
 -- ---- each kind
 
 module _ (setup : Setup) (is : IsSetup setup) (tables : TableState) (of : IsOf setup tables.world) (free : ℕ) (grants : Grants) (goal : Goal) (locality own : ℕ) (slot : IsSlotHandle own) (kept : SessionState) (live : state_at tables.sessions own ≡ Some kept) (few : length kept.facts < 512) (nonce : Digest32) (owns : kept.nonce ≡ nonce) (chosen : SessionState) (alike : AreAlike kept chosen) where
@@ -137,13 +142,6 @@ module _ (setup : Setup) (is : IsSetup setup) (tables : TableState) (of : IsOf s
       let index = entity-there tables 2 entry.public.index (Index entry) seen.there in
       let session = session-there tables 3 own kept slot live in
       λ i. or_else (reader i) (or_else (index i) (or_else (session i) None))
-
-  -- the handles that the driver finds
-  index-found : (name : Name) (entry : IndexEntry) → SeenIndex setup tables.world name entry → index_handle (directory_of setup) name ≡ entry.public.index
-  index-found name entry seen = ap (λ (o : Option DirEntry). or_null (option_map (λ (line : DirEntry). line.handle) o)) seen.listed ∙ seen.handle
-
-  reader-found : (name : Name) (entry : IndexEntry) → SeenIndex setup tables.world name entry → index_authority (directory_of setup) grants name ≡ authority grants entry.public.index entry.public.attributes
-  reader-found name entry seen = ap (λ (o : Option DirEntry). or_null (option_map (λ (line : DirEntry). authority grants line.handle line.attributes) o)) seen.listed ∙ seen.authority grants
 
   -- an index that is written has the Name that it is known by
   written-named : (name : Name) (entry : IndexEntry) → SeenIndex setup tables.world name entry → is_written entry.public.attributes ≡ true → name_at tables.world entry.public.index ≡ name
@@ -220,11 +218,7 @@ module _ (setup : Setup) (is : IsSetup setup) (tables : TableState) (of : IsOf s
       (bytes_eq-Decides _ _).1
       (ap (λ (o : Option (List ℕ)). (signature_of (unwrap_or o []) (signed_hash given expiration (optional_bytes cp_hash) policy_ref)).bytes) has
       ∙ ap (λ (d : Digest32). d.bytes) (same-mac key object.secret (signed_hash given expiration (optional_bytes cp_hash) policy_ref).bytes same)
-      ∙ ap (λ (bytes : List ℕ). (signature_of object.secret (signed_hash given expiration bytes policy_ref)).bytes) (same-bytes cp_hash))
-    where
-      same-bytes : (o : Option Digest32) → optional_bytes o ≡ cp_hash_bytes o
-      same-bytes None = refl
-      same-bytes (Some digest) = refl
+      ∙ ap (λ (bytes : List ℕ). (signature_of object.secret (signed_hash given expiration bytes policy_ref)).bytes) (optional-same cp_hash))
 
   signed-passes : (name : Name) (policy_ref : List ℕ) (cp_hash : Option Digest32) (expiration : ℤ) (object : ObjectEntry) (key : List ℕ) → SeenObject setup tables.world name object → granted grants.keys object.handle ≡ Some key
       → or_else (signing_key_rule object.public) (policy_signed_rule chosen tables.world.time chosen.nonce.bytes cp_hash expiration (is_same_block key object.secret)) ≡ None
@@ -304,7 +298,7 @@ module _ (setup : Setup) (is : IsSetup setup) (tables : TableState) (of : IsOf s
           let seen = see-index setup is tables.world of free name entry e in
           let read = index-readable codes.PolicyNv name entry (policy_nv_rule entry operand offset operation) seen (unanswered _ h) in
           subst (λ (p : ℕ × ℕ). Passed (Assert (assertions.Nv name operand offset operation)) (commands.PolicyNv p.0 p.1 own (password_area grants p.0) operand offset operation))
-          (λ i. (sym (reader-found name entry seen) i, sym (index-found name entry seen) i))
+          (λ i. (sym (reader-handle setup tables.world name entry seen grants) i, sym (index-handle setup tables.world name entry seen) i))
           (nv-passes name operand offset operation entry seen read)
   assertion-passes (assertions.Secret name policy_ref cp_hash expiration) h = on-entity (entity_at_name (sight_of tables.world free) name) refl h
     where
@@ -359,7 +353,7 @@ module _ (setup : Setup) (is : IsSetup setup) (tables : TableState) (of : IsOf s
       let seen = see-index setup is tables.world of free name entry e in
       let read = index-readable codes.PolicyAuthorizeNv name entry (policy_authorize_nv_rule chosen entry) seen (unanswered _ h) in
       subst (λ (p : ℕ × ℕ). Passed (ApproveNv name approved) (commands.PolicyAuthorizeNv p.0 p.1 own (password_area grants p.0)))
-      (λ i. (sym (reader-found name entry seen) i, sym (index-found name entry seen) i))
+      (λ i. (sym (reader-handle setup tables.world name entry seen grants) i, sym (index-handle setup tables.world name entry seen) i))
       (authorize_nv-passes name approved entry seen read)
 
   -- a move that needs no ticket

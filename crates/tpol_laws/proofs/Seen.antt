@@ -1,6 +1,6 @@
 -- The entities that a sight shows are those that the directory lists and that the machine has by their handles.
 use Rattle.std.proofs.Common.{◌≡◌, ◌≤◌, ℕ, ◌*◌, ◌^◌, ◌/◌, ◌||◌, ◌&&◌, not, Bool, true, false, List, [], ◌∷◌, map, nat_eq, nat_lt, refl, ap, sym, subst, ◌∙◌, arith}
-use Rattle.std.specs.Prelude.{Option, Some, None, find, option_map, bit_or, if◌then◌else◌}
+use Rattle.std.specs.Prelude.{Option, Some, None, find, is_some, option_map, bit_or, if◌then◌else◌}
 use Rattle.std.specs.Int.{bit_at}
 use Rattle.std.specs.Int.Bits.{or_add_and}
 use Rattle.std.specs.List.{IsDistinct}
@@ -18,6 +18,7 @@ use Rattle.tpol_base.specs.Handle.{kind_of_handle, rh_endorsement, rh_lockout, r
 use Rattle.tpol_base.specs.Name.{is_same_name}
 use Rattle.tpol_choose.specs.Entities.{EntityAt, hierarchy_at, hierarchy_value, index_at, name_as_is, object_at, entity_of_name as entity_at_name}
 use Rattle.tpol_choose.specs.Moves.{authority_at}
+use Rattle.tpol_driver.specs.Commands.{index_authority, index_handle, or_null}
 use Rattle.tpol_goal.specs.declared.grants.Grants.{Grants}
 use Rattle.tpol_goal.specs.Entities.{entity_of_name, hierarchy_of_name, index_in_sight, index_of_name, is_hierarchy, object_in_sight, object_of_name}
 use Rattle.tpol_goal.specs.Grants.{authority, is_granted}
@@ -105,6 +106,19 @@ pub record ReadBy (world : WorldState) (handle : ℕ) (reader : EntityAt) : Type
   pub same : reader.handle ≡ handle
   pub there : entity_at world reader.handle ≡ Some reader.entity
 
+-- the handles that the driver finds
+pub index-handle : (setup : Setup) (world : WorldState) (name : Name) (entry : IndexEntry) → SeenIndex setup world name entry → index_handle (directory_of setup) name ≡ entry.public.index
+index-handle setup world name entry seen = ap (λ (o : Option DirEntry). or_null (option_map (λ (line : DirEntry). line.handle) o)) seen.listed ∙ seen.handle
+
+pub reader-handle : (setup : Setup) (world : WorldState) (name : Name) (entry : IndexEntry) → SeenIndex setup world name entry → (grants : Grants) → index_authority (directory_of setup) grants name ≡ authority grants entry.public.index entry.public.attributes
+reader-handle setup world name entry seen grants =
+    ap (λ (o : Option DirEntry). or_null (option_map (λ (line : DirEntry). authority grants line.handle line.attributes) o)) seen.listed ∙ seen.authority grants
+
+-- something is found where it is mapped
+pub some-map : {A B : Type 0} (f : A → B) (o : Option A) → is_some (option_map f o) ≡ is_some o
+some-map f None = refl
+some-map f (Some x) = refl
+
 keys-areas : (indices : List IndexEntry) → map (λ (e : IndexEntry). e.public.index) indices ≡ map (λ (p : NvPublic). p.index) (map area indices)
 keys-areas [] = refl
 keys-areas (e ∷ es) = ap (λ keys. e.public.index ∷ keys) (keys-areas es)
@@ -113,13 +127,17 @@ module _ (setup : Setup) (is : IsSetup setup) (world : WorldState) (of : IsOf se
   first-object : (name : Name) → object_in_sight (sight_of world free) name ≡ object_in_sight (first_sight setup) name
   first-object name = ap (find (λ (object : ObjectEntry). is_same_name (object_name object.public) name)) of.objects
 
+  -- the line of an object
+  pub object-line : (name : Name) → option_map line_of_object (object_in_sight (sight_of world free) name) ≡ object_of_name (directory_of setup) name
+  object-line name = ap (option_map line_of_object) (first-object name) ∙ object_of_lines (first_sight setup) name (is-sight setup is)
+
   pub see-object : (name : Name) (object : ObjectEntry) → object_in_sight (sight_of world free) name ≡ Some object → SeenObject setup world name object
   see-object name object found =
       let at_first = sym (first-object name) ∙ found in
       let each = find-each IsObject (λ (o : ObjectEntry). is_same_name (object_name o.public) name) setup.objects object (recursion_from_All IsObject setup.objects is.entities.each_object) at_first in
       let held = ap (object_of object.handle) of.objects ∙ by-key (λ (o : ObjectEntry). o.handle) (λ o. is_same_name (object_name o.public) name) setup.objects object is.entities.object_handles at_first in
       record {
-        listed = sym (object_of_lines (first_sight setup) name (is-sight setup is)) ∙ ap (option_map line_of_object) at_first;
+        listed = sym (object-line name) ∙ ap (option_map line_of_object) found;
         held = held;
         there = object-there world object each.least_handle each.greatest_handle held;
         named = names-same _ _ (find-passes (λ (o : ObjectEntry). is_same_name (object_name o.public) name) setup.objects object at_first);
@@ -135,6 +153,15 @@ module _ (setup : Setup) (is : IsSetup setup) (world : WorldState) (of : IsOf se
       sym (find-map (λ (p : NvPublic). is_same_name (index_name p) name) area world.indices)
       ∙ ap (λ (areas : List NvPublic). find (λ (p : NvPublic). is_same_name (index_name p) name) areas) of.areas
       ∙ find-map (λ (p : NvPublic). is_same_name (index_name p) name) area setup.indices
+
+  -- an index is seen where the directory lists it
+  pub index-listed : (name : Name) → is_some (index_in_sight (sight_of world free) name) ≡ is_some (index_of_name (directory_of setup) name)
+  index-listed name =
+      sym (some-map area (index_in_sight (sight_of world free) name))
+      ∙ ap is_some (areas-found name)
+      ∙ some-map area (index_in_sight (first_sight setup) name)
+      ∙ sym (some-map line_of_index (index_in_sight (first_sight setup) name))
+      ∙ ap is_some (index_of_lines (first_sight setup) name (is-sight setup is))
 
   pub see-index : (name : Name) (entry : IndexEntry) → index_in_sight (sight_of world free) name ≡ Some entry → SeenIndex setup world name entry
   see-index name entry found =
@@ -180,6 +207,19 @@ module _ (setup : Setup) (is : IsSetup setup) (world : WorldState) (of : IsOf se
       area-handle : (o : Option IndexEntry) → option_map (λ (index : IndexEntry). index.public.index) o ≡ option_map (λ (p : NvPublic). p.index) (option_map area o)
       area-handle None = refl
       area-handle (Some entry) = refl
+
+  -- an entity is seen where the directory lists it
+  pub entity-listed : (name : Name) → is_some (entity_at_name (sight_of world free) name) ≡ is_some (entity_of_name (directory_of setup) name)
+  entity-listed name =
+      by (hierarchy_of_name name) (object_in_sight (sight_of world free) name) (index_in_sight (sight_of world free) name) ∙ sym (ap is_some (listed-handle name))
+    where
+      by : (h : Option ℕ) (o : Option ObjectEntry) (i : Option IndexEntry)
+          → is_some (option_or (option_map (hierarchy_at (sight_of world free)) h) (option_or (option_map object_at o) (option_map index_at i)))
+          ≡ is_some (option_or h (option_or (option_map (λ (o : ObjectEntry). o.handle) o) (option_map (λ (p : NvPublic). p.index) (option_map area i))))
+      by (Some own) o i = refl
+      by None (Some object) i = refl
+      by None None (Some entry) = refl
+      by None None None = refl
 
   pub see-entity : (name : Name) (found : EntityAt) → entity_at_name (sight_of world free) name ≡ Some found → SeenEntity setup world name found
   see-entity name found shown =

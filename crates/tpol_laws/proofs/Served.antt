@@ -91,7 +91,7 @@ pub record Begun (run : Run) (first : List Event) : Type 0 where
   pub session : Session
   pub moved : Moved run first session 1 None 0 (fresh_session (sight_after run.setup first)) (after_act run (begun first) Turn)
 
-start-moved : (run : Run) (first : List Event) → start_rule (view_of run.setup first) ≡ None → Begun run first
+pub start-moved : (run : Run) (first : List Event) → start_rule (view_of run.setup first) ≡ None → Begun run first
 unfolding view_of world_at session_state sight_after
 start-moved run first rule =
     let own = unstopped (view_of run.setup first) run.locality (start_command run.plan.nonce_seed) refl refl refl refl rule in
@@ -150,44 +150,54 @@ length-binds : (facts : List Fact) → length (map bind_of facts) ≡ length fac
 length-binds [] = refl
 length-binds (fact ∷ facts) = ap suc (length-binds facts)
 
-same-length : (kept chosen : SessionState) → AreAlike kept chosen → length kept.facts ≡ length chosen.facts
+pub same-length : (kept chosen : SessionState) → AreAlike kept chosen → length kept.facts ≡ length chosen.facts
 same-length kept chosen alike = sym (length-binds kept.facts) ∙ ap length alike.binds ∙ length-binds chosen.facts
 
 -- what is left of a path, from where the run stands
-pub record Left (run : Run) (first past : List Event) (session : Session) (done number : ℕ) (chosen : SessionState) (rest : List Move) : Type 0 where
+pub record Ahead (run : Run) (first past : List Event) (session : Session) (done : ℕ) (chosen : SessionState) (rest : List Move) : Type 0 where
   pub stands : Stands run first past session chosen
   pub path : (k : ℕ) → slice_get run.plan.path.moves (done + k) ≡ slice_get rest k
   pub judged : session_along (sight_after run.setup first) chosen rest ≡ judged_after run first run.plan.path.moves
-  pub opens : moves_block (chooser_of run first) number chosen rest ≡ None
   pub room : length chosen.facts + length rest ≤ 512
 
-next-at : (run : Run) (first past : List Event) (session : Session) (done number : ℕ) (chosen : SessionState) (rest : List Move) → Left run first past session done number chosen rest
-    → slice_get run.plan.path.moves done ≡ slice_get rest 0
-next-at run first past session done number chosen rest left =
-    let same : done ≡ done + 0 = omega arith in
-    ap (slice_get run.plan.path.moves) same ∙ left.path 0
+-- and nothing blocks it
+pub record Left (run : Run) (first past : List Event) (session : Session) (done number : ℕ) (chosen : SessionState) (rest : List Move) : Type 0 where
+  pub ahead : Ahead run first past session done chosen rest
+  pub opens : moves_block (chooser_of run first) number chosen rest ≡ None
 
-has-room : (run : Run) (first past : List Event) (session : Session) (done number : ℕ) (chosen : SessionState) (act : Move) (rest : List Move) → Left run first past session done number chosen (act ∷ rest)
+pub next-at : (run : Run) (first past : List Event) (session : Session) (done : ℕ) (chosen : SessionState) (rest : List Move) → Ahead run first past session done chosen rest
+    → slice_get run.plan.path.moves done ≡ slice_get rest 0
+next-at run first past session done chosen rest ahead =
+    let same : done ≡ done + 0 = omega arith in
+    ap (slice_get run.plan.path.moves) same ∙ ahead.path 0
+
+pub has-room : (run : Run) (first past : List Event) (session : Session) (done : ℕ) (chosen : SessionState) (act : Move) (rest : List Move) → Ahead run first past session done chosen (act ∷ rest)
     → (later : List Event) → Stands run first later session chosen → length (session_state run.setup later session.handle).facts < 512
-has-room run first past session done number chosen act rest left later on =
+has-room run first past session done chosen act rest ahead later on =
     let same = same-length (session_state run.setup later session.handle) chosen on.alike in
-    let room : length chosen.facts + length (act ∷ rest) ≤ 512 = left.room in
+    let room : length chosen.facts + length (act ∷ rest) ≤ 512 = ahead.room in
     omega (arith, same, room)
+
+pub next-ahead : (run : Run) (first past : List Event) (session : Session) (done : ℕ) (chosen : SessionState) (act : Move) (rest : List Move) → Ahead run first past session done chosen (act ∷ rest)
+    → (later : List Event) → Stands run first later session (session_after (sight_after run.setup first) chosen act)
+    → Ahead run first later session (done + 1) (session_after (sight_after run.setup first) chosen act) rest
+next-ahead run first past session done chosen act rest ahead later on =
+    let more = length-append chosen.facts (fact_of_move (sight_after run.setup first) chosen act ∷ []) in
+    let room : length chosen.facts + length (act ∷ rest) ≤ 512 = ahead.room in
+    record {
+      stands = on;
+      path = λ k. let same : done + 1 + k ≡ done + suc k = omega arith in ap (slice_get run.plan.path.moves) same ∙ ahead.path (suc k);
+      judged = ahead.judged;
+      room = omega (arith, more, room);
+    }
 
 next-left : (run : Run) (first past : List Event) (session : Session) (done number : ℕ) (chosen : SessionState) (act : Move) (rest : List Move) → Left run first past session done number chosen (act ∷ rest)
     → (later : List Event) → Stands run first later session (session_after (sight_after run.setup first) chosen act)
     → Left run first later session (done + 1) (number + 1) (session_after (sight_after run.setup first) chosen act) rest
-next-left run first past session done number chosen act rest left later on =
-    let new = fact_of_move (sight_after run.setup first) chosen act in
-    let more = length-append chosen.facts (fact_of_move (sight_after run.setup first) chosen act ∷ []) in
-    let room : length chosen.facts + length (act ∷ rest) ≤ 512 = left.room in
-    record {
-      stands = on;
-      path = λ k. let same : done + 1 + k ≡ done + suc k = omega arith in ap (slice_get run.plan.path.moves) same ∙ left.path (suc k);
-      judged = left.judged;
-      opens = (or_else-none (block_of number (move_block (chooser_of run first) chosen act)) (moves_block (chooser_of run first) (number + 1) (session_after (sight_after run.setup first) chosen act) rest) left.opens).1;
-      room = omega (arith, more, room);
-    }
+next-left run first past session done number chosen act rest left later on = record {
+  ahead = next-ahead run first past session done chosen act rest left.ahead later on;
+  opens = (or_else-none (block_of number (move_block (chooser_of run first) chosen act)) (moves_block (chooser_of run first) (number + 1) (session_after (sight_after run.setup first) chosen act) rest) left.opens).1;
+}
 
 act-open : (run : Run) (first past : List Event) (session : Session) (done number : ℕ) (chosen : SessionState) (act : Move) (rest : List Move) → Left run first past session done number chosen (act ∷ rest)
     → move_block (chooser_of run first) chosen act ≡ None
@@ -200,10 +210,10 @@ act-open run first past session done number chosen act rest left =
 goal-turn : (run : Run) (first : List Event) → ServesGoal run first → (turns : ℕ) (past : List Event) (session : Session) (sent done number : ℕ) (chosen : SessionState) → Left run first past session done number chosen []
     → ServedAfter run turns (after_act run (record { past = past; standing = Moving session sent None done }) Turn)
 goal-turn run first serve turns past session sent done number chosen left =
-    let on = subst (Stands run first past session) left.judged left.stands in
-    let opens = subst (λ (s : SessionState). goal_block (chooser_of run first) s ≡ None) left.judged (map-none _ (goal_block (chooser_of run first) chosen) left.opens) in
+    let on = subst (Stands run first past session) left.ahead.judged left.ahead.stands in
+    let opens = subst (λ (s : SessionState). goal_block (chooser_of run first) s ≡ None) left.ahead.judged (map-none _ (goal_block (chooser_of run first) chosen) left.opens) in
     let served = serve past session sent on opens in
-    let at : slice_get run.plan.path.moves done ≡ None = next-at run first past session done number chosen [] left in
+    let at : slice_get run.plan.path.moves done ≡ None = next-at run first past session done chosen [] left.ahead in
     subst (ServedAfter run turns)
     (sym (turn-sends run past session sent None done
     ∙ ap (λ (o : Option Move). after_sent run past session sent None done o (next_command run.plan session sent None o)) at
@@ -222,8 +232,8 @@ module _ (run : Run) (is : IsRun run) (first : List Event) (serve : ServesGoal r
       → ((later : List Event) → Left run first later session (done + 1) (number + 1) (session_after (sight_after run.setup first) chosen act) rest → ServedAfter run turns (record { past = later; standing = Moving session (sent + 1) None (done + 1) }))
       → ServedAfter run (suc turns) (record { past = past; standing = Moving session sent None done })
   plain-turn turns past session sent done number chosen act rest left other goes =
-      let at = next-at run first past session done number chosen (act ∷ rest) left in
-      let moved = plain-moved run is first past session sent done chosen left.stands (has-room run first past session done number chosen act rest left past left.stands) act at other
+      let at = next-at run first past session done chosen (act ∷ rest) left.ahead in
+      let moved = plain-moved run is first past session sent done chosen left.ahead.stands (has-room run first past session done chosen act rest left.ahead past left.ahead.stands) act at other
       (all-at MoveHasBounds run.plan.path.moves done act is.moves at) (known-of past session sent done act at) (act-open run first past session done number chosen act rest left) in
       one-turn run turns (record { past = past; standing = Moving session sent None done })
       (subst (ServedAfter run turns) (sym moved.is) (goes moved.past (next-left run first past session done number chosen act rest left moved.past moved.stands)))
@@ -233,8 +243,8 @@ module _ (run : Run) (is : IsRun run) (first : List Event) (serve : ServesGoal r
       → ((later : List Event) → Left run first later session (done + 1) (number + 1) (session_after (sight_after run.setup first) chosen (Approve key policy_ref approved signature)) rest → ServedAfter run turns (record { past = later; standing = Moving session (sent + 1 + 1) None (done + 1) }))
       → ServedAfter run (suc (suc turns)) (record { past = past; standing = Moving session sent None done })
   approve-turns turns past session sent done number chosen key policy_ref approved signature rest left goes =
-      let at = next-at run first past session done number chosen (Approve key policy_ref approved signature ∷ rest) left in
-      let moved = approve-moved run is first past session sent done chosen left.stands (has-room run first past session done number chosen (Approve key policy_ref approved signature) rest left) key policy_ref approved signature at
+      let at = next-at run first past session done chosen (Approve key policy_ref approved signature ∷ rest) left.ahead in
+      let moved = approve-moved run is first past session sent done chosen left.ahead.stands (has-room run first past session done chosen (Approve key policy_ref approved signature) rest left.ahead) key policy_ref approved signature at
       (all-at MoveHasBounds run.plan.path.moves done (Approve key policy_ref approved signature) is.moves at) (known-of past session sent done (Approve key policy_ref approved signature) at)
       (act-open run first past session done number chosen (Approve key policy_ref approved signature) rest left) in
       one-turn run (suc turns) (record { past = past; standing = Moving session sent None done })
@@ -263,13 +273,18 @@ module _ (run : Run) (is : IsRun run) (first : List Event) (serve : ServesGoal r
 
 -- ---- the whole run
 
+-- all of the path lies ahead of a run that has begun
+pub all-ahead : (run : Run) (first : List Event) (start : Begun run first) → length run.plan.path.moves ≤ 512
+    → Ahead run first start.moved.past start.session 0 (fresh_session (sight_after run.setup first)) run.plan.path.moves
+all-ahead run first start short =
+    let room : length {A = Fact} [] + length run.plan.path.moves ≤ 512 = omega (arith, short) in
+    record { stands = start.moved.stands; path = λ k. ap (slice_get run.plan.path.moves) (zero-add k); judged = refl; room = room }
+
 pub path-served : (run : Run) (first : List Event) (turns : ℕ) → IsBegun run
     → first_block run.plan.path (sight_after run.setup first) run.plan.grants run.plan.goal run.locality ≡ None → 2 * length run.plan.path.moves + 2 ≤ turns → ServedAfter run turns (begun first)
 unfolding first_block sight_after
 path-served run first zero is opens enough = absurd (omega (arith, enough))
 path-served run first (suc turns) is opens enough =
-    let short : length run.plan.path.moves ≤ 512 = is.short in
-    let room : length {A = Fact} [] + length run.plan.path.moves ≤ 512 = omega (arith, short) in
     let left : 2 * length run.plan.path.moves + 1 ≤ turns = omega (arith, enough) in
     let runs : IsRun run = record {
       setup = is.setup;
@@ -284,10 +299,4 @@ path-served run first (suc turns) is opens enough =
     one-turn run turns (begun first)
     (subst (ServedAfter run turns) (sym start.moved.is)
     (moves-served run runs first (serves-goal run is first) run.plan.path.moves turns start.moved.past start.session 1 0 1 (fresh_session (sight_after run.setup first))
-    (record {
-      stands = start.moved.stands;
-      path = λ k. ap (slice_get run.plan.path.moves) (zero-add k);
-      judged = refl;
-      opens = parts.1;
-      room = room;
-    }) left))
+    (record { ahead = all-ahead run first start is.short; opens = parts.1 }) left))

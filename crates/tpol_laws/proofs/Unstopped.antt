@@ -27,7 +27,7 @@ use Rattle.tpm_world.specs.Objects.{object_of}
 use Rattle.tpm_world.specs.World.{WorldState}
 use Rattle.tpm_engine.specs.declared.stop.Stop.{Stop}
 use Rattle.tpm_engine.specs.Answers.{first_stop, own_rule}
-use Rattle.tpm_engine.specs.Authorization.{area_stop, authorization_stop, entity_stop, number_of_command}
+use Rattle.tpm_engine.specs.Authorization.{area_stop, authorization_stop, entity_stop, number_of_command, password_stop}
 use Rattle.tpm_engine.specs.PolicyCommands.{policy_rule}
 use Rattle.tpm_engine.specs.Stops.{apart_stop, handle_stop, handles_from, handles_stop, has_room, refuses, room_stop, session_of_area, session_stop}
 use Rattle.tpm_engine.specs.Tables.{TableState}
@@ -73,15 +73,21 @@ entity-there tables n handle entity h = at (is_policy_session handle) refl
 
 -- ---- authorization by a password
 
+-- it is stopped where the password is denied
+pub password-stopped : (tables : TableState) (locality : ℕ) (command : Command) (grants : Grants) (handle : ℕ) (entity : Entity)
+    → area_of command ≡ Some (password_area grants handle) → slice_index (handles_of command) 0 ≡ handle → entity_at tables.world handle ≡ Some entity
+    → authorization_stop tables locality command ≡ password_stop entity (number_of_command command) (secret_of grants.secrets handle)
+password-stopped tables locality command grants handle entity has first there =
+    ap (option_and_then (area_stop tables locality command)) has
+    ∙ ap (λ (h : ℕ). option_map_or (entity_stop tables locality command (password_area grants handle)) (entity_at tables.world h) (Some (refuses (reference_of_handle 1)))) first
+    ∙ ap (λ (o : Option Entity). option_map_or (entity_stop tables locality command (password_area grants handle)) o (Some (refuses (reference_of_handle 1)))) there
+
 pub password-passes : (tables : TableState) (locality : ℕ) (command : Command) (grants : Grants) (handle : ℕ) (entity : Entity)
     → area_of command ≡ Some (password_area grants handle) → slice_index (handles_of command) 0 ≡ handle → entity_at tables.world handle ≡ Some entity
     → password_denial entity (number_of_command command) (secret_of grants.secrets handle) ≡ None
     → authorization_stop tables locality command ≡ None
 password-passes tables locality command grants handle entity has first there none =
-    ap (option_and_then (area_stop tables locality command)) has
-    ∙ ap (λ (h : ℕ). option_map_or (entity_stop tables locality command (password_area grants handle)) (entity_at tables.world h) (Some (refuses (reference_of_handle 1)))) first
-    ∙ ap (λ (o : Option Entity). option_map_or (entity_stop tables locality command (password_area grants handle)) o (Some (refuses (reference_of_handle 1)))) there
-    ∙ ap (option_map _) none
+    password-stopped tables locality command grants handle entity has first there ∙ ap (option_map _) none
 
 -- a command without an area has no authorizing session
 pub no-session : (tables : TableState) (command : Command) → area_of command ≡ None → session_stop tables command ≡ None
@@ -94,6 +100,14 @@ pub unstopped : (tables : TableState) (locality : ℕ) (command : Command) → h
     → own_rule tables command ≡ None → first_stop tables locality command ≡ None
 unstopped tables locality command handles session authorization room own =
     λ i. or_else (or_else (handles i) (or_else (session i) (or_else (authorization i) (room i)))) (option_map refuses (own i))
+
+-- the own rule of a policy command is that of its session, which is live
+pub own-rule-on : (tables : TableState) (own : ℕ) (kept : SessionState) → state_at tables.sessions own ≡ Some kept → (command : Command) (place : ℕ) → policy_session_of command ≡ Some (own, place)
+    → own_rule tables command ≡ policy_rule tables.world kept command
+own-rule-on tables own kept live command place is =
+    own-is-policy tables command (ap is_some is)
+    ∙ ap (option_and_then (λ (p : ℕ × ℕ). option_map_or (λ state. policy_rule tables.world state command) (state_at tables.sessions p.0) (Some rc_reference_h0))) is
+    ∙ ap (λ (o : Option SessionState). option_map_or (λ state. policy_rule tables.world state command) o (Some rc_reference_h0)) live
 
 -- a policy command on a live session with room
 module _ (tables : TableState) (locality own : ℕ) (kept : SessionState) (live : state_at tables.sessions own ≡ Some kept) (few : length kept.facts < 512) where
@@ -108,10 +122,7 @@ module _ (tables : TableState) (locality own : ℕ) (kept : SessionState) (live 
 
   own-there : (command : Command) (place : ℕ) → policy_session_of command ≡ Some (own, place) → policy_rule tables.world kept command ≡ None → own_rule tables command ≡ None
   own-there command place is rule =
-      own-is-policy tables command (ap is_some is)
-      ∙ ap (option_and_then (λ (p : ℕ × ℕ). option_map_or (λ state. policy_rule tables.world state command) (state_at tables.sessions p.0) (Some rc_reference_h0))) is
-      ∙ ap (λ (o : Option SessionState). option_map_or (λ state. policy_rule tables.world state command) o (Some rc_reference_h0)) live
-      ∙ rule
+      own-rule-on tables own kept live command place is ∙ rule
 
   pub policy-unstopped : (command : Command) (place : ℕ) → policy_session_of command ≡ Some (own, place) → handles_stop tables command ≡ None → session_stop tables command ≡ None → authorization_stop tables locality command ≡ None
       → policy_rule tables.world kept command ≡ None → first_stop tables locality command ≡ None

@@ -1,3 +1,4 @@
 pub mod Acts
+pub mod Chances
 pub mod Others
 pub mod Runs

@@ -2,6 +2,7 @@
 
 ghost use Rattle.std.specs.Prelude.{◌≡◌, ◌≤◌, ◌<◌, ◌+◌, ◌*◌, ℕ, List, None, Some, length, map, option_map, replicate, take, true};
 ghost use Rattle.std.specs.List.{Contains};
+ghost use Rattle.tpol_choose.specs.declared.block.Block.{Block};
 ghost use Rattle.tpol_choose.specs.Blocks.{first_block};
 ghost use Rattle.tpol_digest.specs.Digest.{digest_of_moves, policy_digest};
 ghost use Rattle.tpol_digest.specs.Paths.{paths_of};
@@ -21,8 +22,9 @@ ghost use Rattle.tpm_engine.specs.declared.event.Event.{Event as EventOf};
 ghost use Rattle.tpm_engine.specs.Sights.{sight_after};
 ghost use Rattle.tpm_engine.specs.Views.{facts_of};
 ghost use Rattle.tpol_laws.specs.Acts.{Act, Run, Turn, after_act, after_acts, begun, succeeds, turns_in};
+ghost use Rattle.tpol_laws.specs.Chances.{IsByChance};
 ghost use Rattle.tpol_laws.specs.Others.{AreOthersApart, AreSecretsOnWritten, HasGoneOn, place_of};
-ghost use Rattle.tpol_laws.specs.Runs.{IsBegun, IsRun};
+ghost use Rattle.tpol_laws.specs.Runs.{HasShortOffset, IsBegun, IsRun};
 
 /// A path that nothing stops on the machine as it is now is one whose commands can all be made: it is not outside,
 /// each Name on it is in the directory with its kind, and each key that signs is granted.
@@ -39,6 +41,24 @@ pub fn a_path_that_can_is_served()
         → IsBegun run → first_block run.plan.path (sight_after run.setup past) run.plan.grants run.plan.goal run.locality ≡ None
         → 2 * length run.plan.path.moves + 2 ≤ turns
         → (bytes : List ℕ) × ((after_acts run (replicate turns Turn) (begun past)).standing ≡ Over (Served bytes)) }
+{}
+
+/// A run whose path is blocked on the machine as it is at the run's begin is never served, where its plan is
+/// complete and only its own turns come, and the machine does not carry out the command of its goal: some command
+/// of it fails. There is one exception: the run sends an HMAC which is the one that the machine asks for, though
+/// the blocks of the two keys differ, or the Names that the two are over.
+pub fn a_blocked_path_fails()
+    ensures served { (run : Run) (past : List EventOf) (turns : ℕ) (block : Block) (bytes : List ℕ)
+        → IsBegun run → HasShortOffset run.plan.goal → is_complete run.plan ≡ true
+        → first_block run.plan.path (sight_after run.setup past) run.plan.grants run.plan.goal run.locality ≡ Some block
+        → (after_acts run (replicate turns Turn) (begun past)).standing ≡ Over (Served bytes)
+        → (before : ℕ) × (before ≤ turns) × IsByChance run (after_acts run (replicate before Turn) (begun past)) }
+    ensures fails { (run : Run) (past : List EventOf) (turns : ℕ) (block : Block) (session : ℕ)
+        → IsBegun run → HasShortOffset run.plan.goal → is_complete run.plan ≡ true
+        → first_block run.plan.path (sight_after run.setup past) run.plan.grants run.plan.goal run.locality ≡ Some block
+        → place_of (after_acts run (replicate turns Turn) (begun past)).standing ≡ Some (session, length run.plan.path.moves)
+        → succeeds run (after_acts run (replicate turns Turn) (begun past)) (sends run.plan (after_acts run (replicate turns Turn) (begun past)).standing) ≡ true
+        → (before : ℕ) × (before ≤ turns) × IsByChance run (after_acts run (replicate before Turn) (begun past)) }
 {}
 
 /// A run is over after as many turns as it has commands at most, whatever others do: two for each move, and the

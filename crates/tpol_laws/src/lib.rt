@@ -19,6 +19,16 @@
 //! - That nothing blocks the path: for a path that `choose` answers, its clause `chosen`, over the machine's sight
 //!   at the run's begin.
 //!
+//! `a_blocked_path_fails`
+//! - `IsBegun`: as for the law before.
+//! - `HasShortOffset`: the offset of a goal is a `u16`.
+//! - That the plan is complete: what `Plan::complete` answers, its clause `complete`.
+//! - That something blocks the path: what `can` answers, its clause `block`, over the machine's sight at the run's
+//!   begin.
+//!
+//! Its exception is no premise but part of the answer: the turn before which the HMAC that the run makes is, by
+//! chance, the one that the machine asks for.
+//!
 //! `a_run_ends`: none.
 //!
 //! `a_run_goes_on`, `session_digest_is_compiled`
@@ -39,6 +49,6 @@
 mod laws;
 
 pub use laws::{
-    a_path_that_can_is_complete, a_path_that_can_is_served, a_run_ends, a_run_goes_on,
-    session_digest_is_compiled,
+    a_blocked_path_fails, a_path_that_can_is_complete, a_path_that_can_is_served, a_run_ends,
+    a_run_goes_on, session_digest_is_compiled,
 };
