@@ -7,17 +7,17 @@ use Rattle.tpol_digest.specs.Paths.{paths_of}
 use Rattle.tpol_lines.specs.Generated.{command_count_line, generated_line, path_count_line}
 use Rattle.tpol_lines.specs.Lines.{line_of}
 use Rattle.tpol_name.specs.declared.setup.Setup.{Setup}
-use Rattle.tpol_top.specs.declared.answer.Answer.{Answer}
-use Rattle.tpol_top.specs.declared.answer.Verdict.TheVariants.{Done}
-use Rattle.tpol_top.specs.declared.scenario.Scenario.{Scenario}
-use Rattle.tpol_top.specs.Begin.{run_begun}
+use Rattle.tpol_prepare.specs.declared.answer.Answer.{Answer}
+use Rattle.tpol_prepare.specs.declared.answer.Verdict.TheVariants.{Done}
+use Rattle.tpol_prepare.specs.declared.scenario.Scenario.{Scenario}
+use Rattle.tpol_perform.specs.Begin.{run_begun}
 use Rattle.tpol_top.specs.Generate.{generated_answer, generated_performance, generated_run, generated_scenario, generated_setup, last_two}
-use Rattle.tpol_top.specs.Lines.{digest_line}
-use Rattle.tpol_top.specs.Performance.{PerformanceState, start_of}
-use Rattle.tpol_top.specs.Scenario.{erased_scenario}
-use Rattle.tpol_top.specs.Turns.{turned_to_end}
-use Rattle.tpol_top.proofs.FilledErased.{policy_digest_erased}
-use Rattle.tpol_top.proofs.PerformanceErased.{run_erased}
+use Rattle.tpol_prepare.specs.Lines.{digest_line}
+use Rattle.tpol_perform.specs.Performance.{PerformanceState, start_of}
+use Rattle.tpol_prepare.specs.Scenario.{erased_scenario}
+use Rattle.tpol_perform.specs.Turns.{turned_to_end}
+use Rattle.tpol_prepare.proofs.FilledErased.{policy_digest_erased}
+use Rattle.tpol_perform.proofs.PerformanceErased.{run_erased}
 use Rattle.tpol_tree.specs.ClosedErased.{erased}
 use Rattle.tpol_tree.specs.declared.closed.Closed.{Closed}
 

@@ -3,10 +3,11 @@ use Rattle.std.proofs.Common.{◌≡◌, ◌∙◌, ap, ℕ, codes}
 use Rattle.tpol_base.specs.declared.digest.Digest32.{Digest32}
 use Rattle.tpol_digest.specs.Digest.{policy_digest}
 use Rattle.tpol_name.specs.declared.setup.Setup.{Setup}
-use Rattle.tpol_top.specs.declared.new_run.NewRun.{NewRun}
-use Rattle.tpol_top.specs.declared.scenario.Scenario.{Scenario}
-use Rattle.tpol_top.specs.Generate.{generated_performance, generated_run, generated_scenario, generated_setup, performed_run}
-use Rattle.tpol_top.specs.Performance.{PerformanceState, start_of}
+use Rattle.tpol_perform.specs.declared.new_run.NewRun.{NewRun}
+use Rattle.tpol_prepare.specs.declared.scenario.Scenario.{Scenario}
+use Rattle.tpol_perform.specs.FirstRun.{performed_run}
+use Rattle.tpol_top.specs.Generate.{generated_performance, generated_run, generated_scenario, generated_setup}
+use Rattle.tpol_perform.specs.Performance.{PerformanceState, start_of}
 use Rattle.tpol_tree.specs.declared.closed.Closed.{Closed}
 
 abbrev run_of : ℕ → Closed → Digest32 → PerformanceState

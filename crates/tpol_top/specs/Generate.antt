@@ -12,17 +12,16 @@ use Rattle.tpol_name.specs.declared.areas.Scheme.TheVariants.{Sealed}
 use Rattle.tpol_name.specs.declared.entries.ObjectEntry.{ObjectEntry}
 use Rattle.tpol_name.specs.declared.setup.Setup.{Setup}
 use Rattle.tpol_name.specs.Directories.{directory_of}
-use Rattle.tpol_top.specs.declared.answer.Answer.{Answer}
-use Rattle.tpol_top.specs.declared.answer.Verdict.TheVariants.{Done}
-use Rattle.tpol_top.specs.declared.new_run.NewRun.{NewRun}
-use Rattle.tpol_top.specs.declared.scenario.Scenario.{Scenario}
-use Rattle.tpol_top.specs.Begin.{run_begun}
-use Rattle.tpol_top.specs.Filled.{filled_step}
-use Rattle.tpol_top.specs.Limits.{limit_step}
-use Rattle.tpol_top.specs.Lines.{digest_line}
-use Rattle.tpol_top.specs.Performance.{PerformanceState, start_of}
-use Rattle.tpol_top.specs.Steps.{Step, ◌>>=◌}
-use Rattle.tpol_top.specs.Turns.{turned_to_end}
+use Rattle.tpol_prepare.specs.declared.answer.Answer.{Answer}
+use Rattle.tpol_prepare.specs.declared.answer.Verdict.TheVariants.{Done}
+use Rattle.tpol_perform.specs.declared.new_run.NewRun.{NewRun}
+use Rattle.tpol_prepare.specs.declared.scenario.Scenario.{Scenario}
+use Rattle.tpol_prepare.specs.Filled.{filled_step}
+use Rattle.tpol_perform.specs.FirstRun.{performed_run}
+use Rattle.tpol_prepare.specs.Limits.{limit_step}
+use Rattle.tpol_prepare.specs.Lines.{digest_line}
+use Rattle.tpol_perform.specs.Performance.{PerformanceState, start_of}
+use Rattle.tpol_prepare.specs.Steps.{Step, ◌>>=◌}
 use Rattle.tpol_tree.specs.declared.closed.Closed.{Closed}
 use Rattle.tpol_tree.specs.declared.policy.Branches.{Branches}
 use Rattle.tpol_tree.specs.declared.policy.Branches.TheVariants.{More' as MoreBranches', End as EndBranches}
@@ -131,11 +130,7 @@ generated_run = record {
 
 -- ---- what is printed
 
--- a run on the policy of this name begins, and run 1 goes to its end
-abbrev pub performed_run : Scenario → List ℕ → NewRun → PerformanceState → PerformanceState
-performed_run scenario policy run p = turned_to_end scenario 1 (run_begun scenario policy run p)
-
--- on that machine, by that client
+-- the run of the policy on that machine, by that client, to its end
 unfoldable pub generated_performance : ℕ → Closed → PerformanceState
 generated_performance order closed =
     let setup = generated_setup order (policy_digest closed) in

@@ -1,10 +1,21 @@
--- The numbers of statuses, and which of them say that the whole report was written.
+-- The status of each verdict, the numbers of statuses, and which of them say that the whole report was written.
 use Rattle.std.specs.Prelude.{ℕ, ⊤, Result, Ok, Err}
-use Rattle.tpol_top.specs.declared.halt.Halt.{Halt}
-use Rattle.tpol_top.specs.declared.halt.Halt.TheVariants.{Refused, ReadFailed, ShelfFailed}
-use Rattle.tpol_top.specs.declared.halt.Halt.TheVariants as halts
+use Rattle.tpol_prepare.specs.declared.answer.Verdict.{Verdict}
+use Rattle.tpol_prepare.specs.declared.answer.Verdict.TheVariants as V
+use Rattle.tpol_prepare.specs.declared.halt.Halt.{Halt}
+use Rattle.tpol_prepare.specs.declared.halt.Halt.TheVariants.{Refused, ReadFailed, ShelfFailed}
+use Rattle.tpol_prepare.specs.declared.halt.Halt.TheVariants as halts
 use Rattle.tpol_top.specs.declared.status.Status.{Status}
 use Rattle.tpol_top.specs.declared.status.Status.TheVariants.{Done, Usage, ReadFault, WriteFault, ShelfFault, TooLarge, BadPolicy, BadScene, NoMemory, PathLimit}
+
+-- the status of a verdict
+abbrev pub status_of : Verdict → Status
+status_of V.Done = Done
+status_of V.Usage = Usage
+status_of V.TooLarge = TooLarge
+status_of V.BadPolicy = BadPolicy
+status_of V.BadScene = BadScene
+status_of V.PathLimit = PathLimit
 
 abbrev pub number_of_status : Status → ℕ
 number_of_status Done = 0

@@ -1,18 +1,16 @@
 // The command `canon`.
 
 ghost use Rattle.std.specs.Prelude.{◌≡◌, IfOk};
+ghost use Rattle.tpol_prepare.specs.Answer.{one_line};
+ghost use Rattle.tpol_prepare.specs.Steps.{Answers, IsInside};
 ghost use Rattle.tpol_top.specs.Canon.{canon_step};
-ghost use Rattle.tpol_top.specs.Answer.{one_line};
-ghost use Rattle.tpol_top.specs.Steps.{Answers, IsInside};
 ghost use Rattle.tpol_tree.specs.Erased.{erased_policy};
 ghost use Rattle.tpol_write.specs.Canonical.{canonical_text};
 
-use crate::answer::{Answer, Verdict};
-use crate::halt::Halt;
-use crate::read_step::read_document;
 use std::alloc::Global;
 use tpol_base::NoMemory;
 use tpol_lines::{Lines, push_bytes};
+use tpol_prepare::{Answer, Halt, Verdict, read_document};
 use tpol_tree::Policy;
 use tpol_write::write_policy;
 

@@ -1,21 +1,21 @@
 ghost use Rattle.std.specs.Prelude.{◌≡◌, Some, IfSome, OnErr};
+ghost use Rattle.tpol_perform.specs.Explained.{IsExplainedScene};
+ghost use Rattle.tpol_prepare.specs.Steps.{Answers, AsksShelf, IfAnswered};
 ghost use Rattle.tpol_top.specs.Commands.{documents_after, request_step};
-ghost use Rattle.tpol_top.specs.Explained.{IsExplainedScene, OfExplain};
+ghost use Rattle.tpol_top.specs.Explain.{OfExplain};
 ghost use Rattle.tpol_top.specs.Reached.{IsDocumentFor};
-ghost use Rattle.tpol_top.specs.Steps.{Answers, AsksShelf, IfAnswered};
 ghost use Rattle.tpol_top.specs.Words.{uses_shelf_for};
 
-use crate::answer::Answer;
 use crate::canon::canon;
 use crate::compile::compile;
 use crate::generate::generate;
-use crate::halt::Halt;
 use crate::import::import;
 use crate::paths::list_paths;
-use crate::perform::perform_scene;
 use crate::request::Request;
 use std::alloc::Global;
 use tpol_base::Shelf;
+use tpol_perform::perform_scene;
+use tpol_prepare::{Answer, Halt};
 
 /// What a command has to say of a document that is not too large.
 pub fn carry_out<H: Shelf>(

@@ -4,27 +4,19 @@ ghost use Rattle.std.specs.Prelude.{◌≡◌, [], ◌++◌, ◌<◌, ◌≤◌,
 ghost use Rattle.tpol_digest.specs.Limits.{AreWithinLimits};
 ghost use Rattle.tpol_digest.specs.Paths.{paths_of};
 ghost use Rattle.tpol_digest.specs.WellFormed.{IsWellFormedPolicy};
-ghost use Rattle.tpol_name.specs.Setups.{IsSetup};
-ghost use Rattle.tpol_top.specs.Generate.{generate_step, generated_answer, generated_head, generated_performance, generated_run_lines, generated_scenario, performed_run};
-ghost use Rattle.tpol_top.specs.Performance.{start_of};
-ghost use Rattle.tpol_top.specs.Scenario.{IsScenarioOf};
-ghost use Rattle.tpol_top.specs.Steps.{Answers, IsInside};
+ghost use Rattle.tpol_prepare.specs.Steps.{Answers, IsInside};
+ghost use Rattle.tpol_top.specs.Generate.{generate_step, generated_answer, generated_head, generated_performance, generated_run_lines, generated_scenario};
 
-use crate::answer::{Answer, Verdict};
-use crate::documents::FilledDocument;
-use crate::filled::fill_document;
 use crate::generated::{generated_policy, generated_run, generated_setup};
-use crate::halt::Halt;
-use crate::limits::check_limits;
-use crate::lines::digest_line;
-use crate::new_run::NewRun;
-use crate::performance::Performance;
-use crate::scenario::Scenario;
 use std::alloc::Global;
 use tpol_base::{NoMemory, Sequence, Text};
 use tpol_digest::{count_paths, digest_of};
 use tpol_lines::{Lines, command_count_line, generated_line, path_count_line, push_line};
 use tpol_name::{Setup, directory};
+use tpol_perform::{Performance, perform_run};
+use tpol_prepare::{
+    Answer, FilledDocument, Halt, Scenario, Verdict, check_limits, digest_line, fill_document,
+};
 use tpol_tree::{Approvals, Closed};
 
 /// The command `gen`: a policy of so many ORs, in an order by the bits of a number, its paths and its digest, and a
@@ -98,46 +90,6 @@ fn generated_performance(alloc: Global, order: u32, closed: Closed) -> Result<Pe
     let run = generated_run(alloc)?;
     let performance = perform_run(alloc, setup, &scenario, "gen", run)?;
     Ok(performance)
-}
-
-// A machine starts from this setup, a run on a policy begins, and run 1 goes to its end. The policy's name is a
-// parameter and no literal, since the proof is of any name and does not spell it out.
-fn perform_run(
-    alloc: Global,
-    setup: Setup,
-    scenario: &Scenario,
-    policy: &str,
-    run: NewRun,
-) -> Result<Performance, NoMemory>
-    requires setup { IsSetup setup }
-    requires scenario { IsScenarioOf setup scenario.now }
-    requires locality { run.locality ≤ 4 }
-    ensures told { IfOk result (λ performance. performance ≡ performed_run scenario.now policy.now run (start_of setup)) }
-    ensures few { IfOk result (λ performance. length performance.past ≤ 2000) }
-{
-    let mut performance = Performance::new(alloc, setup)?;
-    performance.run_first(alloc, scenario, policy, run)?;
-    Ok(performance)
-}
-
-impl Performance {
-    // A run on a policy begins, and run 1 goes to its end, on a machine without events.
-    fn run_first(
-        &mut self,
-        alloc: Global,
-        scenario: &Scenario,
-        policy: &str,
-        run: NewRun,
-    ) -> Result<(), NoMemory>
-        requires scenario { IsScenarioOf self.old.setup scenario.now }
-        requires locality { run.locality ≤ 4 }
-        requires first { length self.old.past ≡ 0 }
-        ensures told { OnOk result (self.new ≡ performed_run scenario.now policy.now run self.old) }
-        ensures few { OnOk result (length self.new.past ≤ 2000) }
-    {
-        self.begin(alloc, scenario, policy, run)?;
-        self.turn_to_end(alloc, scenario, 1)
-    }
 }
 
 // What the events of the run go by.

@@ -9,11 +9,11 @@ ghost use Rattle.tpol_tree.specs.declared.policy.Elements.TheVariants.{End};
 ghost use Rattle.tpol_tree.specs.Elements.{EachElementWithin, HasBranchCount, HasBranchCounts};
 ghost use Rattle.tpol_tree.specs.Erased.{erased_element, erased_elements, erased_policy};
 
-use crate::new_run::NewRun;
 use std::alloc::Global;
 use tpol_base::{Blob, Digest32, Digests, NoMemory, Sequence, Text};
 use tpol_goal::{Goal, Grants};
 use tpol_name::{Indices, ObjectEntry, ObjectPublic, Objects, Scheme, Setup};
+use tpol_perform::NewRun;
 use tpol_tree::{ApprovalWishes, Branch, Branches, Element, Elements, PcrValues, PcrWish, Policy};
 
 /// The handle of the sealed object.

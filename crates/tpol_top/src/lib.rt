@@ -6,44 +6,22 @@
 //! through steps, each of which gives a value or ends the run with an answer.
 #![tactic(auto)]
 
-mod answer;
-mod begin;
 mod canon;
 #[cfg(test)]
 mod canon_tests;
 mod commands;
-mod commands_told;
 mod compile;
-mod documents;
-mod entities;
-mod filled;
 mod generate;
 mod generated;
-mod halt;
 mod import;
 mod input;
-mod limits;
-mod lines;
-mod new_run;
 mod numbers;
-mod openings;
 mod paths;
-mod perform;
-mod performance;
-mod prepared;
 mod print;
-mod read_step;
-mod references;
-mod refusals;
 mod request;
 mod run;
-mod scenario;
-mod scene_step;
-mod script;
 mod status;
-mod store_step;
 mod top;
-mod turns;
 
 pub use status::Status;
 pub use top::policy_main;

@@ -3,26 +3,22 @@
 ghost use Rattle.std.specs.Prelude.{◌≡◌, true, All, IfSome, IfOk, IsOk, map, ⊤};
 ghost use Rattle.tpol_digest.specs.Paths.{paths_of};
 ghost use Rattle.tpol_digest.specs.WellFormed.{HaveBranchCounts};
+ghost use Rattle.tpol_prepare.specs.ReadStep.{read_step};
+ghost use Rattle.tpol_prepare.specs.Steps.{Answers, AsksShelf, IsInside};
 ghost use Rattle.tpol_store.specs.Stores.{IsReadable, policies_of, stored};
 ghost use Rattle.tpol_top.specs.Paths.{listed, listed_in, listed_with, path_answer, paths_step};
-ghost use Rattle.tpol_top.specs.ReadStep.{read_step};
-ghost use Rattle.tpol_top.specs.Steps.{Answers, AsksShelf, IsInside};
 ghost use Rattle.tpol_tree.specs.ClosedErased.{erased, erased_document};
 ghost use Rattle.tpol_tree.specs.Elements as written;
 ghost use Rattle.tpol_tree.specs.Erased.{erased_policy};
 
-use crate::answer::{Answer, Verdict};
-use crate::filled::fill_document;
-use crate::halt::Halt;
-use crate::limits::check_limits;
-use crate::lines::digest_line;
-use crate::prepared::{named_scene, opening_of};
-use crate::read_step::read_document;
-use crate::store_step::load_store;
 use std::alloc::Global;
 use tpol_base::{NoMemory, Shelf, Text};
 use tpol_digest::digest_of;
 use tpol_lines::{push_line, write_paths};
+use tpol_prepare::{
+    Answer, Halt, Verdict, check_limits, digest_line, fill_document, load_store, named_scene,
+    opening_of, read_document,
+};
 use tpol_scene::Scene;
 use tpol_store::Store;
 use tpol_tree::{Approvals, Closed, Policy};
@@ -97,7 +93,7 @@ fn list(alloc: Global, closed: &Closed, approvals: &Approvals) -> Result<Answer,
 }
 
 // A line for each path, and the digest.
-#[tactic(auto, using(crate::proofs::PathSteps::path_answer_erased))]
+#[tactic(auto, using(crate::proofs::PathAnswers::path_answer_erased))]
 fn path_answer(alloc: Global, closed: &Closed, approvals: &Approvals) -> Result<Answer, NoMemory>
     ensures { IfOk result (λ answer. answer
         ≡ path_answer (erased closed.now) (paths_of (erased closed.now) (map erased_document approvals.now))) }

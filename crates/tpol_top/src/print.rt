@@ -1,10 +1,11 @@
 ghost use Rattle.std.specs.Prelude.{◌≡◌, ◌≤◌, ◌⊎◌, MatchResult, OnOk};
 ghost use Rattle.tpol_base.specs.Causes.{HasCause, Grows, GrowsInPart, Rose};
-ghost use Rattle.tpol_top.specs.Answer.{status_of, text_of};
+ghost use Rattle.tpol_prepare.specs.Answer.{text_of};
+ghost use Rattle.tpol_top.specs.Status.{status_of};
 
 use crate::Status;
-use crate::answer::Answer;
 use tpol_base::{Blob, Failed, Sink};
+use tpol_prepare::Answer;
 
 /// Prints an answer: the status that it ends with, or that the sink failed.
 pub fn print_answer<K: Sink>(out: &mut K, answer: &Answer) -> Status
@@ -18,7 +19,7 @@ pub fn print_answer<K: Sink>(out: &mut K, answer: &Answer) -> Status
     ensures sink_count { K.faults out.old ≤ K.faults out.new }
 {
     match print_lines(out, answer.lines.as_slice()) {
-        Ok(()) => answer.verdict.status(),
+        Ok(()) => Status::of_verdict(answer.verdict),
         Err(Failed) => Status::WriteFault,
     }
 }

@@ -1,20 +1,20 @@
 ghost use Rattle.std.specs.Prelude.{◌≡◌, ◌≤◌, ◌⊎◌, Some, false, true, IsTrue, IfSome, OnErr, IsErrOf, map, take, drop};
 ghost use Rattle.std.specs.String.{string_bytes};
 ghost use Rattle.tpol_base.specs.Causes.{Rose};
-ghost use Rattle.tpol_top.specs.Explained.{IsExplainedScene, OfExplain, OfHeld};
+ghost use Rattle.tpol_perform.specs.Explained.{IsExplainedScene};
+ghost use Rattle.tpol_prepare.specs.Steps.{AsksShelf, IfAnswered};
+ghost use Rattle.tpol_top.specs.Explain.{OfExplain, OfHeld};
 ghost use Rattle.tpol_top.specs.Reached.{IsDocumentFor, IsReadable, IsReadableOf};
 ghost use Rattle.tpol_top.specs.Report.{LosesAtMost, OfChoice, OfReport, most_read, report_of_input, report_of_request};
 ghost use Rattle.tpol_top.specs.Status.{IsPastReadingResult};
-ghost use Rattle.tpol_top.specs.Steps.{AsksShelf, IfAnswered};
 ghost use Rattle.tpol_top.specs.Words.{request_of, reads_source, reads_source_for, uses_shelf, uses_shelf_for};
 
-use crate::answer::{Answer, Verdict};
 use crate::commands::carry_out;
-use crate::halt::Halt;
 use crate::input::read_input;
 use crate::request::Request;
 use std::alloc::Global;
 use tpol_base::{Lapse, Shelf, Source};
+use tpol_prepare::{Answer, Halt, Verdict};
 
 /// The answer of the words: of no command, or of the command that they are.
 pub fn answer_of_words<S: Source, H: Shelf>(

@@ -1,5 +1,7 @@
 ghost use Rattle.std.specs.Prelude.{◌≡◌};
-ghost use Rattle.tpol_top.specs.Status.{number_of_status};
+ghost use Rattle.tpol_top.specs.Status.{number_of_status, status_of};
+
+use tpol_prepare::Verdict;
 
 /// How a run of the program ended.
 #[derive(Clone, Copy, Debug, PartialEq, Eq)]
@@ -27,6 +29,20 @@ pub enum Status {
 }
 
 impl Status {
+    /// The status that a run answers when all lines of an answer with this verdict are written.
+    pub fn of_verdict(verdict: Verdict) -> Status
+        ensures { result ≡ status_of verdict }
+    {
+        match verdict {
+            Verdict::Done => Status::Done,
+            Verdict::Usage => Status::Usage,
+            Verdict::TooLarge => Status::TooLarge,
+            Verdict::BadPolicy => Status::BadPolicy,
+            Verdict::BadScene => Status::BadScene,
+            Verdict::PathLimit => Status::PathLimit,
+        }
+    }
+
     /// The status that the process ends with.
     pub fn number(self) -> u8
         ensures { result ≡ number_of_status self }

@@ -1,19 +1,20 @@
 ghost use Rattle.std.specs.Prelude.{◌≡◌, ◌≤◌, ◌⊎◌, Some, false, IsTrue, IfSome, map, take, drop};
 ghost use Rattle.std.specs.String.{string_bytes};
 ghost use Rattle.tpol_base.specs.Causes.{Rose, Grows, GrowsInPart};
-ghost use Rattle.tpol_top.specs.Answer.{status_of, text_of};
-ghost use Rattle.tpol_top.specs.Explained.{IfExplain, IsExplainedScene, OfHeld};
+ghost use Rattle.tpol_perform.specs.Explained.{IsExplainedScene};
+ghost use Rattle.tpol_prepare.specs.Answer.{text_of};
+ghost use Rattle.tpol_top.specs.Explain.{IfExplain, OfHeld};
 ghost use Rattle.tpol_top.specs.Reached.{IsReadableOf};
 ghost use Rattle.tpol_top.specs.Report.{LosesAtMost, OfReport, most_read, report_of};
-ghost use Rattle.tpol_top.specs.Status.{IsWhole, IsSilent, IsPastReading};
+ghost use Rattle.tpol_top.specs.Status.{IsWhole, IsSilent, IsPastReading, status_of};
 ghost use Rattle.tpol_top.specs.Words.{reads_source, request_of, uses_shelf};
 
 use crate::Status;
-use crate::halt::Halt;
 use crate::print::print_answer;
 use crate::run::answer_of_words;
 use std::alloc::Global;
 use tpol_base::{Shelf, Sink, Source};
+use tpol_prepare::Halt;
 
 /// Does all that the program does: takes the words behind the program's name, reads the document from
 /// `source` where the command wants one, prints the report to `out`, one write a line, and answers the

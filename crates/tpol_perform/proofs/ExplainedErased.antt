@@ -1,0 +1,145 @@
+-- A scene is explained by the lines of its performance, whichever memory its policies lie in.
+use Rattle.std.proofs.Common.{◌≡◌, ◌∙◌, ap, refl, sym, subst, ℕ, Bool, true, List, map, find, reverse, Option, Some, None, IfSome, IsSome, Ok, Err}
+use Rattle.std.specs.List.{AllByRecursion}
+use Rattle.std.specs.Option.{option_map}
+use Rattle.tpol_base.specs.declared.document.Document.{Document}
+use Rattle.tpol_digest.proofs.Erasures.{paths_ignore_boxes}
+use Rattle.tpol_digest.specs.Digest.{policy_digest}
+use Rattle.tpol_name.specs.declared.setup.Setup.{Setup}
+use Rattle.tpol_name.specs.Setups.{IsSetup}
+use Rattle.tpol_scene.specs.declared.scene.Scene.{Scene}
+use Rattle.tpol_store.specs.Approvals.{approved_documents}
+use Rattle.tpol_store.specs.Stores.{NamedPolicy}
+use Rattle.tpol_prepare.specs.declared.answer.Answer.{Answer}
+use Rattle.tpol_prepare.specs.declared.entities.CompiledEntity.{CompiledEntity}
+use Rattle.tpol_prepare.specs.declared.answer.Verdict.TheVariants.{Done}
+use Rattle.tpol_prepare.specs.declared.halt.Halt.{Halt}
+use Rattle.tpol_prepare.specs.declared.halt.Halt.TheVariants.{Refused, ReadFailed, ShelfFailed, NoMemory}
+use Rattle.tpol_prepare.specs.declared.prepared.PreparedScene.{PreparedScene}
+use Rattle.tpol_prepare.specs.declared.scenario.Scenario.{Scenario}
+use Rattle.tpol_prepare.specs.declared.scenario.StagedScene.{StagedScene}
+use Rattle.tpol_prepare.specs.Entities.{erased_entity}
+use Rattle.tpol_perform.specs.Explained.{IsExplained, IsExplainedScene}
+use Rattle.tpol_perform.specs.Performance.{PerformanceState}
+use Rattle.tpol_prepare.specs.Prepared.{prepared_step}
+use Rattle.tpol_prepare.specs.Scenario.{HasPolicyAt, HavePolicies, IsScenarioOf, erased_scenario, erased_staged, is_entity, limited_step, policy_of_entity, scenario_with, staged_by, staged_step, staged_with}
+use Rattle.tpol_prepare.specs.SceneStep.{scene_of_bytes}
+use Rattle.tpol_perform.specs.Script.{performance_answer, performed}
+use Rattle.tpol_prepare.specs.Steps.{Answers, Halts, IfAnswered, Step, ◌>>=◌}
+use Rattle.tpol_prepare.specs.StoreStep.{store_step}
+use Rattle.tpol_prepare.proofs.EntitiesErased.{reversed_erased}
+use Rattle.tpol_prepare.proofs.EntityPolicies.{found_erased}
+use Rattle.tpol_prepare.proofs.FilledErased.{policy_digest_erased}
+use Rattle.tpol_perform.proofs.OpenedTold.{AreOpenable, IsOpenable}
+use Rattle.tpol_perform.proofs.OpeningErased.{opening_of_erased}
+use Rattle.tpol_perform.proofs.PathPcrs.{HasDigests, paths_have_digests}
+use Rattle.tpol_perform.proofs.PerformanceErased.{performed_erased}
+use Rattle.tpol_perform.proofs.Told.{performed_explains}
+use Rattle.tpol_prepare.proofs.Walkable.{policy_walkable}
+use Rattle.tpol_trace.proofs.Opened.{facts_open}
+use Rattle.tpol_tree.specs.ClosedErased.{erased, erased_document}
+use Rattle.tpol_tree.specs.declared.closed.Closed.{Closed}
+use Rattle.tpol_tree.specs.declared.path.ApprovedDoc.{ApprovedDoc}
+
+-- ---- a scenario whose policies can be walked
+
+openable : (setup : Setup) (scenario : Scenario) → IsScenarioOf setup scenario → AreOpenable scenario
+openable setup scenario is handle = by (policy_of_entity scenario.entities handle) refl
+  where
+    by : (policy : Option Closed) → policy_of_entity scenario.entities handle ≡ policy → IfSome policy (IsOpenable scenario.approvals)
+    by None e = tt
+    by (Some closed) e =
+        let walkable = policy_walkable scenario.approvals scenario.entities handle closed is.entities e in
+        record {
+          opens = λ facts sound digest. facts_open closed scenario.approvals facts walkable.well_formed sound digest;
+          digests = paths_have_digests closed scenario.approvals walkable.well_formed;
+        }
+
+-- ---- the same erased
+
+policy_erased : (entities : List CompiledEntity) (handle : ℕ) → policy_of_entity (map erased_entity entities) handle ≡ option_map erased (policy_of_entity entities handle)
+policy_erased entities handle =
+    ap (λ (l : List CompiledEntity). option_map (λ (e : CompiledEntity). e.document.closed) (find (is_entity handle) l)) (reversed_erased entities)
+    ∙ found_erased handle (reverse entities)
+
+have_erased : (setup : Setup) (entities : List CompiledEntity) → HavePolicies setup entities → HavePolicies setup (map erased_entity entities)
+have_erased setup entities h handle =
+    subst (λ (found : Option Closed). IfSome found (λ c. HasPolicyAt setup handle (policy_digest c))) (sym (policy_erased entities handle))
+    (by (policy_of_entity entities handle) (h handle))
+  where
+    by : (found : Option Closed) → IfSome found (λ c. HasPolicyAt setup handle (policy_digest c)) → IfSome (option_map erased found) (λ c. HasPolicyAt setup handle (policy_digest c))
+    by None there = tt
+    by (Some c) there = subst (HasPolicyAt setup handle) (sym (policy_digest_erased c)) there
+
+openable_erased : (scenario : Scenario) → AreOpenable scenario → AreOpenable (erased_scenario scenario)
+openable_erased scenario h handle =
+    subst (λ (found : Option Closed). IfSome found (IsOpenable (map erased_document scenario.approvals))) (sym (policy_erased scenario.entities handle))
+    (by (policy_of_entity scenario.entities handle) (h handle))
+  where
+    by : (found : Option Closed) → IfSome found (IsOpenable scenario.approvals) → IfSome (option_map erased found) (IsOpenable (map erased_document scenario.approvals))
+    by None can = tt
+    by (Some c) can = record {
+      opens = λ facts sound digest. subst (λ o. IsSome o) (sym (opening_of_erased c scenario.approvals facts)) (can.opens facts sound (digest ∙ policy_digest_erased c));
+      digests = subst (AllByRecursion HasDigests) (sym (paths_ignore_boxes c scenario.approvals)) can.digests;
+    }
+
+explained_erased : (staged : StagedScene) → staged.scenario.explains ≡ true → IsSetup staged.setup → IsScenarioOf staged.setup staged.scenario → IsExplained (erased_staged staged) (performed staged).lines
+explained_erased staged explains setup is =
+    subst (λ (p : PerformanceState). IsExplained (erased_staged staged) p.lines) (performed_erased staged)
+    (performed_explains (erased_staged staged) explains (have_erased staged.setup staged.scenario.entities is.policies)
+    (openable_erased staged.scenario (openable staged.setup staged.scenario is)) setup.pcrs)
+
+-- ---- what is staged for `explain` tells openings
+
+through : {A : Type 0} (first : Step A) (next : A → Step StagedScene) (staged : StagedScene) → ((x : A) → next x ≡ Ok staged → staged.scenario.explains ≡ true) → (first >>= next) ≡ Ok staged → staged.scenario.explains ≡ true
+through (Ok x) next staged h e = h x e
+through (Err answer) next staged h e = absurd cc
+
+explains_by : (scene : Scene) (prepared : PreparedScene) (approvals : List ApprovedDoc) (staged : StagedScene) → staged_by true scene prepared approvals ≡ Ok staged → staged.scenario.explains ≡ true
+unfolding staged_by
+explains_by scene prepared approvals staged =
+    through (limited_step prepared approvals) (λ within. Ok (scenario_with true scene prepared approvals)) staged
+    (λ within e. let same : scenario_with true scene prepared approvals ≡ staged = cc in subst (λ (s : StagedScene). s.scenario.explains ≡ true) same refl)
+
+explains_with : (scene : Scene) (store : List NamedPolicy) (staged : StagedScene) → staged_with true scene store ≡ Ok staged → staged.scenario.explains ≡ true
+unfolding staged_with
+explains_with scene store staged =
+    through (prepared_step store scene) (λ prepared. staged_by true scene prepared (approved_documents store (Some prepared.sight))) staged
+    (λ prepared. explains_by scene prepared (approved_documents store (Some prepared.sight)) staged)
+
+explains_staged : (input : List ℕ) (all : List Document) (staged : StagedScene) → staged_step true input all ≡ Ok staged → staged.scenario.explains ≡ true
+unfolding staged_step
+explains_staged input all staged =
+    through (scene_of_bytes input) (λ scene. store_step all >>= λ store. staged_with true scene store) staged
+    (λ scene. through (store_step all) (λ store. staged_with true scene store) staged (λ store. explains_with scene store staged))
+
+-- ---- what `explain` answers
+
+-- a step has one value
+one_value : (step : Step StagedScene) (a b : StagedScene) → step ≡ Ok a → step ≡ Ok b → a ≡ b
+one_value step a b h k = cc
+
+-- of a scene that was staged
+pub staged_explained : (explains : Bool) (documents : Option (List Document)) (input : List ℕ) (staged : StagedScene) (answer : Answer)
+    → explains ≡ true → IfSome documents (λ all. Answers erased_staged (staged_step explains input all) (Ok staged)) → IsSetup staged.setup → IsScenarioOf staged.setup staged.scenario → answer ≡ performance_answer staged
+    → IfSome documents (λ all. IsExplainedScene input all answer.lines)
+staged_explained explains None input staged answer tells answers setup is same = tt
+staged_explained explains (Some all) input staged answer tells answers setup is same =
+    let step : staged_step true input all ≡ Ok (erased_staged staged) = subst (λ b. staged_step b input all ≡ Ok (erased_staged staged)) tells answers in
+    let told : IsExplained (erased_staged staged) answer.lines =
+    subst (λ (a : Answer). IsExplained (erased_staged staged) a.lines) (sym same) (explained_erased staged (explains_staged input all (erased_staged staged) step) setup is) in
+    λ other e. let one : erased_staged staged ≡ other = one_value (staged_step true input all) (erased_staged staged) other step e in subst (λ (s : StagedScene). IsExplained s answer.lines) one told
+
+-- and of one that was not
+pub halted_explained : (explains : Bool) (documents : Option (List Document)) (input : List ℕ) (halt : Halt)
+    → explains ≡ true → IfSome documents (λ all. Halts halt (staged_step explains input all))
+    → IfAnswered (Err halt) (λ answer. answer.verdict ≡ Done → IfSome documents (λ all. IsExplainedScene input all answer.lines))
+halted_explained explains None input (Refused answer) tells halts = λ done. tt
+halted_explained explains (Some all) input (Refused answer) tells halts =
+    λ done other e. absurd (no_value answer other (sym (subst (λ b. staged_step b input all ≡ Err answer) tells halts) ∙ e))
+  where
+    no_value : (a : Answer) (s : StagedScene) → Err a ≡ Ok s → ⊥
+    no_value a s h = cc
+halted_explained explains documents input ReadFailed tells halts = tt
+halted_explained explains documents input ShelfFailed tells halts = tt
+halted_explained explains documents input NoMemory tells halts = tt

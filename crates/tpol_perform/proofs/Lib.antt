@@ -1,0 +1,13 @@
+pub mod Chosen
+pub mod ExplainedErased
+pub mod Masks
+pub mod OpenedTold
+pub mod OpenedMeets
+pub mod OpeningErased
+pub mod PathPcrs
+pub mod PcrsAtUse
+pub mod PerformanceErased
+pub mod SoundFacts
+pub mod Timeless
+pub mod Told
+pub mod TurnSteps

@@ -1,0 +1,83 @@
+-- A run begins: on the first path of its policy that its client can go, or on none.
+use Rattle.std.specs.Prelude.{ℕ, ◌+◌, ◌-◌, List, [], ◌∷◌, ◌++◌, codes, Option, Some, None, slice_get}
+use Rattle.std.specs.Int.{to_be_bytes, w32}
+use Rattle.tpm_engine.specs.Sights.{sight_after}
+use Rattle.tpol_base.specs.declared.digest.Digest32.{Digest32}
+use Rattle.tpol_choose.specs.declared.block.Block.{Block}
+use Rattle.tpol_choose.specs.Blocks.{chosen_path, first_block}
+use Rattle.tpol_driver.specs.declared.plan.Plan.{Plan}
+use Rattle.tpol_goal.specs.declared.goal.Goal.{Goal}
+use Rattle.tpol_goal.specs.declared.grants.Grants.{Grants}
+use Rattle.tpol_hash.specs.Sha256.{sha256_digest}
+use Rattle.tpol_lines.specs.BlockLine.{block_line}
+use Rattle.tpol_lines.specs.Runs.{chosen_line, nobranch_line}
+use Rattle.tpol_name.specs.declared.sight.Sight.{Sight}
+use Rattle.tpol_runs.specs.Courses.{begun}
+use Rattle.tpol_runs.specs.Underway.{Underway}
+use Rattle.tpol_perform.specs.declared.new_run.NewRun.{NewRun}
+use Rattle.tpol_prepare.specs.declared.scenario.Scenario.{Scenario}
+use Rattle.tpol_perform.specs.Performance.{PerformanceState, with_line}
+use Rattle.tpol_prepare.specs.Scenario.{grants_of, paths_named}
+use Rattle.tpol_tree.specs.declared.path.Path.{Path}
+use Rattle.tpol_tree.specs.declared.path.PathStep.{PathStep}
+
+-- the run that a client begins, with what it may use
+abbrev pub new_run : List (ℕ × Grants) → ℕ → ℕ → ℕ → Goal → NewRun
+new_run clients number client locality goal =
+    record { number = number; client = client; locality = locality; goal = goal; grants = grants_of clients client }
+
+-- the seed of a run's nonces: H(seed || "CALL" || run in four bytes)
+abbrev pub run_seed : Digest32 → ℕ → Digest32
+run_seed seed number = sha256_digest (seed.bytes ++ codes "CALL" ++ to_be_bytes w32 number)
+
+abbrev pub plan_along : Scenario → Path → NewRun → Plan
+plan_along scenario path run = record {
+  path = path;
+  goal = run.goal;
+  grants = run.grants;
+  directory = scenario.directory;
+  nonce_seed = run_seed scenario.seed run.number;
+}
+
+-- one more run
+abbrev pub with_new_run : ℕ → Option Underway → PerformanceState → PerformanceState
+with_new_run number run p = record p { runs = p.runs ++ record { number = number; run = run } ∷ [] }
+
+-- on the path at this position
+abbrev pub begun_along : Scenario → ℕ → NewRun → Option Path → PerformanceState → PerformanceState
+begun_along scenario position run None p = p
+begun_along scenario position run (Some path) p =
+    with_line (chosen_line run.number position path.steps)
+    (with_new_run run.number (Some (begun run.client run.locality (plan_along scenario path run))) p)
+
+-- the line of what stands in the way of a path
+abbrev pub with_block : ℕ → List PathStep → Option Block → PerformanceState → PerformanceState
+with_block position steps None p = p
+with_block position steps (Some block) p = with_line (block_line position steps block) p
+
+-- the same of each of these paths, from this position on
+unfoldable pub with_blocks : Sight → NewRun → ℕ → List Path → PerformanceState → PerformanceState
+with_blocks sight run position [] p = p
+with_blocks sight run position (path ∷ rest) p =
+    with_blocks sight run (position + 1) rest
+    (with_block position path.steps (first_block path sight run.grants run.goal run.locality) p)
+
+-- on no path
+unfoldable pub begun_nowhere : Sight → NewRun → List Path → PerformanceState → PerformanceState
+begun_nowhere sight run paths p =
+    with_blocks sight run 1 paths (with_line (nobranch_line run.number) (with_new_run run.number None p))
+
+abbrev pub begun_at : Scenario → Sight → List Path → NewRun → Option ℕ → PerformanceState → PerformanceState
+begun_at scenario sight paths run None p = begun_nowhere sight run paths p
+begun_at scenario sight paths run (Some position) p =
+    begun_along scenario position run (slice_get paths (position - 1)) p
+
+-- the run begins, with what the machine shows now
+unfoldable pub begun_on : Scenario → Sight → List Path → NewRun → PerformanceState → PerformanceState
+begun_on scenario sight paths run p =
+    begun_at scenario sight paths run (chosen_path paths sight run.grants run.goal run.locality) p
+
+-- a run of the policy of this name begins
+unfoldable pub run_begun : Scenario → List ℕ → NewRun → PerformanceState → PerformanceState
+run_begun scenario policy run p =
+    begun_on scenario (sight_after p.setup p.past) (paths_named scenario policy) run p

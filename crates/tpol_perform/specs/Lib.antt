@@ -1,0 +1,8 @@
+pub mod Begin
+pub mod CommandsTold
+pub mod Explained
+pub mod FirstRun
+pub mod Meeting
+pub mod Performance
+pub mod Script
+pub mod Turns

@@ -1,0 +1,22 @@
+//! A scene carried out: the events of its script on a machine, one after another, and what is printed of each.
+//!
+//! Contracts see how far a scene was carried out as a `PerformanceState`: what the machine started from, its
+//! journal, the runs that were begun, and the lines. `performed` is the fold over the events; `IsExplained` says
+//! what the lines of `explain` tell of every command of the journal. The layer above takes `perform_scene` for the
+//! commands `run` and `explain`, and `perform_run` for a scene of one run.
+#![tactic(auto)]
+
+mod begin;
+mod commands_told;
+mod first_run;
+mod new_run;
+mod openings;
+mod perform;
+mod performance;
+mod script;
+mod turns;
+
+pub use first_run::perform_run;
+pub use new_run::NewRun;
+pub use perform::perform_scene;
+pub use performance::Performance;

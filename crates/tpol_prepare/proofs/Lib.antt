@@ -1,0 +1,10 @@
+pub mod EntitiesAdded
+pub mod EntitiesErased
+pub mod EntityPolicies
+pub mod FilledErased
+pub mod FilledNames
+pub mod LimitTests
+pub mod PathSteps
+pub mod SetupsKept
+pub mod Stored
+pub mod Walkable

@@ -1,0 +1,36 @@
+ghost use Rattle.std.specs.Prelude.{◌≡◌, ◌∷◌, [], IfOk};
+ghost use Rattle.tpol_lines.specs.Lines.{line_of};
+
+use std::alloc::Global;
+use tpol_base::NoMemory;
+use tpol_lines::{Lines, push_line};
+
+/// The whole ends of a run: neither the outside nor memory failed.
+#[derive(Clone, Copy, Debug, PartialEq, Eq)]
+pub enum Verdict {
+    Done,
+    Usage,
+    TooLarge,
+    BadPolicy,
+    BadScene,
+    PathLimit,
+}
+
+/// What a command has to say: its lines, each with its line end, and how it ends.
+#[derive(Drop)]
+pub struct Answer {
+    pub lines: Lines,
+    pub verdict: Verdict,
+}
+
+impl Answer {
+    /// The answer of one line, whose line end is added here.
+    pub fn of_line(alloc: Global, line: &str, verdict: Verdict) -> Result<Answer, NoMemory>
+        ensures { IfOk result (λ answer. answer
+            ≡ record { lines = line_of line.now ∷ []; verdict = verdict }) }
+    {
+        let mut lines = Lines::new(alloc);
+        push_line(alloc, &mut lines, line)?;
+        Ok(Answer { lines, verdict })
+    }
+}

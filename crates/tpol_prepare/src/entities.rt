@@ -1,0 +1,219 @@
+ghost use Rattle.std.specs.Prelude.{◌≡◌, All, IfOk, OnOk, map, take};
+ghost use Rattle.tpol_name.specs.Setups.{IsSetup};
+ghost use Rattle.tpol_store.specs.Stores.{IsReadable, policies_of, stored};
+ghost use Rattle.tpol_prepare.specs.Entities.{IsReadyEntity, compiled_step, entities_from, entity_step, erased_compiled, index_with_policy, no_entity, object_with_policy, setup_with_policy, sight_before, with_entity};
+ghost use Rattle.tpol_prepare.specs.FilledDocuments.{IsReady};
+ghost use Rattle.tpol_prepare.specs.Steps.{Answers, IsInside};
+ghost use Rattle.tpol_tree.specs.ClosedErased.{erased};
+
+use crate::documents::FilledDocument;
+use crate::filled::fill_document;
+use crate::halt::Halt;
+use crate::references::policy_at;
+use std::alloc::Global;
+use tpol_base::{Blob, Digest32, ExactClone, NoMemory, Sequence};
+use tpol_digest::digest_of;
+use tpol_name::{IndexEntry, Indices, ObjectEntry, Objects, Setup, Sight, opening_sight};
+use tpol_scene::EntityPolicy;
+use tpol_store::Store;
+use tpol_tree::Closed;
+
+/// An entity whose authorization policy is named, by its handle, and that policy, filled.
+#[derive(Drop)]
+pub struct CompiledEntity {
+    pub handle: u32,
+    pub document: FilledDocument,
+}
+
+/// What a machine starts from, where the entities whose policies are compiled have the digests of these as
+/// their authPolicies, and these entities in the order of the scene.
+#[derive(Drop)]
+pub struct CompiledSetup {
+    pub setup: Setup,
+    pub entities: Sequence<CompiledEntity>,
+}
+
+/// Compiles the policies of entities in order, each with what the entities before it show.
+#[tactic(auto, unfolding(crate::specs::Entities::entities_from))]
+pub fn compile_entities(
+    alloc: Global,
+    store: &Store,
+    setup: Setup,
+    policies: &[EntityPolicy],
+) -> Result<CompiledSetup, Halt>
+    ensures answer { Answers erased_compiled
+        (entities_from (policies_of store.now) (no_entity setup) policies.now) result }
+    ensures inside { IsInside result }
+    ensures ready { All IsReadable (stored store.now) → IfOk result (λ compiled. All IsReadyEntity compiled.entities) }
+    ensures setup { IsSetup setup → IfOk result (λ compiled. IsSetup compiled.setup) }
+{
+    let mut compiled = CompiledSetup {
+        setup,
+        entities: Sequence::new(alloc),
+    };
+    for policy in policies {
+        compile_entity(alloc, store, &mut compiled, policy)?;
+    }
+    Ok(compiled)
+}
+
+// Compiles the policy of an entity, with what the entities before it show.
+#[tactic(auto, unfolding(crate::specs::Entities::compiled_step))]
+fn compile_entity(
+    alloc: Global,
+    store: &Store,
+    compiled: &mut CompiledSetup,
+    policy: &EntityPolicy,
+) -> Result<(), Halt>
+    ensures answer { Answers (λ _. erased_compiled compiled.new)
+        (compiled_step (policies_of store.now) (erased_compiled compiled.old) policy.now) result }
+    ensures inside { IsInside result }
+    ensures ready { All IsReadable (stored store.now) → All IsReadyEntity compiled.old.entities
+        → OnOk result (All IsReadyEntity compiled.new.entities) }
+    ensures setup { IsSetup compiled.old.setup → OnOk result (IsSetup compiled.new.setup) }
+{
+    let closed = entity_policy(alloc, store, &compiled.setup, policy)?;
+    add_entity(alloc, compiled, policy, closed)?;
+    Ok(())
+}
+
+// The entity's policy, filled with what the entities before it show.
+#[tactic(auto, unfolding(crate::specs::Entities::entity_step))]
+fn entity_policy(
+    alloc: Global,
+    store: &Store,
+    setup: &Setup,
+    policy: &EntityPolicy,
+) -> Result<Closed, Halt>
+    ensures answer { Answers erased (entity_step (policies_of store.now) setup.now policy.now) result }
+    ensures inside { IsInside result }
+    ensures ready { All IsReadable (stored store.now) → IfOk result IsReady }
+{
+    let written = policy_at(alloc, store, &policy.name, &policy.place)?;
+    let sight = sight_before(alloc, policy, setup)?;
+    fill_document(alloc, Some(&policy.name), written, Some(&sight))
+}
+
+// What a machine with the entities before this one shows when it starts.
+fn sight_before(alloc: Global, policy: &EntityPolicy, setup: &Setup) -> Result<Sight, NoMemory>
+    ensures { IfOk result (λ sight. sight ≡ sight_before policy.now setup.now) }
+{
+    let mut sight = opening_sight(alloc, setup)?;
+    sight.objects = first_objects(alloc, setup.objects.as_slice(), policy.objects_before)?;
+    sight.indices = first_indices(alloc, setup.indices.as_slice(), policy.indices_before)?;
+    Ok(sight)
+}
+
+fn first_objects(alloc: Global, objects: &[ObjectEntry], count: usize) -> Result<Objects, NoMemory>
+    ensures { IfOk result (λ first. first ≡ take count objects.now) }
+{
+    let mut first = Sequence::new(alloc);
+    first.extend_with_clones(&objects[..objects.len().min(count)])?;
+    Ok(first)
+}
+
+fn first_indices(alloc: Global, indices: &[IndexEntry], count: usize) -> Result<Indices, NoMemory>
+    ensures { IfOk result (λ first. first ≡ take count indices.now) }
+{
+    let mut first = Sequence::new(alloc);
+    first.extend_with_clones(&indices[..indices.len().min(count)])?;
+    Ok(first)
+}
+
+// Gives the entity its policy's digest as its authPolicy, and adds the entity.
+fn add_entity(
+    alloc: Global,
+    compiled: &mut CompiledSetup,
+    policy: &EntityPolicy,
+    closed: Closed,
+) -> Result<(), NoMemory>
+    ensures entity { OnOk result (erased_compiled compiled.new
+        ≡ with_entity (erased_compiled compiled.old) policy.now (erased closed)) }
+    ensures ready { IsReady closed → All IsReadyEntity compiled.old.entities
+        → OnOk result (All IsReadyEntity compiled.new.entities) }
+    ensures setup { IsSetup compiled.old.setup → OnOk result (IsSetup compiled.new.setup) }
+{
+    let digest = digest_of(&closed);
+    set_policy(alloc, &mut compiled.setup, policy.handle, &digest)?;
+    let name = policy.name.try_clone(alloc)?;
+    let document = FilledDocument { name, closed };
+    let handle = policy.handle;
+    compiled.entities.push(CompiledEntity { handle, document })?;
+    Ok(())
+}
+
+// Gives the entity of this handle an authPolicy.
+fn set_policy(
+    alloc: Global,
+    setup: &mut Setup,
+    handle: u32,
+    digest: &Digest32,
+) -> Result<(), NoMemory>
+    ensures { OnOk result (setup.new ≡ setup_with_policy handle digest.now setup.old) }
+{
+    setup.objects = objects_with_policy(alloc, setup.objects.as_slice(), handle, digest)?;
+    setup.indices = indices_with_policy(alloc, setup.indices.as_slice(), handle, digest)?;
+    Ok(())
+}
+
+// The objects, of which that of the handle has this authPolicy.
+fn objects_with_policy(
+    alloc: Global,
+    objects: &[ObjectEntry],
+    handle: u32,
+    digest: &Digest32,
+) -> Result<Objects, NoMemory>
+    ensures { IfOk result (λ list. list ≡ map (object_with_policy handle digest.now) objects.now) }
+{
+    let mut list = Sequence::new(alloc);
+    for object in objects {
+        list.push(object_with_policy(alloc, object, handle, digest)?)?;
+    }
+    Ok(list)
+}
+
+fn object_with_policy(
+    alloc: Global,
+    object: &ObjectEntry,
+    handle: u32,
+    digest: &Digest32,
+) -> Result<ObjectEntry, NoMemory>
+    ensures { IfOk result (λ entry. entry ≡ object_with_policy handle digest.now object.now) }
+{
+    let mut entry = object.exact_clone()?;
+    if entry.handle == handle {
+        entry.public.auth_policy = Blob::from_slice(alloc, &digest.bytes)?;
+    }
+    Ok(entry)
+}
+
+// The same of the indices.
+fn indices_with_policy(
+    alloc: Global,
+    indices: &[IndexEntry],
+    handle: u32,
+    digest: &Digest32,
+) -> Result<Indices, NoMemory>
+    ensures { IfOk result (λ list. list ≡ map (index_with_policy handle digest.now) indices.now) }
+{
+    let mut list = Sequence::new(alloc);
+    for index in indices {
+        list.push(index_with_policy(alloc, index, handle, digest)?)?;
+    }
+    Ok(list)
+}
+
+fn index_with_policy(
+    alloc: Global,
+    index: &IndexEntry,
+    handle: u32,
+    digest: &Digest32,
+) -> Result<IndexEntry, NoMemory>
+    ensures { IfOk result (λ entry. entry ≡ index_with_policy handle digest.now index.now) }
+{
+    let mut entry = index.exact_clone()?;
+    if entry.public.index == handle {
+        entry.public.auth_policy = Blob::from_slice(alloc, &digest.bytes)?;
+    }
+    Ok(entry)
+}

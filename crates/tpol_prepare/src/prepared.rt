@@ -1,0 +1,165 @@
+ghost use Rattle.std.specs.Prelude.{◌≡◌, true, is_some, All, IfSome, IfOk, ⊤};
+ghost use Rattle.tpol_name.specs.Setups.{IsSetup, IsSight, first_sight};
+ghost use Rattle.tpol_store.specs.Stores.{IsReadable, policies_of, stored};
+ghost use Rattle.tpol_prepare.specs.Entities.{IsReadyEntity, erased_compiled};
+ghost use Rattle.tpol_prepare.specs.FilledDocuments.{IsReadyDocument};
+ghost use Rattle.tpol_prepare.specs.Prepared.{begun_step, erased_prepared, filled_scene_step, named_scene_step, opening_step, prepared_step, sight_step};
+ghost use Rattle.tpol_prepare.specs.Steps.{Answers, AsksShelf, IsInside};
+
+use crate::documents::{FilledDocument, fill_references};
+use crate::entities::{CompiledEntity, CompiledSetup, compile_entities};
+use crate::halt::Halt;
+use crate::references::{Reference, check_entities, check_references, script_references};
+use crate::scene_step::scene_of_shelf;
+use crate::store_step::load_store;
+use std::alloc::Global;
+use tpol_base::{ExactClone, Sequence, Shelf, Text};
+use tpol_name::{Setup, Sight, opening_sight};
+use tpol_scene::Scene;
+use tpol_store::Store;
+
+/// A scene whose policies are filled: what its machine starts from, what the machine shows then, the entities
+/// whose policies are named, and the documents that the script begins.
+#[derive(Drop)]
+pub struct PreparedScene {
+    pub setup: Setup,
+    pub sight: Sight,
+    pub entities: Sequence<CompiledEntity>,
+    pub begun: Sequence<FilledDocument>,
+}
+
+/// Looks up all policies that a scene names, and fills them: those of its entities, and then those that its
+/// script begins.
+#[tactic(auto, unfolding(crate::specs::Prepared::prepared_step))]
+pub fn prepare(alloc: Global, store: &Store, scene: &Scene) -> Result<PreparedScene, Halt>
+    ensures answer { Answers erased_prepared (prepared_step (policies_of store.now) scene.now) result }
+    ensures inside { IsInside result }
+    ensures entities { All IsReadable (stored store.now) → IfOk result (λ prepared. All IsReadyEntity prepared.entities) }
+    ensures begun { All IsReadable (stored store.now) → IfOk result (λ prepared. All IsReadyDocument prepared.begun) }
+    ensures setup { IsSetup scene.now.setup → IfOk result (λ prepared. IsSetup prepared.setup) }
+    ensures sight { IfOk result (λ prepared. prepared.sight ≡ first_sight prepared.setup) }
+    ensures condition { IsSetup scene.now.setup → IfOk result (λ prepared. IsSight prepared.sight) }
+{
+    let references = script_references(alloc, scene)?;
+    check_entities(alloc, store, scene.policies.as_slice())?;
+    check_references(alloc, store, references.as_slice())?;
+    fill_scene(alloc, store, scene, references.as_slice())
+}
+
+// Fills the policies that the scene names, all of which are there.
+#[tactic(auto, unfolding(crate::specs::Prepared::filled_scene_step))]
+fn fill_scene(
+    alloc: Global,
+    store: &Store,
+    scene: &Scene,
+    references: &[Reference],
+) -> Result<PreparedScene, Halt>
+    ensures answer { Answers erased_prepared
+        (filled_scene_step (policies_of store.now) scene.now references.now) result }
+    ensures inside { IsInside result }
+    ensures entities { All IsReadable (stored store.now) → IfOk result (λ prepared. All IsReadyEntity prepared.entities) }
+    ensures begun { All IsReadable (stored store.now) → IfOk result (λ prepared. All IsReadyDocument prepared.begun) }
+    ensures setup { IsSetup scene.now.setup → IfOk result (λ prepared. IsSetup prepared.setup) }
+    ensures sight { IfOk result (λ prepared. prepared.sight ≡ first_sight prepared.setup) }
+    ensures condition { IsSetup scene.now.setup → IfOk result (λ prepared. IsSight prepared.sight) }
+{
+    let setup = scene.setup.exact_clone()?;
+    let compiled = compile_entities(alloc, store, setup, scene.policies.as_slice())?;
+    fill_begun(alloc, store, compiled, references)
+}
+
+// Fills the policies that the script begins.
+#[tactic(auto, unfolding(crate::specs::Prepared::begun_step))]
+fn fill_begun(
+    alloc: Global,
+    store: &Store,
+    compiled: CompiledSetup,
+    references: &[Reference],
+) -> Result<PreparedScene, Halt>
+    ensures answer { Answers erased_prepared
+        (begun_step (policies_of store.now) (erased_compiled compiled) references.now) result }
+    ensures inside { IsInside result }
+    ensures entities { All IsReadyEntity compiled.entities → IfOk result (λ prepared. All IsReadyEntity prepared.entities) }
+    ensures begun { All IsReadable (stored store.now) → IfOk result (λ prepared. All IsReadyDocument prepared.begun) }
+    ensures setup { IfOk result (λ prepared. prepared.setup ≡ compiled.setup) }
+    ensures sight { IfOk result (λ prepared. prepared.sight ≡ first_sight prepared.setup) }
+    ensures condition { IsSetup compiled.setup → IfOk result (λ prepared. IsSight prepared.sight) }
+{
+    let sight = opening_sight(alloc, &compiled.setup)?;
+    let begun = fill_references(alloc, store, Some(&sight), references)?;
+    let CompiledSetup { setup, entities } = compiled;
+    Ok(PreparedScene {
+        setup,
+        sight,
+        entities,
+        begun,
+    })
+}
+
+/// What the machine of a scene shows when it starts, if there is a scene.
+#[tactic(auto, unfolding(crate::specs::Prepared::opening_step))]
+pub fn opening_of(
+    alloc: Global,
+    store: &Store,
+    scene: &Option<Scene>,
+) -> Result<Option<Sight>, Halt>
+    ensures answer { Answers (λ sight. sight) (opening_step (policies_of store.now) scene.now) result }
+    ensures inside { IsInside result }
+{
+    match scene {
+        None => Ok(None),
+        Some(scene) => {
+            let prepared = prepare(alloc, store, scene)?;
+            Ok(Some(prepared.sight))
+        }
+    }
+}
+
+/// The scene of this name on the shelf, if one is named.
+#[tactic(auto, unfolding(crate::specs::Prepared::named_scene_step))]
+pub fn named_scene<H: Shelf>(
+    alloc: Global,
+    name: &Option<Text>,
+    shelf: &mut H,
+) -> Result<Option<Scene>, Halt>
+    ensures answer { IfSome (H.documents shelf.old) (λ all. Answers (λ scene. scene) (named_scene_step name.now all) result) }
+    ensures keeps { H.documents shelf.new ≡ H.documents shelf.old }
+    ensures asks { AsksShelf (is_some name.now) ⊤ shelf.old shelf.new (H.faults shelf.old) (H.faults shelf.new) result }
+{
+    match name {
+        None => Ok(None),
+        Some(name) => {
+            let scene = scene_of_shelf(alloc, name, shelf)?;
+            Ok(Some(scene))
+        }
+    }
+}
+
+/// What the machine of a scene of the shelf shows when it starts, if one is named; the policies that the scene
+/// names are documents of the shelf.
+#[tactic(auto, unfolding(crate::specs::Prepared::sight_step))]
+pub fn sight_of_scene<H: Shelf>(
+    alloc: Global,
+    name: &Option<Text>,
+    shelf: &mut H,
+) -> Result<Option<Sight>, Halt>
+    ensures answer { IfSome (H.documents shelf.old) (λ all. Answers (λ sight. sight) (sight_step name.now all) result) }
+    ensures keeps { H.documents shelf.new ≡ H.documents shelf.old }
+    ensures asks { AsksShelf (is_some name.now) ⊤ shelf.old shelf.new (H.faults shelf.old) (H.faults shelf.new) result }
+{
+    match name {
+        None => Ok(None),
+        Some(name) => sight_of_name(alloc, name, shelf),
+    }
+}
+
+#[tactic(auto, unfolding(crate::specs::Prepared::sight_step))]
+fn sight_of_name<H: Shelf>(alloc: Global, name: &Text, shelf: &mut H) -> Result<Option<Sight>, Halt>
+    ensures answer { IfSome (H.documents shelf.old) (λ all. Answers (λ sight. sight) (sight_step (Some name.now) all) result) }
+    ensures keeps { H.documents shelf.new ≡ H.documents shelf.old }
+    ensures asks { AsksShelf true ⊤ shelf.old shelf.new (H.faults shelf.old) (H.faults shelf.new) result }
+{
+    let scene = scene_of_shelf(alloc, name, shelf)?;
+    let store = load_store(alloc, shelf)?;
+    opening_of(alloc, &store, &Some(scene))
+}

@@ -1,0 +1,249 @@
+//! Scenes that can be carried out.
+
+ghost use Rattle.std.specs.Option.{option_copied};
+ghost use Rattle.std.specs.Prelude.{◌≡◌, ◌≤◌, true, All, IfSome, IfOk, IsOk, find, length, map, reverse};
+ghost use Rattle.tpol_name.specs.Setups.{IsSetup};
+ghost use Rattle.tpol_scene.specs.Conditions.{HasScript};
+ghost use Rattle.tpol_store.specs.Stores.{IsReadable, policies_of, stored};
+ghost use Rattle.tpol_digest.specs.WellFormed.{IsWellFormedDocument};
+ghost use Rattle.tpol_prepare.specs.Entities.{IsReadyEntity, erased_entity};
+ghost use Rattle.tpol_prepare.specs.FilledDocuments.{IsReadyDocument};
+ghost use Rattle.tpol_prepare.specs.Limits.{limits_step};
+ghost use Rattle.tpol_prepare.specs.Prepared.{erased_prepared};
+ghost use Rattle.tpol_prepare.specs.Scenario.{CanHappen, HavePolicies, IsScenarioOf, IsWalkable, entity_document, erased_staged, grants_of, is_client, is_document, is_entity, limited_step, policy_of_entity, scenario_with, staged_by, staged_step, staged_with};
+ghost use Rattle.tpol_prepare.specs.SceneStep.{scene_of_bytes};
+ghost use Rattle.tpol_prepare.specs.Steps.{Answers, AsksShelf, IsInside};
+ghost use Rattle.tpol_tree.specs.ClosedErased.{erased_document};
+
+use crate::documents::FilledDocument;
+use crate::entities::CompiledEntity;
+use crate::halt::Halt;
+use crate::limits::{check_documents, check_limits};
+use crate::prepared::{PreparedScene, prepare};
+use crate::scene_step::scene_of_bytes;
+use crate::store_step::load_store;
+use std::alloc::Global;
+use tpol_base::{Digest32, ExactClone, NoMemory, Sequence, Shelf};
+use tpol_goal::Grants;
+use tpol_name::{Directory, Setup, directory};
+use tpol_scene::{Clients, Scene, Script};
+use tpol_store::Store;
+use tpol_tree::{Approvals, Closed};
+
+/// What the events of a scene go by: whether openings are told, the seed and the directory of the machine, the
+/// entities whose policies are named, the documents that the script begins, what is approved, and what each
+/// client may use.
+#[derive(Drop)]
+pub struct Scenario {
+    pub explains: bool,
+    pub seed: Digest32,
+    pub directory: Directory,
+    pub entities: Sequence<CompiledEntity>,
+    pub begun: Sequence<FilledDocument>,
+    pub approvals: Approvals,
+    pub clients: Clients,
+}
+
+/// A scene that can be carried out: what its machine starts from, what its events go by, and its events.
+#[derive(Drop)]
+pub struct StagedScene {
+    pub setup: Setup,
+    pub scenario: Scenario,
+    pub script: Script,
+}
+
+/// Reads the scene in the source, and looks up, fills and checks the policies that it names. The lines of openings
+/// are told of it where it `explains`.
+///
+/// `Refused` tells the first refusal: of the scene, of the shelf's documents, of a name without a policy, of a policy
+/// that is not filled, or of one that is not within the limits. `ShelfFailed` comes only where the shelf failed, and
+/// `NoMemory` where memory ran out. The shelf is asked only once the scene was read.
+#[tactic(auto, unfolding(crate::specs::Scenario::staged_step))]
+pub fn stage<H: Shelf>(
+    alloc: Global,
+    explains: bool,
+    input: &[u8],
+    shelf: &mut H,
+) -> Result<StagedScene, Halt>
+    ensures answer { IfSome (H.documents shelf.old) (λ all. Answers erased_staged (staged_step explains input.now all) result) }
+    ensures keeps { H.documents shelf.new ≡ H.documents shelf.old }
+    ensures asks { AsksShelf true (IsOk (scene_of_bytes input.now)) shelf.old shelf.new (H.faults shelf.old) (H.faults shelf.new) result }
+    ensures setup { IfOk result (λ staged. IsSetup staged.setup) }
+    ensures scenario { IfOk result (λ staged. IsScenarioOf staged.setup staged.scenario) }
+    ensures happens { IfOk result (λ staged. All CanHappen staged.script) }
+    ensures few { IfOk result (λ staged. length staged.script ≤ 4096) }
+{
+    let scene = scene_of_bytes(alloc, input)?;
+    let store = load_store(alloc, shelf)?;
+    stage_with(alloc, explains, scene, &store)
+}
+
+// The same of a scene, with the policies of a store.
+#[tactic(auto, unfolding(crate::specs::Scenario::staged_with))]
+fn stage_with(
+    alloc: Global,
+    explains: bool,
+    scene: Scene,
+    store: &Store,
+) -> Result<StagedScene, Halt>
+    requires readable { All IsReadable (stored store.now) }
+    requires setup { IsSetup scene.setup }
+    requires script { HasScript scene }
+    requires few { length scene.script ≤ 4096 }
+    ensures answer { Answers erased_staged (staged_with explains scene (policies_of store.now)) result }
+    ensures inside { IsInside result }
+    ensures setup { IfOk result (λ staged. IsSetup staged.setup) }
+    ensures scenario { IfOk result (λ staged. IsScenarioOf staged.setup staged.scenario) }
+    ensures happens { IfOk result (λ staged. All CanHappen staged.script) }
+    ensures few { IfOk result (λ staged. length staged.script ≤ 4096) }
+{
+    let prepared = prepare(alloc, store, &scene)?;
+    let approvals = store.approvals(alloc, Some(&prepared.sight))?;
+    stage_prepared(alloc, explains, scene, prepared, approvals)
+}
+
+// The same of a scene whose policies are filled.
+#[tactic(auto, using(crate::proofs::Walkable::all_can_happen), unfolding(crate::specs::Scenario::staged_by))]
+fn stage_prepared(
+    alloc: Global,
+    explains: bool,
+    scene: Scene,
+    prepared: PreparedScene,
+    approvals: Approvals,
+) -> Result<StagedScene, Halt>
+    requires script { HasScript scene }
+    requires few { length scene.script ≤ 4096 }
+    requires entities { All IsReadyEntity prepared.entities }
+    requires begun { All IsReadyDocument prepared.begun }
+    requires approvals { All IsWellFormedDocument approvals }
+    requires policies { HavePolicies prepared.setup prepared.entities }
+    ensures answer { Answers erased_staged
+        (staged_by explains scene (erased_prepared prepared) (map erased_document approvals)) result }
+    ensures inside { IsInside result }
+    ensures setup { IsSetup prepared.setup → IfOk result (λ staged. IsSetup staged.setup) }
+    ensures scenario { IfOk result (λ staged. IsScenarioOf staged.setup staged.scenario) }
+    ensures happens { IfOk result (λ staged. All CanHappen staged.script) }
+    ensures few { IfOk result (λ staged. length staged.script ≤ 4096) }
+{
+    check_scene(alloc, &prepared, &approvals)?;
+    Ok(staged(alloc, explains, scene, prepared, approvals)?)
+}
+
+// Ends the run at the first policy of a scene that has too many paths, or one that is too long.
+#[tactic(auto, using(crate::proofs::Walkable::all_walkable, crate::proofs::Walkable::documents_have_counts), unfolding(crate::specs::Scenario::limited_step))]
+fn check_scene(alloc: Global, prepared: &PreparedScene, approvals: &Approvals) -> Result<(), Halt>
+    requires entities { All IsReadyEntity prepared.now.entities }
+    requires begun { All IsReadyDocument prepared.now.begun }
+    requires approvals { All IsWellFormedDocument approvals.now }
+    ensures answer { Answers (λ _. tt) (limited_step (erased_prepared prepared.now) (map erased_document approvals.now)) result }
+    ensures inside { IsInside result }
+    ensures entities { IfOk result (λ _. All (λ entity. IsWalkable approvals.now entity.document.closed) prepared.now.entities) }
+    ensures begun { IfOk result (λ _. All (λ document. IsWalkable approvals.now document.closed) prepared.now.begun) }
+{
+    check_entities(alloc, prepared.entities.as_slice(), approvals)?;
+    check_documents(alloc, prepared.begun.as_slice(), approvals)
+}
+
+// The same of the policies of entities.
+#[tactic(auto, using(crate::proofs::Walkable::walkable), unfolding(crate::specs::Limits::limits_step))]
+fn check_entities(
+    alloc: Global,
+    entities: &[CompiledEntity],
+    approvals: &Approvals,
+) -> Result<(), Halt>
+    requires policies { All IsReadyEntity entities.now }
+    requires approvals { All IsWellFormedDocument approvals.now }
+    ensures answer { Answers (λ _. tt)
+        (limits_step (map erased_document approvals.now) (map entity_document (map erased_entity entities.now))) result }
+    ensures inside { IsInside result }
+    ensures within { IfOk result (λ _. All (λ entity. IsWalkable approvals.now entity.document.closed) entities.now) }
+{
+    for entity in entities {
+        let document = &entity.document;
+        check_limits(alloc, Some(&document.name), &document.closed, approvals)?;
+    }
+    Ok(())
+}
+
+// The parts of a scene that can be carried out, put together.
+fn staged(
+    alloc: Global,
+    explains: bool,
+    scene: Scene,
+    prepared: PreparedScene,
+    approvals: Approvals,
+) -> Result<StagedScene, NoMemory>
+    ensures { IfOk result (λ staged. staged ≡ scenario_with explains scene prepared approvals) }
+{
+    let Scene {
+        clients,
+        script,
+        ..
+    } = scene;
+    let directory = directory(alloc, &prepared.setup)?;
+    let PreparedScene {
+        setup,
+        entities,
+        begun,
+        ..
+    } = prepared;
+    let scenario = Scenario {
+        explains,
+        seed: setup.seed,
+        directory,
+        entities,
+        begun,
+        approvals,
+        clients,
+    };
+    Ok(StagedScene {
+        setup,
+        scenario,
+        script,
+    })
+}
+
+impl Scenario {
+    /// The document of this name that the script begins.
+    pub fn document(&self, name: &str) -> Option<&FilledDocument>
+        ensures { option_copied result ≡ find (is_document name.now) self.now.begun }
+    {
+        self.begun
+            .as_slice()
+            .iter()
+            .find(|document| document.name.as_str() == name)
+    }
+
+    /// The policy of the entity of this handle, where the scene names it.
+    pub fn policy_of_entity(&self, handle: u32) -> Option<&Closed>
+        ensures { option_copied result ≡ policy_of_entity self.now.entities handle }
+    {
+        let entity = find_entity(self.entities.as_slice(), handle)?;
+        Some(&entity.document.closed)
+    }
+
+    /// What a client may use: nothing where it is not listed. It fails only where memory ran out.
+    pub fn grants(&self, alloc: Global, client: u32) -> Result<Grants, NoMemory>
+        ensures { IfOk result (λ grants. grants ≡ grants_of self.now.clients client) }
+    {
+        match find_client(self.clients.as_slice(), client) {
+            Some(client) => Ok(client.1.exact_clone()?),
+            None => Ok(Grants {
+                secrets: Sequence::new(alloc),
+                keys: Sequence::new(alloc),
+            }),
+        }
+    }
+}
+
+fn find_entity(entities: &[CompiledEntity], handle: u32) -> Option<&CompiledEntity>
+    ensures { option_copied result ≡ find (is_entity handle) (reverse entities.now) }
+{
+    entities.iter().rev().find(|entity| entity.handle == handle)
+}
+
+fn find_client(clients: &[(u32, Grants)], number: u32) -> Option<&(u32, Grants)>
+    ensures { option_copied result ≡ find (is_client number) clients.now }
+{
+    clients.iter().find(|client| client.0 == number)
+}

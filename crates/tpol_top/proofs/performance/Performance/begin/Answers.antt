@@ -1,8 +1,0 @@
-use Rattle.std.proofs.Common.{sym}
-use Rattle.tpol_top.proofs.Walkable.{document_walkable}
-use Rattle.tpol_top.proofs.performance.Performance.begin.Goals as goal
-
-pub begin_on-requires-clause-walked : goal.begin_on-requires-clause-walked
-begin_on-requires-clause-walked c =
-    document_walkable c.args.scenario.now.approvals c.args.scenario.now.begun c.args.policy.now c.in-Some.document.now
-    c.requires.scenario.begun (sym c.in-Some.ensures)

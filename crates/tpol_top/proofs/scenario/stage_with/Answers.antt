@@ -1,9 +1,0 @@
-use Rattle.tpol_store.specs.Stores.{policies_of}
-use Rattle.tpol_top.specs.Prepared.{erased_prepared}
-use Rattle.tpol_top.proofs.EntityPolicies.{have_unerased, prepared_have}
-use Rattle.tpol_top.proofs.scenario.stage_with.Goals as goal
-
-pub stage_prepared-requires-clause-policies : goal.stage_prepared-requires-clause-policies
-stage_prepared-requires-clause-policies c =
-    have_unerased c.in_ok-prepared.prepared.setup c.in_ok-prepared.prepared.entities
-    (prepared_have (policies_of c.args.store.now) c.args.scene (erased_prepared c.in_ok-prepared.prepared) c.in_ok-prepared.ensures.answer)
