@@ -2,6 +2,7 @@ mod After
 mod Alike
 mod Answered
 mod Approved
+mod Begun
 mod Binds
 mod Calm
 mod Codes
@@ -9,6 +10,7 @@ mod Complete
 mod Ends
 mod Finds
 mod Fit
+mod Followed
 mod Goal
 mod GoalAt
 mod GoalChecks
@@ -23,10 +25,13 @@ mod Moved
 mod Named
 mod Own
 mod Passing
+mod Prints
 mod SameKeys
 mod Seen
 mod Served
 mod Standing
 mod Starts
 mod Step
+mod Told
+mod Unlike
 mod Unstopped

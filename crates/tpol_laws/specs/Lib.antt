@@ -1,3 +1,4 @@
 pub mod Acts
 pub mod Others
 pub mod Runs
+pub mod Told

@@ -40,5 +40,5 @@ mod laws;
 
 pub use laws::{
     a_path_that_can_is_complete, a_path_that_can_is_served, a_run_ends, a_run_goes_on,
-    session_digest_is_compiled,
+    runs_are_served_as_told, session_digest_is_compiled,
 };
