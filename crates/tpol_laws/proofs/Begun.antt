@@ -1,7 +1,7 @@
 -- Where the run of a script begins: the events before it are of others, and it begins on the chosen path or on none.
-use Rattle.std.proofs.Common.{◌≡◌, ◌⊎◌, ◌≤◌, ◌<◌, inl, inr, ℕ, suc, ◌+◌, ◌-◌, ◌^◌, Bool, true, false, cond, if◌then◌else◌, List, [], ◌∷◌, ◌++◌, All, Option, Some, None, length, map, nat_eq, slice_get, refl, ap, sym, subst, ◌∙◌, arith, append_assoc, append-nil}
+use Rattle.std.proofs.Common.{◌≡◌, ◌⊎◌, ◌≤◌, ◌<◌, inl, inr, ℕ, suc, ◌+◌, ◌-◌, ◌^◌, Bool, true, false, if◌then◌else◌, List, [], ◌∷◌, ◌++◌, All, Option, Some, None, length, map, nat_eq, slice_get, refl, ap, sym, subst, ◌∙◌, arith, append_assoc, append-nil}
 use Rattle.std.specs.List.{AllByRecursion, IsDistinct}
-use Rattle.std.specs.Prelude.{⊤, Contains, find, is_none}
+use Rattle.std.specs.Prelude.{Contains, find, is_none}
 use Rattle.std.specs.Option.{option_map, unwrap_or}
 use Rattle.std.proofs.lemmas.Bool.{eqb-true}
 use Rattle.std.proofs.lemmas.List.Elements.{All-nil, Contains-append_left, Contains-push, Contains-push_cases, recursion_from_All}
@@ -20,10 +20,8 @@ use Rattle.tpol_lines.specs.BlockLine.{block_line}
 use Rattle.tpol_lines.specs.Lines.{line_of}
 use Rattle.tpol_lines.specs.Runs.{chosen_line, nobranch_line}
 use Rattle.tpol_name.specs.declared.sight.Sight.{Sight}
-use Rattle.tpol_perform.specs.declared.new_run.NewRun.{NewRun}
-use Rattle.tpol_perform.specs.Begin.{begun_along, begun_at, begun_nowhere, begun_on, new_run, plan_along, run_begun, with_block, with_blocks, with_new_run}
+use Rattle.tpol_perform.specs.Begin.{begun_along, begun_at, begun_nowhere, begun_on, plan_along, run_begun, with_block, with_blocks, with_new_run}
 use Rattle.tpol_perform.specs.Performance.{PerformanceState, start_of, with_line}
-use Rattle.tpol_perform.specs.Script.{all_happened, happened}
 use Rattle.tpol_prepare.specs.declared.documents.FilledDocument.{FilledDocument}
 use Rattle.tpol_prepare.specs.declared.scenario.Scenario.{Scenario}
 use Rattle.tpol_prepare.specs.declared.scenario.StagedScene.{StagedScene}
@@ -34,10 +32,8 @@ use Rattle.tpol_scene.specs.declared.script.ScriptEvent.{ScriptEvent}
 use Rattle.tpol_scene.specs.declared.script.ScriptEvent.TheVariants.{Command, Begin, Turn, Time, Presence, Reset}
 use Rattle.tpol_scene.specs.Conditions.{AreEventsBehind, BeginsRun, IsEventBehind}
 use Rattle.tpol_scene.specs.Scripts.{begun_run}
-use Rattle.tpol_tree.specs.declared.path.ApprovedDoc.{ApprovedDoc}
 use Rattle.tpol_tree.specs.declared.path.Path.{Path}
 use Rattle.tpol_tree.specs.Bounds.{HasClosedBounds}
-use Rattle.tpm_engine.specs.Sights.{sight_after}
 use Rattle.tpol_laws.specs.Acts.{Run}
 use Rattle.tpol_laws.specs.Runs.{IsBegun}
 use Rattle.tpol_laws.specs.Told.{AreBlocksOf, BeginsNowhere, BeginsOn, IsStaged, RunOf, before_begin, begins, behind_begin, chosen_for, paths_for, sight_at_begin}

@@ -1,16 +1,15 @@
 -- A run of a scene's script is a run among others: its turns are turns of the run.
-use Rattle.std.proofs.Common.{◌≡◌, ◌⊎◌, inl, inr, ℕ, zero, suc, ◌+◌, ◌<◌, ◌^◌, if◌then◌else◌, true≢false, Bool, true, false, cond, List, [], ◌∷◌, ◌++◌, All, Option, Some, None, nat_eq, refl, ap, sym, subst, ◌∙◌, arith, append_assoc}
+use Rattle.std.proofs.Common.{◌≡◌, ◌⊎◌, inl, inr, ℕ, zero, suc, ◌+◌, ◌<◌, ◌^◌, if◌then◌else◌, true≢false, Bool, true, false, List, [], ◌∷◌, ◌++◌, Option, Some, None, nat_eq, refl, ap, sym, subst, ◌∙◌, arith, append_assoc}
 use Rattle.std.specs.List.{AllByRecursion}
 use Rattle.std.specs.Prelude.{⊤, Contains, find, replicate}
 use Rattle.std.proofs.lemmas.Bool.{eqb-true}
 use Rattle.std.proofs.lemmas.List.Elements.{Contains-append_left, Contains-push}
 use Rattle.std.proofs.lemmas.Option.{none-some, same_Some}
 use Rattle.tpol_driver.specs.declared.end.End.{End}
-use Rattle.tpol_driver.specs.declared.plan.Plan.{Plan}
 use Rattle.tpol_driver.specs.Driving.{Closing, Drive, Ends, Moving, Over, Sends, Standing, Starting, hears, sends}
 use Rattle.tpol_lines.specs.Lines.{line_of}
 use Rattle.tpol_lines.specs.Runs.{end_line, over_line}
-use Rattle.tpol_perform.specs.Performance.{PerformanceState, with_event, with_line}
+use Rattle.tpol_perform.specs.Performance.{PerformanceState, with_line}
 use Rattle.tpol_perform.specs.CommandsTold.{commanded}
 use Rattle.tpol_perform.specs.Script.{all_happened, happened, turn_told}
 use Rattle.tpol_perform.specs.Turns.{most_turns, sent, sent_now, replied, turned, turned_and, turned_by, turned_on, turned_times, turned_to_end, turned_to_end_by, with_end}
@@ -19,17 +18,14 @@ use Rattle.tpol_scene.specs.declared.script.ScriptEvent.{ScriptEvent}
 use Rattle.tpol_scene.specs.declared.script.ScriptEvent.TheVariants.{Command, Begin, Turn, Time, Presence, Reset}
 use Rattle.tpol_laws.specs.Told.{IsAlone, is_turn_of, times_given, turns_for, turns_given}
 use Rattle.tpol_runs.specs.declared.numbered.Numbered.{Numbered}
-use Rattle.tpol_runs.specs.declared.sent.Sent.{Sent}
 use Rattle.tpol_runs.specs.Courses.{begun as begun_underway, end_told, goes_on, heard_by, next_of, sent_in, stands_at, underway_at}
 use Rattle.tpol_runs.specs.Runs.{has_number, run_at, run_in, with_run}
 use Rattle.tpol_runs.specs.Underway.{Underway}
 use Rattle.tpol_wire.specs.declared.command.Command.{Command as WireCommand}
 use Rattle.tpol_wire.specs.Commands.{spelling}
 use Rattle.tpm_engine.specs.declared.event.Event.{Event}
-use Rattle.tpm_engine.specs.Events.{event_of}
-use Rattle.tpm_engine.specs.Legal.{answer_to}
-use Rattle.tpol_laws.specs.Acts.{Act, Course, Run, Turn as OwnTurn, after_act, after_acts, answer_in, event_in, turned as turned_in}
-use Rattle.tpol_laws.proofs.Prints.{Allows, IsBehind, IsOther, Prints, Spares, command-printed, found-there, happened-spares}
+use Rattle.tpol_laws.specs.Acts.{Course, Run, Turn as OwnTurn, after_act, after_acts, answer_in, event_in, turned as turned_in}
+use Rattle.tpol_laws.proofs.Prints.{Allows, IsBehind, IsOther, Spares, command-printed, found-there, happened-spares}
 
 -- ---- where the driver stands
 

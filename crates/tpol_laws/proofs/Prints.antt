@@ -1,11 +1,10 @@
 -- What the events of a script print, and that they leave a run of another number as it is.
-use Rattle.std.proofs.Common.{◌≡◌, ℕ, zero, suc, ◌+◌, ◌-◌, ◌<◌, ◌^◌, ◌==◌, Bool, true, false, cond, List, [], ◌∷◌, ◌++◌, All, Option, Some, None, nat_eq, refl, ap, sym, subst, ◌∙◌, append_assoc, slice_get, arith}
+use Rattle.std.proofs.Common.{◌≡◌, ℕ, zero, suc, ◌+◌, ◌-◌, ◌<◌, ◌^◌, Bool, true, false, cond, List, [], ◌∷◌, ◌++◌, All, Option, Some, None, nat_eq, refl, ap, sym, subst, ◌∙◌, append_assoc, slice_get}
 use Rattle.std.specs.Prelude.{⊤, find}
 use Rattle.std.specs.List.{AllByRecursion}
 use Rattle.std.proofs.lemmas.Bool.{eq-eqb, eqb-true}
 use Rattle.std.proofs.lemmas.List.{append-nil}
 use Rattle.std.proofs.lemmas.List.Elements.{All-append, All-cons, All-nil}
-use Rattle.std.proofs.lemmas.List.Folds.{find-append}
 use Rattle.tpol_driver.specs.declared.end.End.{End}
 use Rattle.tpol_lines.specs.BlockLine.{block_line}
 use Rattle.tpol_lines.specs.Events.{command_line, presence_line, reset_line, time_line}
@@ -24,7 +23,7 @@ use Rattle.tpol_name.specs.declared.sight.Sight.{Sight}
 use Rattle.tpol_perform.specs.declared.new_run.NewRun.{NewRun}
 use Rattle.tpol_perform.specs.Begin.{begun_along, begun_at, begun_nowhere, begun_on, new_run, plan_along, run_begun, with_block, with_blocks, with_new_run}
 use Rattle.tpol_perform.specs.CommandsTold.{command_told, commanded, entity_opened, opening_told, policy_opened, with_opening}
-use Rattle.tpol_perform.specs.Performance.{PerformanceState, number_in, presence_set, time_passed, was_reset, with_event, with_line}
+use Rattle.tpol_perform.specs.Performance.{PerformanceState, number_in, with_event, with_line}
 use Rattle.tpol_perform.specs.Script.{all_happened, happened, turn_told}
 use Rattle.tpol_perform.specs.Turns.{most_turns, sent, sent_now, replied, turned, turned_and, turned_by, turned_on, turned_times, turned_to_end, turned_to_end_by, with_end}
 use Rattle.tpol_prepare.specs.declared.scenario.Scenario.{Scenario}

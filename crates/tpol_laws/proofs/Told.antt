@@ -1,9 +1,8 @@
 -- What the report tells of a run of the script: that it is served exactly where it begins on a path.
-use Rattle.std.proofs.Common.{◌≡◌, ◌≤◌, ◌<◌, ◌↔◌, ℕ, zero, suc, ◌+◌, ◌*◌, ◌^◌, List, [], ◌∷◌, ◌++◌, All, Option, Some, None, length, replicate, slice_get, refl, ap, sym, subst, ◌∙◌, append_assoc, append-nil}
+use Rattle.std.proofs.Common.{◌≡◌, ◌≤◌, ◌↔◌, ℕ, zero, suc, ◌+◌, ◌*◌, List, [], ◌∷◌, ◌++◌, All, Option, Some, None, length, replicate, refl, ap, sym, subst, ◌∙◌, append_assoc, append-nil}
 use Rattle.std.specs.List.{AllByRecursion}
 use Rattle.std.specs.Prelude.{Contains, find}
 use Rattle.std.proofs.lemmas.List.Elements.{All-append, All-contains, All-cons, All-nil, Contains-append_left, Contains-append_right}
-use Rattle.std.proofs.lemmas.Option.{none-some}
 use Rattle.tpol_choose.specs.Blocks.{first_block}
 use Rattle.tpol_driver.specs.declared.end.End.{End}
 use Rattle.tpol_driver.specs.declared.end.End.TheVariants.{Served}
@@ -13,23 +12,21 @@ use Rattle.tpol_lines.specs.Runs.{chosen_line, end_line, nobranch_line, over_lin
 use Rattle.tpol_perform.specs.Begin.{begun_nowhere, with_new_run}
 use Rattle.tpol_perform.specs.Performance.{PerformanceState, start_of, with_line}
 use Rattle.tpol_perform.specs.Script.{all_happened, happened, performed, turn_told}
-use Rattle.tpol_perform.specs.Turns.{sent_now, turned, turned_by, turned_times, turned_to_end, turned_to_end_by}
+use Rattle.tpol_perform.specs.Turns.{turned, turned_by, turned_times, turned_to_end, turned_to_end_by}
 use Rattle.tpol_prepare.specs.declared.scenario.Scenario.{Scenario}
 use Rattle.tpol_prepare.specs.declared.scenario.StagedScene.{StagedScene}
-use Rattle.tpol_runs.specs.declared.sent.Sent.{Sent}
-use Rattle.tpol_runs.specs.Courses.{begun as begun_underway, next_of, underway_at}
+use Rattle.tpol_runs.specs.Courses.{next_of}
 use Rattle.tpol_runs.specs.Runs.{has_number, run_at, run_in}
 use Rattle.tpol_scene.specs.declared.script.ScriptEvent.{ScriptEvent}
 use Rattle.tpol_scene.specs.declared.script.ScriptEvent.TheVariants.{Begin}
 use Rattle.tpol_tree.specs.declared.path.Path.{Path}
-use Rattle.tpm_engine.specs.declared.event.Event.{Event}
 use Rattle.tpm_engine.specs.Sights.{sight_after}
-use Rattle.tpol_laws.specs.Acts.{Turn as OwnTurn, after_acts, begun}
-use Rattle.tpol_laws.specs.Told.{BeginsNowhere, BeginsOn, HasTurns, IsAlone, IsServedOn, IsStaged, IsToldServed, RunOf, before_begin, begins, behind_begin, behind_own, chosen_for, lines_when_over, paths_for, sight_at_begin, turns_for, with_over}
+use Rattle.tpol_laws.specs.Acts.{begun}
+use Rattle.tpol_laws.specs.Told.{BeginsNowhere, BeginsOn, HasTurns, IsAlone, IsServedOn, IsStaged, IsToldServed, RunOf, before_begin, begins, behind_begin, behind_own, chosen_for, paths_for, sight_at_begin, turns_for, with_over}
 use Rattle.tpol_laws.proofs.Begun.{along-state, begins-nowhere, begins-on, begun-along-is, begun-is, begun-run-is, front, none-before, run-along, setup-before, stands-in}
 use Rattle.tpol_laws.proofs.Followed.{Follows, allows-any, any, entry_at, own-follow}
-use Rattle.tpol_laws.proofs.Prints.{Allows, IsBehind, IsOther, Spares, all-behind, all-spare, blocks-spare, found-begun}
-use Rattle.tpol_laws.proofs.Served.{ServedAfter, path-served}
+use Rattle.tpol_laws.proofs.Prints.{IsBehind, all-behind, all-spare, blocks-spare, found-begun}
+use Rattle.tpol_laws.proofs.Served.{path-served}
 use Rattle.tpol_laws.proofs.Unlike.{IsUnserved, allows-unserved}
 
 -- ---- events in two parts

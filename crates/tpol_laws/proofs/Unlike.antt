@@ -6,18 +6,13 @@ use Rattle.std.specs.List.{AllByRecursion}
 use Rattle.std.proofs.lemmas.Bool.{eq-eqb, false≢true}
 use Rattle.std.proofs.lemmas.Bool.Decides.{nat_tests}
 use Rattle.std.proofs.lemmas.Fmt.{decimal_injective}
-use Rattle.tpol_choose.specs.declared.block.Block.{Block}
-use Rattle.tpol_driver.specs.declared.end.End.{End}
-use Rattle.tpol_driver.specs.declared.end.End.TheVariants.{Served, Denied, BadReply}
-use Rattle.tpol_lines.specs.BlockLine.{block_line}
-use Rattle.tpol_lines.specs.Events.{command_line, presence_line, reset_line, time_line}
+use Rattle.tpol_driver.specs.declared.end.End.TheVariants.{Served}
 use Rattle.tpol_lines.specs.Lines.{line_of}
 use Rattle.tpol_lines.specs.OpeningLine.{opening_line}
-use Rattle.tpol_lines.specs.Runs.{chosen_line, end_line, end_text, nobranch_line, over_line}
+use Rattle.tpol_lines.specs.Runs.{end_line, end_text}
 use Rattle.tpol_trace.specs.declared.answer.Opening.{Opening}
 use Rattle.tpol_trace.specs.declared.answer.Opening.TheVariants.{Branch, Clash, ZeroInput}
 use Rattle.tpol_tree.specs.declared.path.Path.{Path}
-use Rattle.tpol_tree.specs.declared.path.PathStep.{PathStep}
 use Rattle.tpol_laws.proofs.Prints.{Allows}
 
 -- ---- digits

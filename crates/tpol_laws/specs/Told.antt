@@ -15,7 +15,7 @@ use Rattle.tpol_name.specs.Setups.{IsSetup}
 use Rattle.tpol_perform.specs.declared.new_run.NewRun.{NewRun}
 use Rattle.tpol_perform.specs.Begin.{new_run}
 use Rattle.tpol_perform.specs.Performance.{PerformanceState, start_of}
-use Rattle.tpol_perform.specs.Script.{all_happened, happened, performed}
+use Rattle.tpol_perform.specs.Script.{all_happened, happened}
 use Rattle.tpol_prepare.specs.declared.scenario.Scenario.{Scenario}
 use Rattle.tpol_prepare.specs.declared.scenario.StagedScene.{StagedScene}
 use Rattle.tpol_prepare.specs.Scenario.{IsScenarioOf, paths_named}
