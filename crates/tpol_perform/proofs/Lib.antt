@@ -1,8 +1,12 @@
 pub mod Chosen
 pub mod ExplainedErased
+pub mod GeneratedErased
+pub mod GeneratedRuns
+pub mod GeneratedScenarios
+pub mod GeneratedSetups
 pub mod Masks
-pub mod OpenedTold
 pub mod OpenedMeets
+pub mod OpenedTold
 pub mod OpeningErased
 pub mod PathPcrs
 pub mod PcrsAtUse

@@ -3,12 +3,14 @@
 //! Contracts see how far a scene was carried out as a `PerformanceState`: what the machine started from, its
 //! journal, the runs that were begun, and the lines. `performed` is the fold over the events; `IsExplained` says
 //! what the lines of `explain` tell of every command of the journal. The layer above takes `perform_scene` for the
-//! commands `run` and `explain`, and `perform_run` for a scene of one run.
+//! commands `run` and `explain`, and `perform_generated` for `gen`, whose policy, machine and client are made here.
 #![tactic(auto)]
 
 mod begin;
 mod commands_told;
 mod first_run;
+mod generate;
+mod generated;
 mod new_run;
 mod openings;
 mod perform;
@@ -16,7 +18,7 @@ mod performance;
 mod script;
 mod turns;
 
-pub use first_run::perform_run;
+pub use generate::perform_generated;
 pub use new_run::NewRun;
 pub use perform::perform_scene;
 pub use performance::Performance;

@@ -1,9 +1,5 @@
 pub mod Answered
 pub mod Explaining
-pub mod GeneratedErased
-pub mod GeneratedRuns
-pub mod GeneratedScenarios
-pub mod GeneratedSetups
 pub mod Imported
 pub mod Losses
 pub mod NoRequest

@@ -6,7 +6,7 @@ use Rattle.tpol_top.specs.declared.request.Request.TheVariants.{Compile, Paths, 
 use Rattle.tpol_prepare.specs.declared.answer.Answer.{Answer}
 use Rattle.tpol_top.specs.Canon.{canon_step}
 use Rattle.tpol_top.specs.Compile.{compile_step}
-use Rattle.tpol_top.specs.Generate.{generate_step}
+use Rattle.tpol_perform.specs.Generate.{generate_step}
 use Rattle.tpol_top.specs.Import.{documents_after_import, import_step}
 use Rattle.tpol_top.specs.Paths.{paths_step}
 use Rattle.tpol_perform.specs.Script.{perform_step}

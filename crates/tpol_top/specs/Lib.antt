@@ -2,7 +2,6 @@ pub mod Canon
 pub mod Commands
 pub mod Compile
 pub mod Explain
-pub mod Generate
 pub mod Import
 pub mod Numbers
 pub mod Paths

@@ -8,13 +8,12 @@ ghost use Rattle.tpol_top.specs.Words.{uses_shelf_for};
 
 use crate::canon::canon;
 use crate::compile::compile;
-use crate::generate::generate;
 use crate::import::import;
 use crate::paths::list_paths;
 use crate::request::Request;
 use std::alloc::Global;
 use tpol_base::Shelf;
-use tpol_perform::perform_scene;
+use tpol_perform::{perform_generated, perform_scene};
 use tpol_prepare::{Answer, Halt};
 
 /// What a command has to say of a document that is not too large.
@@ -40,6 +39,6 @@ pub fn carry_out<H: Shelf>(
         Request::Import { name } => import(alloc, name, input, shelf),
         Request::Run => perform_scene(alloc, false, input, shelf),
         Request::Explain => perform_scene(alloc, true, input, shelf),
-        Request::Generate { ors, order } => generate(alloc, *ors, *order),
+        Request::Generate { ors, order } => perform_generated(alloc, *ors, *order),
     }
 }

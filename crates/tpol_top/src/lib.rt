@@ -11,8 +11,6 @@ mod canon;
 mod canon_tests;
 mod commands;
 mod compile;
-mod generate;
-mod generated;
 mod import;
 mod input;
 mod numbers;

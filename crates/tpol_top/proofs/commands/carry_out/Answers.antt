@@ -25,7 +25,7 @@ pub returns-in-Run-clause-explained : goal.returns-in-Run-clause-explained
 returns-in-Run-clause-explained g c = rw c.in-Run.is (untold c.perform_scene.result)
 
 pub returns-in-Generate-clause-explained : goal.returns-in-Generate-clause-explained
-returns-in-Generate-clause-explained g c = rw c.in-Generate.is (untold c.generate.result)
+returns-in-Generate-clause-explained g c = rw c.in-Generate.is (untold c.perform_generated.result)
 
 pub returns-in-Explain-clause-explained : goal.returns-in-Explain-clause-explained
 returns-in-Explain-clause-explained g c = rw c.in-Explain.is (c.perform_scene-in-Explain.ensures.explained refl)

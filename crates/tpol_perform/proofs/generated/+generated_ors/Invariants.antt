@@ -1,4 +1,4 @@
-use Rattle.tpol_top.proofs.generated.+generated_ors.Given as goal
+use Rattle.tpol_perform.proofs.generated.+generated_ors.Given as goal
 
 abbrev pub decreases-generated_ors : goal.decreases-generated_ors
 decreases-generated_ors l = l.more

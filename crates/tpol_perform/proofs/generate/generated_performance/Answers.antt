@@ -2,9 +2,9 @@ use Rattle.std.proofs.Common.{◌≤◌, arith, subst, sym}
 use Rattle.tpol_perform.specs.declared.new_run.NewRun.{NewRun}
 use Rattle.tpol_prepare.specs.declared.scenario.Scenario.{Scenario}
 use Rattle.tpol_prepare.specs.Scenario.{IsScenarioOf}
-use Rattle.tpol_top.proofs.GeneratedRuns.{run_in_steps}
-use Rattle.tpol_top.proofs.GeneratedScenarios.{generated_is_scenario}
-use Rattle.tpol_top.proofs.generate.generated_performance.Goals as goal
+use Rattle.tpol_perform.proofs.GeneratedRuns.{run_in_steps}
+use Rattle.tpol_perform.proofs.GeneratedScenarios.{generated_is_scenario}
+use Rattle.tpol_perform.proofs.generate.generated_performance.Goals as goal
 
 pub perform_run-requires-clause-scenario : goal.perform_run-requires-clause-scenario
 perform_run-requires-clause-scenario c =

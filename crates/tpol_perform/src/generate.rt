@@ -4,16 +4,17 @@ ghost use Rattle.std.specs.Prelude.{◌≡◌, [], ◌++◌, ◌<◌, ◌≤◌,
 ghost use Rattle.tpol_digest.specs.Limits.{AreWithinLimits};
 ghost use Rattle.tpol_digest.specs.Paths.{paths_of};
 ghost use Rattle.tpol_digest.specs.WellFormed.{IsWellFormedPolicy};
+ghost use Rattle.tpol_perform.specs.Generate.{generate_step, generated_answer, generated_head, generated_performance, generated_run_lines, generated_scenario};
 ghost use Rattle.tpol_prepare.specs.Steps.{Answers, IsInside};
-ghost use Rattle.tpol_top.specs.Generate.{generate_step, generated_answer, generated_head, generated_performance, generated_run_lines, generated_scenario};
 
+use crate::first_run::perform_run;
 use crate::generated::{generated_policy, generated_run, generated_setup};
+use crate::performance::Performance;
 use std::alloc::Global;
 use tpol_base::{NoMemory, Sequence, Text};
 use tpol_digest::{count_paths, digest_of};
 use tpol_lines::{Lines, command_count_line, generated_line, path_count_line, push_line};
 use tpol_name::{Setup, directory};
-use tpol_perform::{Performance, perform_run};
 use tpol_prepare::{
     Answer, FilledDocument, Halt, Scenario, Verdict, check_limits, digest_line, fill_document,
 };
@@ -21,8 +22,11 @@ use tpol_tree::{Approvals, Closed};
 
 /// The command `gen`: a policy of so many ORs, in an order by the bits of a number, its paths and its digest, and a
 /// run of it on a machine of its own.
+///
+/// `Refused` tells that the policy is not filled or not within the limits; `NoMemory` comes where memory ran out, and
+/// nothing else comes.
 #[tactic(auto, using(crate::proofs::GeneratedErased::generated_answer_erased), unfolding(crate::specs::Generate::generate_step))]
-pub fn generate(alloc: Global, ors: u8, order: u32) -> Result<Answer, Halt>
+pub fn perform_generated(alloc: Global, ors: u8, order: u32) -> Result<Answer, Halt>
     ensures answer { Answers (λ answer. answer) (generate_step ors order) result }
     ensures inside { IsInside result }
 {

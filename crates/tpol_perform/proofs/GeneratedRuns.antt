@@ -6,7 +6,7 @@ use Rattle.tpol_name.specs.declared.setup.Setup.{Setup}
 use Rattle.tpol_perform.specs.declared.new_run.NewRun.{NewRun}
 use Rattle.tpol_prepare.specs.declared.scenario.Scenario.{Scenario}
 use Rattle.tpol_perform.specs.FirstRun.{performed_run}
-use Rattle.tpol_top.specs.Generate.{generated_performance, generated_run, generated_scenario, generated_setup}
+use Rattle.tpol_perform.specs.Generate.{generated_performance, generated_run, generated_scenario, generated_setup}
 use Rattle.tpol_perform.specs.Performance.{PerformanceState, start_of}
 use Rattle.tpol_tree.specs.declared.closed.Closed.{Closed}
 

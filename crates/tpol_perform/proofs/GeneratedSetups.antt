@@ -7,7 +7,7 @@ use Rattle.std.specs.List.{IsDistinct}
 use Rattle.tpol_base.specs.declared.digest.Digest32.{Digest32}
 use Rattle.tpol_name.specs.Paths.{is_same_path}
 use Rattle.tpol_name.specs.Setups.{AreEntities, IsAuthValue, IsIndex, IsObject, IsSetup, hierarchy_paths}
-use Rattle.tpol_top.specs.Generate.{before, generated_object, generated_or, generated_ors, generated_setup, zero_pcrs}
+use Rattle.tpol_perform.specs.Generate.{before, generated_object, generated_or, generated_ors, generated_setup, zero_pcrs}
 
 empty_value : IsAuthValue []
 empty_value = record { size = omega arith; trimmed = refl }

@@ -1,9 +1,9 @@
 use Rattle.std.proofs.Common.{◌∙◌, ap, ℕ, List, ◌++◌}
 use Rattle.tpol_prepare.specs.declared.answer.Answer.{Answer}
 use Rattle.tpol_prepare.specs.declared.answer.Verdict.TheVariants.{Done}
-use Rattle.tpol_top.specs.Generate.{generated_answer, generated_head, generated_run_lines}
+use Rattle.tpol_perform.specs.Generate.{generated_answer, generated_head, generated_run_lines}
 use Rattle.tpol_perform.specs.Performance.{PerformanceState}
-use Rattle.tpol_top.proofs.generate.generated_answer.Goals as goal
+use Rattle.tpol_perform.proofs.generate.generated_answer.Goals as goal
 
 abbrev told : List (List ℕ) → Answer
 told lines = record { lines = lines; verdict = Done }

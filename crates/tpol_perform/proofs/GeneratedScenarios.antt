@@ -7,7 +7,7 @@ use Rattle.tpol_digest.specs.WellFormed.{IsWellFormedDocument, IsWellFormedPolic
 use Rattle.tpol_name.specs.declared.setup.Setup.{Setup}
 use Rattle.tpol_prepare.specs.declared.documents.FilledDocument.{FilledDocument}
 use Rattle.tpol_prepare.specs.declared.entities.CompiledEntity.{CompiledEntity}
-use Rattle.tpol_top.specs.Generate.{generated_scenario}
+use Rattle.tpol_perform.specs.Generate.{generated_scenario}
 use Rattle.tpol_prepare.specs.Scenario.{IsScenarioOf, IsWalkable}
 use Rattle.tpol_tree.specs.Closed.{HasBranchCounts}
 use Rattle.tpol_tree.specs.declared.closed.Closed.{Closed}

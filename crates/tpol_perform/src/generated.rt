@@ -3,17 +3,17 @@
 ghost use Rattle.std.specs.Prelude.{◌≡◌, ◌+◌, ◌≤◌, [], IfOk};
 ghost use Rattle.tpol_base.specs.Digest.{zero_digest};
 ghost use Rattle.tpol_name.specs.Setups.{IsSetup};
-ghost use Rattle.tpol_top.specs.Generate.{before, generated_object, generated_or, generated_ors, generated_policy, generated_run, generated_seed, generated_setup, two_branches, zero_pcr, zero_pcrs};
+ghost use Rattle.tpol_perform.specs.Generate.{before, generated_object, generated_or, generated_ors, generated_policy, generated_run, generated_seed, generated_setup, two_branches, zero_pcr, zero_pcrs};
 ghost use Rattle.tpol_tree.specs.declared.policy.Element.TheVariants.{Or};
 ghost use Rattle.tpol_tree.specs.declared.policy.Elements.TheVariants.{End};
 ghost use Rattle.tpol_tree.specs.Elements.{EachElementWithin, HasBranchCount, HasBranchCounts};
 ghost use Rattle.tpol_tree.specs.Erased.{erased_element, erased_elements, erased_policy};
 
+use crate::new_run::NewRun;
 use std::alloc::Global;
 use tpol_base::{Blob, Digest32, Digests, NoMemory, Sequence, Text};
 use tpol_goal::{Goal, Grants};
 use tpol_name::{Indices, ObjectEntry, ObjectPublic, Objects, Scheme, Setup};
-use tpol_perform::NewRun;
 use tpol_tree::{ApprovalWishes, Branch, Branches, Element, Elements, PcrValues, PcrWish, Policy};
 
 /// The handle of the sealed object.

@@ -11,7 +11,7 @@ use Rattle.tpol_prepare.specs.declared.answer.Answer.{Answer}
 use Rattle.tpol_prepare.specs.declared.answer.Verdict.TheVariants.{Done}
 use Rattle.tpol_prepare.specs.declared.scenario.Scenario.{Scenario}
 use Rattle.tpol_perform.specs.Begin.{run_begun}
-use Rattle.tpol_top.specs.Generate.{generated_answer, generated_performance, generated_run, generated_scenario, generated_setup, last_two}
+use Rattle.tpol_perform.specs.Generate.{generated_answer, generated_performance, generated_run, generated_scenario, generated_setup, last_two}
 use Rattle.tpol_prepare.specs.Lines.{digest_line}
 use Rattle.tpol_perform.specs.Performance.{PerformanceState, start_of}
 use Rattle.tpol_prepare.specs.Scenario.{erased_scenario}
