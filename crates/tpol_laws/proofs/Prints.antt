@@ -166,7 +166,7 @@ module _ (P : List ℕ → Type 0) where
     each = is.each;
   }
 
--- lines of anything, but of ends of this run those that are not a number's alone
+-- P allows each line of a report, but for the ends of this run
 pub record Allows (P : List ℕ → Type 0) (number : ℕ) : Type 0 where
   pub command : (event client locality : ℕ) (buffer reply : List ℕ) (outcome : Outcome) → P (line_of (command_line event client locality buffer reply outcome))
   pub opening : (event : ℕ) (paths : List Path) (opening : Opening) → P (line_of (opening_line event paths opening))

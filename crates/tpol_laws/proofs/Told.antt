@@ -1,7 +1,8 @@
 -- What the report tells of a run of the script: that it is served exactly where it begins on a path.
-use Rattle.std.proofs.Common.{◌≡◌, ◌≤◌, ◌↔◌, ℕ, zero, suc, ◌+◌, ◌*◌, List, [], ◌∷◌, ◌++◌, All, Option, Some, None, length, replicate, refl, ap, sym, subst, ◌∙◌, append_assoc, append-nil}
+use Rattle.std.proofs.Common.{◌≡◌, ◌≤◌, ◌↔◌, ℕ, zero, suc, ◌+◌, ◌*◌, if◌then◌else◌, List, [], ◌∷◌, ◌++◌, All, Option, Some, None, length, replicate, refl, ap, sym, subst, ◌∙◌, append_assoc, append-nil, arith}
 use Rattle.std.specs.List.{AllByRecursion}
 use Rattle.std.specs.Prelude.{Contains, find}
+use Rattle.std.proofs.lemmas.Bool.{eq-eqb}
 use Rattle.std.proofs.lemmas.List.Elements.{All-append, All-contains, All-cons, All-nil, Contains-append_left, Contains-append_right}
 use Rattle.tpol_choose.specs.Blocks.{first_block}
 use Rattle.tpol_driver.specs.declared.end.End.{End}
@@ -18,11 +19,11 @@ use Rattle.tpol_prepare.specs.declared.scenario.StagedScene.{StagedScene}
 use Rattle.tpol_runs.specs.Courses.{next_of}
 use Rattle.tpol_runs.specs.Runs.{has_number, run_at, run_in}
 use Rattle.tpol_scene.specs.declared.script.ScriptEvent.{ScriptEvent}
-use Rattle.tpol_scene.specs.declared.script.ScriptEvent.TheVariants.{Begin}
+use Rattle.tpol_scene.specs.declared.script.ScriptEvent.TheVariants.{Begin, Turn}
 use Rattle.tpol_tree.specs.declared.path.Path.{Path}
 use Rattle.tpm_engine.specs.Sights.{sight_after}
 use Rattle.tpol_laws.specs.Acts.{begun}
-use Rattle.tpol_laws.specs.Told.{BeginsNowhere, BeginsOn, HasTurns, IsAlone, IsServedOn, IsStaged, IsToldServed, RunOf, before_begin, begins, behind_begin, behind_own, chosen_for, paths_for, sight_at_begin, turns_for, with_over}
+use Rattle.tpol_laws.specs.Told.{BeginsNowhere, BeginsOn, HasTurns, IsAlone, IsServedOn, IsStaged, IsToldServed, RunOf, before_begin, begins, behind_begin, behind_own, chosen_for, paths_for, sight_at_begin, turns_for, turns_given, with_over}
 use Rattle.tpol_laws.proofs.Begun.{along-state, begins-nowhere, begins-on, begun-along-is, begun-is, begun-run-is, front, none-before, run-along, setup-before, stands-in}
 use Rattle.tpol_laws.proofs.Followed.{Follows, allows-any, any, entry_at, own-follow}
 use Rattle.tpol_laws.proofs.Prints.{IsBehind, all-behind, all-spare, blocks-spare, found-begun}
@@ -39,6 +40,14 @@ all-append : (scenario : Scenario) (xs ys : List ScriptEvent) (p : PerformanceSt
 unfolding all_happened
 all-append scenario [] ys p = refl
 all-append scenario (x ∷ xs) ys p = all-append scenario xs ys (happened scenario x p)
+
+turns-to-end : (number : ℕ) (before after : List ScriptEvent) → 1028 ≤ turns_for number (before ++ Turn number None ∷ after)
+turns-to-end number [] after =
+    let here : turns_given number (Turn number None) ≡ 1028 = ap (λ b. if b then 1028 else 0) (eq-eqb number number refl) in
+    omega (arith, here)
+turns-to-end number (event ∷ before) after =
+    let later = turns-to-end number before after in
+    omega (arith, later)
 
 module _ (staged : StagedScene) (run : RunOf staged.script) where
   begin-first : (rest : List ScriptEvent) (p : PerformanceState) → all_happened staged.scenario (Begin run.number run.client run.locality run.policy run.place run.goal ∷ rest) p
@@ -155,6 +164,14 @@ module _ (staged : StagedScene) (run : RunOf staged.script) (is : IsStaged stage
   served-exactly alone turns =
       (λ told. on-path told (chosen_for staged run) refl,
       λ on. served-told on.0 on.1.path (served-on alone on.0 on.1 (turns on.0 on.1)))
+
+  -- ---- turns to its end
+
+  pub to-end-enough : (before after : List ScriptEvent) → run.own ≡ before ++ Turn run.number None ∷ after → HasTurns staged run
+  to-end-enough before after own position on =
+      let short : length on.path.moves ≤ 512 = (begun-run-is staged run is on.path _ on.listed).short in
+      let given : 1028 ≤ turns_for run.number run.own = subst (λ events. 1028 ≤ turns_for run.number events) (sym own) (turns-to-end run.number before after) in
+      omega (arith, short, given)
 
 -- ---- turns of a run that is over
 

@@ -1,6 +1,6 @@
 //! What the definitions promise together: functions without a body, whose clauses are the laws.
 
-ghost use Rattle.std.specs.Prelude.{◌≡◌, ◌≤◌, ◌<◌, ◌↔◌, ◌+◌, ◌*◌, ℕ, List, Option, None, Some, length, map, option_map, replicate, take, true};
+ghost use Rattle.std.specs.Prelude.{◌≡◌, ◌≤◌, ◌<◌, ◌↔◌, ◌+◌, ◌*◌, ◌++◌, ◌∷◌, ℕ, List, Option, None, Some, length, map, option_map, replicate, take, true};
 ghost use Rattle.std.specs.List.{Contains};
 ghost use Rattle.tpol_choose.specs.Blocks.{first_block};
 ghost use Rattle.tpol_digest.specs.Digest.{digest_of_moves, policy_digest};
@@ -17,6 +17,8 @@ ghost use Rattle.tpol_name.specs.Directories.{directory_of};
 ghost use Rattle.tpol_name.specs.Setups.{IsSetup};
 ghost use Rattle.tpol_tree.specs.declared.closed.Closed.{Closed};
 ghost use Rattle.tpol_tree.specs.declared.path.ApprovedDoc.{ApprovedDoc};
+ghost use Rattle.tpol_scene.specs.declared.script.ScriptEvent.{ScriptEvent};
+ghost use Rattle.tpol_scene.specs.declared.script.ScriptEvent.TheVariants as events;
 ghost use Rattle.tpm_engine.specs.declared.event.Event.{Event as EventOf};
 ghost use Rattle.tpm_engine.specs.Sights.{sight_after};
 ghost use Rattle.tpm_engine.specs.Views.{facts_of};
@@ -91,7 +93,8 @@ pub fn session_digest_is_compiled()
 /// What the report of a scene tells of a run of its script. The run begins on the first path of its policy that
 /// nothing blocks, whose line is printed, or on none: then what blocks each path is printed, in their order. Where
 /// only the run's own turns make events behind its begin, and they are enough, the report tells that the run is
-/// served exactly where it begins on a path. A run that begins on none is over, and its turns print that.
+/// served exactly where it begins on a path; those to its end are enough. A run that begins on none is over, and its
+/// turns print that.
 pub fn runs_are_served_as_told()
     ensures begins_on { (staged : StagedScene) (run : RunOf staged.script) (position : ℕ)
         → IsStaged staged → chosen_for staged run ≡ Some position → BeginsOn staged run position }
@@ -101,6 +104,8 @@ pub fn runs_are_served_as_told()
         → IsStaged staged → IsAlone staged.scenario run.number run.own (behind_begin staged run)
         → (on : BeginsOn staged run position) → 2 * length on.path.moves + 2 ≤ turns_for run.number run.own
         → IsServedOn staged run position on.path }
+    ensures to_end { (staged : StagedScene) (run : RunOf staged.script) (before after : List ScriptEvent)
+        → IsStaged staged → run.own ≡ before ++ events.Turn run.number None ∷ after → HasTurns staged run }
     ensures exactly { (staged : StagedScene) (run : RunOf staged.script)
         → IsStaged staged → IsAlone staged.scenario run.number run.own (behind_begin staged run) → HasTurns staged run
         → IsToldServed run.number (performed staged).lines ↔ ((position : ℕ) × BeginsOn staged run position) }
