@@ -89,9 +89,10 @@ module _ (objects indices clients : List ℕ) where
   events-behind : (runs : List ℕ) (number : ℕ) (events : List ScriptEvent) → AreEventsBehind objects indices clients runs events → AreSmall runs → Contains runs number → AllByRecursion (IsBehind number) events
   unfolding AreEventsBehind
   events-behind runs number [] are small there = tt
-  events-behind runs number (event ∷ rest) are small there =
-      (event-behind runs number event are.0 small there,
-      events-behind (runs ++ begun_run event) number rest are.1 (small-more runs event are.0 small) (Contains-append_left runs (begun_run event) number there))
+  events-behind runs number (event ∷ rest) are small there = (
+    event-behind runs number event are.0 small there,
+    events-behind (runs ++ begun_run event) number rest are.1 (small-more runs event are.0 small) (Contains-append_left runs (begun_run event) number there),
+  )
 
   -- a run begins behind these events, and the rest follows
   pub record BegunBehind (number client locality : ℕ) (goal : Goal) (runs : List ℕ) (before rest : List ScriptEvent) : Type 0 where

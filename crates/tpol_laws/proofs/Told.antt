@@ -114,9 +114,11 @@ module _ (staged : StagedScene) (run : RunOf staged.script) (is : IsStaged stage
       let own : Contains (behind_own staged run).lines line =
       subst (λ lines. Contains lines line) (sym on.printed)
       (Contains-append_right (before_begin staged run).lines (line_of (chosen_line run.number position path.steps) ∷ on.added) line
-      (Contains-append_right (line_of (chosen_line run.number position path.steps) ∷ []) on.added line on.served)) in
-      (on.bytes, subst (λ lines. Contains lines line) (sym (ap (λ (p : PerformanceState). p.lines) (performed-behind staged run) ∙ later.lines))
-      (Contains-append_left (behind_own staged run).lines later.added line own))
+      (Contains-append_right (line_of (chosen_line run.number position path.steps) ∷ []) on.added line on.served)) in (
+        on.bytes,
+        subst (λ lines. Contains lines line) (sym (ap (λ (p : PerformanceState). p.lines) (performed-behind staged run) ∙ later.lines))
+            (Contains-append_left (behind_own staged run).lines later.added line own),
+      )
 
   -- ---- a run that begins on no path
 
@@ -161,9 +163,10 @@ module _ (staged : StagedScene) (run : RunOf staged.script) (is : IsStaged stage
 
   pub served-exactly : IsAlone staged.scenario run.number run.own (behind_begin staged run) → HasTurns staged run
       → IsToldServed run.number (performed staged).lines ↔ ((position : ℕ) × BeginsOn staged run position)
-  served-exactly alone turns =
-      (λ told. on-path told (chosen_for staged run) refl,
-      λ on. served-told on.0 on.1.path (served-on alone on.0 on.1 (turns on.0 on.1)))
+  served-exactly alone turns = (
+    λ told. on-path told (chosen_for staged run) refl,
+    λ on. served-told on.0 on.1.path (served-on alone on.0 on.1 (turns on.0 on.1)),
+  )
 
   -- ---- turns to its end
 

@@ -91,8 +91,8 @@ digits-apart : (number event : ℕ) (rest : List ℕ) → IsUnserved number (lin
 digits-apart number event rest =
     subst (IsUnserved number) (sym (append_assoc (decimal event) (32 ∷ rest) (10 ∷ [])))
     (starts-apart number (decimal event ++ 32 ∷ (rest ++ 10 ∷ [])) (λ same.
-        let low = digits-first (decimal event) (rest ++ 10 ∷ []) (decimal-digits event) in
-        absurd (omega (arith, low, same))))
+    let low = digits-first (decimal event) (rest ++ 10 ∷ []) (decimal-digits event) in
+    absurd (omega (arith, low, same))))
 
 -- a line of a run with another word
 word-apart : (number run : ℕ) (text : List ℕ) → (first_of (text ++ 10 ∷ []) ≡ 115 → ⊥) → IsUnserved number (line_of (run_text run text))
