@@ -2,6 +2,7 @@ mod After
 mod Alike
 mod Answered
 mod Approved
+mod Begun
 mod Binds
 mod Blocked
 mod BlockedGoal
@@ -15,6 +16,7 @@ mod Complete
 mod Ends
 mod Finds
 mod Fit
+mod Followed
 mod Goal
 mod GoalAt
 mod GoalChecks
@@ -30,10 +32,13 @@ mod Moved
 mod Named
 mod Own
 mod Passing
+mod Prints
 mod SameKeys
 mod Seen
 mod Served
 mod Standing
 mod Starts
 mod Step
+mod Told
+mod Unlike
 mod Unstopped

@@ -2,3 +2,4 @@ pub mod Acts
 pub mod Chances
 pub mod Others
 pub mod Runs
+pub mod Told

@@ -1,6 +1,6 @@
 //! What the definitions promise together: functions without a body, whose clauses are the laws.
 
-ghost use Rattle.std.specs.Prelude.{◌≡◌, ◌≤◌, ◌<◌, ◌+◌, ◌*◌, ℕ, List, None, Some, length, map, option_map, replicate, take, true};
+ghost use Rattle.std.specs.Prelude.{◌≡◌, ◌≤◌, ◌<◌, ◌↔◌, ◌+◌, ◌*◌, ◌++◌, ◌∷◌, ℕ, List, Option, None, Some, length, map, option_map, replicate, take, true};
 ghost use Rattle.std.specs.List.{Contains};
 ghost use Rattle.tpol_choose.specs.declared.block.Block.{Block};
 ghost use Rattle.tpol_choose.specs.Blocks.{first_block};
@@ -18,6 +18,8 @@ ghost use Rattle.tpol_name.specs.Directories.{directory_of};
 ghost use Rattle.tpol_name.specs.Setups.{IsSetup};
 ghost use Rattle.tpol_tree.specs.declared.closed.Closed.{Closed};
 ghost use Rattle.tpol_tree.specs.declared.path.ApprovedDoc.{ApprovedDoc};
+ghost use Rattle.tpol_scene.specs.declared.script.ScriptEvent.{ScriptEvent};
+ghost use Rattle.tpol_scene.specs.declared.script.ScriptEvent.TheVariants as events;
 ghost use Rattle.tpm_engine.specs.declared.event.Event.{Event as EventOf};
 ghost use Rattle.tpm_engine.specs.Sights.{sight_after};
 ghost use Rattle.tpm_engine.specs.Views.{facts_of};
@@ -25,6 +27,12 @@ ghost use Rattle.tpol_laws.specs.Acts.{Act, Run, Turn, after_act, after_acts, be
 ghost use Rattle.tpol_laws.specs.Chances.{IsByChance};
 ghost use Rattle.tpol_laws.specs.Others.{AreOthersApart, AreSecretsOnWritten, HasGoneOn, place_of};
 ghost use Rattle.tpol_laws.specs.Runs.{HasShortOffset, IsBegun, IsRun};
+ghost use Rattle.tpol_laws.specs.Told.{BeginsNowhere, BeginsOn, HasTurns, IsAlone, IsServedOn, IsStaged, IsToldServed, RunOf, behind_begin, behind_own, chosen_for, turns_for, with_over};
+ghost use Rattle.tpol_perform.specs.Performance.{PerformanceState};
+ghost use Rattle.tpol_perform.specs.Script.{performed, turn_told};
+ghost use Rattle.tpol_prepare.specs.declared.scenario.Scenario.{Scenario};
+ghost use Rattle.tpol_prepare.specs.declared.scenario.StagedScene.{StagedScene};
+ghost use Rattle.tpol_runs.specs.Runs.{run_at};
 
 /// A path that nothing stops on the machine as it is now is one whose commands can all be made: it is not outside,
 /// each Name on it is in the directory with its kind, and each key that signs is granted.
@@ -100,4 +108,29 @@ pub fn session_digest_is_compiled()
         → IsRun run → Contains (paths_of policy approvals) run.plan.path → AreOthersApart run acts (begun past) → AreSecretsOnWritten run acts (begun past)
         → place_of (after_acts run acts (begun past)).standing ≡ Some (session, length run.plan.path.moves)
         → digest_of_moves (moves_of_facts (facts_of run.setup (after_acts run acts (begun past)).past session)) ≡ policy_digest policy }
+{}
+
+/// What the report of a scene tells of a run of its script. The run begins on the first path of its policy that
+/// nothing blocks, whose line is printed, or on none: then what blocks each path is printed, in their order. Where
+/// only the run's own turns make events behind its begin, and they are enough, the report tells that the run is
+/// served exactly where it begins on a path; those to its end are enough. A run that begins on none is over, and its
+/// turns print that.
+pub fn runs_are_served_as_told()
+    ensures begins_on { (staged : StagedScene) (run : RunOf staged.script) (position : ℕ)
+        → IsStaged staged → chosen_for staged run ≡ Some position → BeginsOn staged run position }
+    ensures begins_nowhere { (staged : StagedScene) (run : RunOf staged.script)
+        → IsStaged staged → chosen_for staged run ≡ None → BeginsNowhere staged run }
+    ensures served_on { (staged : StagedScene) (run : RunOf staged.script) (position : ℕ)
+        → IsStaged staged → IsAlone staged.scenario run.number run.own (behind_begin staged run)
+        → (on : BeginsOn staged run position) → 2 * length on.path.moves + 2 ≤ turns_for run.number run.own
+        → IsServedOn staged run position on.path }
+    ensures to_end { (staged : StagedScene) (run : RunOf staged.script) (before after : List ScriptEvent)
+        → IsStaged staged → run.own ≡ before ++ events.Turn run.number None ∷ after → HasTurns staged run }
+    ensures exactly { (staged : StagedScene) (run : RunOf staged.script)
+        → IsStaged staged → IsAlone staged.scenario run.number run.own (behind_begin staged run) → HasTurns staged run
+        → IsToldServed run.number (performed staged).lines ↔ ((position : ℕ) × BeginsOn staged run position) }
+    ensures stays_over { (staged : StagedScene) (run : RunOf staged.script)
+        → IsStaged staged → BeginsNowhere staged run → run_at (behind_own staged run).runs run.number ≡ None }
+    ensures tells_over { (scenario : Scenario) (number : ℕ) (times : Option ℕ) (p : PerformanceState)
+        → run_at p.runs number ≡ None → turn_told scenario number times p ≡ with_over number times p }
 {}

@@ -42,6 +42,16 @@
 //!   Without it the law is false: PolicySecret hashes the Name that the index has now, and a policy names the
 //!   index once it is written.
 //!
+//! `runs_are_served_as_told`, whose lines are those of `performed` of tpol_perform, which `perform` ensures
+//! - `IsStaged.setup`, `IsStaged.scenario`: the clauses `setup` and `scenario` of `stage`.
+//! - `IsStaged.directory`: its clause `answer`, by which the scenario has the directory of the setup.
+//! - `IsStaged.begun`: the clause `begun` of `prepare`. `IsStaged.approvals`: the clause `bounded` of
+//!   `Store::approvals`.
+//! - `IsStaged.grants`, `IsStaged.script`: the clauses `clients` and `script` of `read_scene`. The setup that is
+//!   filled has the scene's handles, by the clause `answer` of `stage`.
+//! - `IsAlone`: only the run's own turns make events behind its begin, up to where it is looked at.
+//! - `HasTurns`: these turns are enough for the path that the run begins on.
+//!
 //! That the commands of the run succeed is no premise of the second: a run stands on its path as long as they
 //! do, which is the first.
 #![tactic(auto)]
@@ -50,5 +60,5 @@ mod laws;
 
 pub use laws::{
     a_blocked_path_fails, a_path_that_can_is_complete, a_path_that_can_is_served, a_run_ends,
-    a_run_goes_on, session_digest_is_compiled,
+    a_run_goes_on, runs_are_served_as_told, session_digest_is_compiled,
 };

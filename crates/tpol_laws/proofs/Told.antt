@@ -1,0 +1,193 @@
+-- What the report tells of a run of the script: that it is served exactly where it begins on a path.
+use Rattle.std.proofs.Common.{◌≡◌, ◌≤◌, ◌↔◌, ℕ, zero, suc, ◌+◌, ◌*◌, if◌then◌else◌, List, [], ◌∷◌, ◌++◌, All, Option, Some, None, length, replicate, refl, ap, sym, subst, ◌∙◌, append_assoc, append-nil, arith}
+use Rattle.std.specs.List.{AllByRecursion}
+use Rattle.std.specs.Prelude.{Contains, find}
+use Rattle.std.proofs.lemmas.Bool.{eq-eqb}
+use Rattle.std.proofs.lemmas.List.Elements.{All-append, All-contains, All-cons, All-nil, Contains-append_left, Contains-append_right}
+use Rattle.tpol_choose.specs.Blocks.{first_block}
+use Rattle.tpol_driver.specs.declared.end.End.{End}
+use Rattle.tpol_driver.specs.declared.end.End.TheVariants.{Served}
+use Rattle.tpol_driver.specs.Driving.{Over, Standing, Starting}
+use Rattle.tpol_lines.specs.Lines.{line_of}
+use Rattle.tpol_lines.specs.Runs.{chosen_line, end_line, nobranch_line, over_line}
+use Rattle.tpol_perform.specs.Begin.{begun_nowhere, with_new_run}
+use Rattle.tpol_perform.specs.Performance.{PerformanceState, start_of, with_line}
+use Rattle.tpol_perform.specs.Script.{all_happened, happened, performed, turn_told}
+use Rattle.tpol_perform.specs.Turns.{turned, turned_by, turned_times, turned_to_end, turned_to_end_by}
+use Rattle.tpol_prepare.specs.declared.scenario.Scenario.{Scenario}
+use Rattle.tpol_prepare.specs.declared.scenario.StagedScene.{StagedScene}
+use Rattle.tpol_runs.specs.Courses.{next_of}
+use Rattle.tpol_runs.specs.Runs.{has_number, run_at, run_in}
+use Rattle.tpol_scene.specs.declared.script.ScriptEvent.{ScriptEvent}
+use Rattle.tpol_scene.specs.declared.script.ScriptEvent.TheVariants.{Begin, Turn}
+use Rattle.tpol_tree.specs.declared.path.Path.{Path}
+use Rattle.tpm_engine.specs.Sights.{sight_after}
+use Rattle.tpol_laws.specs.Acts.{begun}
+use Rattle.tpol_laws.specs.Told.{BeginsNowhere, BeginsOn, HasTurns, IsAlone, IsServedOn, IsStaged, IsToldServed, RunOf, before_begin, begins, behind_begin, behind_own, chosen_for, paths_for, sight_at_begin, turns_for, turns_given, with_over}
+use Rattle.tpol_laws.proofs.Begun.{along-state, begins-nowhere, begins-on, begun-along-is, begun-is, begun-run-is, front, none-before, run-along, setup-before, stands-in}
+use Rattle.tpol_laws.proofs.Followed.{Follows, allows-any, any, entry_at, own-follow}
+use Rattle.tpol_laws.proofs.Prints.{IsBehind, all-behind, all-spare, blocks-spare, found-begun}
+use Rattle.tpol_laws.proofs.Served.{path-served}
+use Rattle.tpol_laws.proofs.Unlike.{IsUnserved, allows-unserved}
+
+-- ---- events in two parts
+
+pub back : {A : Type 0} (P : A → Type 0) (xs ys : List A) → AllByRecursion P (xs ++ ys) → AllByRecursion P ys
+back P [] ys all = all
+back P (x ∷ xs) ys all = back P xs ys all.1
+
+all-append : (scenario : Scenario) (xs ys : List ScriptEvent) (p : PerformanceState) → all_happened scenario (xs ++ ys) p ≡ all_happened scenario ys (all_happened scenario xs p)
+unfolding all_happened
+all-append scenario [] ys p = refl
+all-append scenario (x ∷ xs) ys p = all-append scenario xs ys (happened scenario x p)
+
+turns-to-end : (number : ℕ) (before after : List ScriptEvent) → 1028 ≤ turns_for number (before ++ Turn number None ∷ after)
+turns-to-end number [] after =
+    let here : turns_given number (Turn number None) ≡ 1028 = ap (λ b. if b then 1028 else 0) (eq-eqb number number refl) in
+    omega (arith, here)
+turns-to-end number (event ∷ before) after =
+    let later = turns-to-end number before after in
+    omega (arith, later)
+
+module _ (staged : StagedScene) (run : RunOf staged.script) where
+  begin-first : (rest : List ScriptEvent) (p : PerformanceState) → all_happened staged.scenario (Begin run.number run.client run.locality run.policy run.place run.goal ∷ rest) p
+      ≡ all_happened staged.scenario rest (happened staged.scenario (Begin run.number run.client run.locality run.policy run.place run.goal) p)
+  unfolding all_happened
+  begin-first rest p = refl
+
+  -- the report of the whole script
+  performed-is : performed staged ≡ all_happened staged.scenario (run.own ++ run.after) (behind_begin staged run)
+  unfolding performed
+  performed-is =
+      let event = Begin run.number run.client run.locality run.policy run.place run.goal in
+      ap (λ script. all_happened staged.scenario script (start_of staged.setup)) run.is
+      ∙ all-append staged.scenario run.before (event ∷ (run.own ++ run.after)) (start_of staged.setup)
+      ∙ begin-first (run.own ++ run.after) (before_begin staged run)
+
+  performed-behind : performed staged ≡ all_happened staged.scenario run.after (behind_own staged run)
+  performed-behind = performed-is ∙ all-append staged.scenario run.own run.after (behind_begin staged run)
+
+-- ---- a run that begins on a path
+
+module _ (staged : StagedScene) (run : RunOf staged.script) (is : IsStaged staged) where
+  follows-begin : (position : ℕ) (path : Path) → chosen_for staged run ≡ Some position → behind_begin staged run ≡ along-state staged run is position path
+      → Follows (run-along staged run is path) run.number (behind_begin staged run) (behind_begin staged run) (begun (before_begin staged run).past)
+  follows-begin position path chosen same = record {
+    setup = ap (λ (p : PerformanceState). p.setup) same ∙ setup-before staged run is;
+    past = ap (λ (p : PerformanceState). p.past) same;
+    found = ap (λ (p : PerformanceState). find (has_number run.number) p.runs) same ∙ found-begun (before_begin staged run).runs run.number _ (none-before staged run is);
+    added = [];
+    lines = sym (append-nil (behind_begin staged run).lines);
+    told = λ end over. absurd (not-over end over);
+  }
+    where
+      not-over : (end : End) → Starting ≡ Over end → ⊥
+      not-over end over = cc
+
+  over-none : (path : Path) (at : Standing) (bytes : List ℕ) → at ≡ Over (Served bytes) → run_in (Some (entry_at (run-along staged run is path) run.number at)) ≡ None
+  over-none path at bytes over = ap (λ s. run_in (Some (entry_at (run-along staged run is path) run.number s))) over
+
+  pub served-on : IsAlone staged.scenario run.number run.own (behind_begin staged run) → (position : ℕ) (on : BeginsOn staged run position)
+      → 2 * length on.path.moves + 2 ≤ turns_for run.number run.own → IsServedOn staged run position on.path
+  served-on alone position on enough =
+      let among = run-along staged run is on.path in
+      let past = (before_begin staged run).past in
+      let same = begun-along-is staged run is position on.path on.chosen on.listed in
+      let behind = front (IsBehind run.number) run.own run.after (stands-in staged run is).behind in
+      let follows = own-follow among run.number staged.scenario (behind_begin staged run) run.own behind (behind_begin staged run) (begun past) alone (follows-begin position on.path on.chosen same) in
+      let opens = subst (λ setup. first_block on.path (sight_after setup past) (begins staged run).grants run.goal run.locality ≡ None) (setup-before staged run is) on.opens in
+      let served = path-served among past (turns_for run.number run.own) (begun-run-is staged run is on.path _ on.listed) opens enough in
+      record {
+        bytes = served.bytes;
+        added = follows.added;
+        printed = follows.lines ∙ ap (λ l. l ++ follows.added) on.printed ∙ append_assoc (before_begin staged run).lines (line_of (chosen_line run.number position on.path.steps) ∷ []) follows.added;
+        served = follows.told (Served served.bytes) served.is;
+        over = ap run_in follows.found ∙ over-none on.path _ served.bytes served.is;
+      }
+
+  -- the report has what is told behind the begin
+  served-told : (position : ℕ) (path : Path) → IsServedOn staged run position path → IsToldServed run.number (performed staged).lines
+  served-told position path on =
+      let line = line_of (end_line run.number (Served on.bytes)) in
+      let behind = back (IsBehind run.number) run.own run.after (stands-in staged run is).behind in
+      let later = all-behind any run.number (allows-any run.number) staged.scenario run.after behind (behind_own staged run) on.over in
+      let own : Contains (behind_own staged run).lines line =
+      subst (λ lines. Contains lines line) (sym on.printed)
+      (Contains-append_right (before_begin staged run).lines (line_of (chosen_line run.number position path.steps) ∷ on.added) line
+      (Contains-append_right (line_of (chosen_line run.number position path.steps) ∷ []) on.added line on.served)) in (
+        on.bytes,
+        subst (λ lines. Contains lines line) (sym (ap (λ (p : PerformanceState). p.lines) (performed-behind staged run) ∙ later.lines))
+            (Contains-append_left (behind_own staged run).lines later.added line own),
+      )
+
+  -- ---- a run that begins on no path
+
+  pub stays-over : BeginsNowhere staged run → run_at (behind_own staged run).runs run.number ≡ None
+  stays-over nowhere =
+      let behind = front (IsBehind run.number) run.own run.after (stands-in staged run is).behind in
+      let spares = all-behind any run.number (allows-any run.number) staged.scenario run.own behind (behind_begin staged run) nowhere.over in
+      ap run_in spares.found ∙ nowhere.over
+
+  none-told : All (IsUnserved run.number) (before_begin staged run).lines
+  none-told =
+      let spares = all-spare (IsUnserved run.number) run.number (allows-unserved run.number (stands-in staged run is).begins.greatest) staged.scenario run.before (stands-in staged run is).others (start_of staged.setup) in
+      subst (All (IsUnserved run.number)) (sym spares.lines) spares.each
+
+  none-at-begin : chosen_for staged run ≡ None → All (IsUnserved run.number) (behind_begin staged run).lines
+  unfolding begun_nowhere
+  none-at-begin chosen =
+      let allows = allows-unserved run.number (stands-in staged run is).begins.greatest in
+      let p = with_new_run run.number None (before_begin staged run) in
+      let spares = blocks-spare (IsUnserved run.number) run.number allows staged.scenario (sight_at_begin staged run) (begins staged run) 1 (paths_for staged run) (with_line (nobranch_line run.number) p) in
+      subst (All (IsUnserved run.number)) (sym (ap (λ (q : PerformanceState). q.lines) (begun-is staged run is None chosen) ∙ spares.lines))
+      (All-append (IsUnserved run.number) ((before_begin staged run).lines ++ line_of (nobranch_line run.number) ∷ []) spares.added
+      (All-append (IsUnserved run.number) (before_begin staged run).lines (line_of (nobranch_line run.number) ∷ []) none-told
+      (All-cons (IsUnserved run.number) (line_of (nobranch_line run.number)) [] (allows.nobranch run.number) (All-nil (IsUnserved run.number)))) spares.each)
+
+  never-told : chosen_for staged run ≡ None → IsToldServed run.number (performed staged).lines → ⊥
+  never-told chosen told =
+      let allows = allows-unserved run.number (stands-in staged run is).begins.greatest in
+      let nowhere = begins-nowhere staged run is chosen in
+      let spares = all-behind (IsUnserved run.number) run.number allows staged.scenario (run.own ++ run.after) (stands-in staged run is).behind (behind_begin staged run) nowhere.over in
+      let line = line_of (end_line run.number (Served told.0)) in
+      let all : All (IsUnserved run.number) (performed staged).lines =
+      subst (All (IsUnserved run.number)) (sym (ap (λ (p : PerformanceState). p.lines) (performed-is staged run) ∙ spares.lines))
+      (All-append (IsUnserved run.number) (behind_begin staged run).lines spares.added (none-at-begin chosen) spares.each) in
+      All-contains (IsUnserved run.number) (performed staged).lines line all told.1 told.0 refl
+
+  -- ---- exactly
+
+  on-path : IsToldServed run.number (performed staged).lines → (chosen : Option ℕ) → chosen_for staged run ≡ chosen → (position : ℕ) × BeginsOn staged run position
+  on-path told None chosen = absurd (never-told chosen told)
+  on-path told (Some position) chosen = (position, begins-on staged run is position chosen)
+
+  pub served-exactly : IsAlone staged.scenario run.number run.own (behind_begin staged run) → HasTurns staged run
+      → IsToldServed run.number (performed staged).lines ↔ ((position : ℕ) × BeginsOn staged run position)
+  served-exactly alone turns = (
+    λ told. on-path told (chosen_for staged run) refl,
+    λ on. served-told on.0 on.1.path (served-on alone on.0 on.1 (turns on.0 on.1)),
+  )
+
+  -- ---- turns to its end
+
+  pub to-end-enough : (before after : List ScriptEvent) → run.own ≡ before ++ Turn run.number None ∷ after → HasTurns staged run
+  to-end-enough before after own position on =
+      let short : length on.path.moves ≤ 512 = (begun-run-is staged run is on.path _ on.listed).short in
+      let given : 1028 ≤ turns_for run.number run.own = subst (λ events. 1028 ≤ turns_for run.number events) (sym own) (turns-to-end run.number before after) in
+      omega (arith, short, given)
+
+-- ---- turns of a run that is over
+
+over-times : (scenario : Scenario) (number n : ℕ) (p : PerformanceState) → run_at p.runs number ≡ None → turned_times scenario number n p ≡ record p { lines = p.lines ++ replicate n (line_of (over_line number)) }
+unfolding turned_times turned
+over-times scenario number zero p over = ap (λ lines. record p { lines = lines }) (sym (append-nil p.lines))
+over-times scenario number (suc n) p over =
+    let line = line_of (over_line number) in
+    ap (λ next. turned_times scenario number n (turned_by scenario number next p)) (ap next_of over)
+    ∙ over-times scenario number n (with_line (over_line number) p) over
+    ∙ ap (λ lines. record p { lines = lines }) (append_assoc p.lines (line ∷ []) (replicate n line))
+
+pub over-turns : (scenario : Scenario) (number : ℕ) (times : Option ℕ) (p : PerformanceState) → run_at p.runs number ≡ None → turn_told scenario number times p ≡ with_over number times p
+unfolding turned_to_end
+over-turns scenario number None p over = ap (λ next. turned_to_end_by scenario number next p) (ap next_of over)
+over-turns scenario number (Some n) p over = over-times scenario number n p over
