@@ -60,7 +60,7 @@ name_hash_in (NameHash digest) = Some digest
 name_hash_in (Duplication object parent true) = Some (hash_of_names object parent)
 name_hash_in _ = None
 
--- the digest of a PolicyDuplicationSelect that leaves the object open
+-- the digest of a PolicyDuplicationSelect whose policy digest leaves out the object's Name
 abbrev pub parent_hash_in : Assertion → Option Digest32
 parent_hash_in (Duplication object parent false) = Some (hash_of_names object parent)
 parent_hash_in _ = None

@@ -56,7 +56,7 @@ pub fn name_hash(act: &Move) -> Option<Digest32>
     }
 }
 
-// The digest of a PolicyDuplicationSelect that leaves the object open.
+// The digest of a PolicyDuplicationSelect whose policy digest leaves out the object's Name.
 pub fn parent_hash(act: &Move) -> Option<Digest32>
     ensures { result ≡ spec.in_assertion spec.parent_hash_in act.now }
 {

@@ -11,8 +11,8 @@ use tpm_session::Session;
 use tpol_base::{Name, Rc};
 use tpol_tree::Assertion;
 
-/// Lets the session authorize Duplicate to this new parent alone; `include` says whether the object's Name is
-/// part of the policy's digest. Answers TPM_RC_CPHASH where the slot is set, and TPM_RC_COMMAND_CODE where a
+/// Ties the session to Duplicate of this object to this new parent; `include` says whether the object's Name is
+/// part of the policy's digest too. Answers TPM_RC_CPHASH where the slot is set, and TPM_RC_COMMAND_CODE where a
 /// command code is.
 pub fn assert_duplication(
     session: &mut Session,

@@ -29,7 +29,8 @@ abbrev pub session_digest : SessionState → Digest32
 session_digest state = digest_of_moves (moves_of state.facts)
 
 -- what holds of every session: each OR and approval among its facts met the digest before it, its facts
--- agree, the counter is there exactly where a PolicyPCR is, and every deadline stays below 2 ^ 64
+-- agree, the counter is there exactly where a PolicyPCR is, and it started at a time up to 2 ^ 63, so that every
+-- deadline stays below 2 ^ 64
 pub record IsSession (state : SessionState) : Type 0 where
   pub sound : IsSound (moves_of state.facts)
   pub agree : Agree (moves_of state.facts)

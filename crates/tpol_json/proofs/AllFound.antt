@@ -1,11 +1,8 @@
 -- What holds of all that a reading may find.
-use Rattle.std.proofs.Common.{◌≡◌, List, [], ◌∷◌, Option, Some, None, Ok, Err, Bool, true, false, refl, if◌then◌else◌}
-use Rattle.std.specs.Bool.{⊤}
+use Rattle.std.proofs.Common.{◌≡◌, Option, Some, None, Ok, Err, Bool, true, false, refl, if◌then◌else◌}
 use Rattle.serde_json.specs.Data.{Data}
-use Rattle.serde_json.specs.Find.{get}
 use Rattle.tpol_base.specs.Answers.{◌>>=◌}
-use Rattle.tpol_json.specs.Places.{at_member}
-use Rattle.tpol_json.specs.Members.{Way, alone, first_way, names_of, read_needed, read_optional, read_way, without}
+use Rattle.tpol_json.specs.Members.{read_needed, read_optional}
 use Rattle.tpol_json.specs.Reading.{ReadAs, read_as}
 use Rattle.tpol_json.specs.declared.place.Place.{Place}
 
@@ -46,24 +43,3 @@ module _ {K A : Type 0} where
 pub all_read : {K L A : Type 0} (P : A → Type 0) (kind_of : K → L) (found : ReadAs K A) → AllFound P found → AllFound P (read_as kind_of found)
 all_read P kind_of (Ok x) all = all
 all_read P kind_of (Err fault) all = tt {0}
-
--- each way to read a member finds only what is so
-abbrev pub AllWays : {K A : Type 0} → (A → Type 0) → List (Way A K) → Type 0
-AllWays P [] = Unit {0}
-AllWays P (way ∷ ways) = ((d : Data) (place : Place) → AllFound P (way.1 d place)) × AllWays P ways
-
-module _ {K A : Type 0} where
-  all_alone : (P : A → Type 0) (found : ReadAs K A) (others : ReadAs K ⊤) → AllFound P found → AllFound P (alone found others)
-  all_alone P (Ok x) (Ok y) all = all
-  all_alone P (Ok x) (Err fault) all = tt {0}
-  all_alone P (Err fault) others all = tt {0}
-
-  all_way : (P : A → Type 0) (there : Option Data) (place : Place) (read : Data → Place → ReadAs K A) (others : ReadAs K ⊤) (later : ReadAs K A) → ((d : Data) (at : Place) → AllFound P (read d at)) → AllFound P later → AllFound P (read_way there place read others later)
-  all_way P None place read others later all rest = rest
-  all_way P (Some d) place read others later all rest = all_alone P (read d place) others (all d place)
-
-  pub all_ways : (P : A → Type 0) (twice : K) (ways : List (Way A K)) (missing : K × Place) (d : Data) (place : Place) → AllWays P ways → AllFound P (first_way twice ways missing d place)
-  all_ways P twice [] missing d place all = tt {0}
-  all_ways P twice (way ∷ ways) missing d place all =
-      all_way P (get way.0 d) (at_member place way.0) way.1 (without twice (names_of ways) d place) (first_way twice ways missing d place) all.0
-      (all_ways P twice ways missing d place all.1)

@@ -3,15 +3,15 @@ use Rattle.std.proofs.Common.{◌≡◌, [], ◌∷◌, codes, true, false, Ok, 
 use Rattle.std.specs.Fmt.{digits}
 use Rattle.hex.proofs.OnLiterals.{hex_on_literals}
 use Rattle.json.specs.Print.{escape_byte}
-use Rattle.serde_json.specs.Data.{Data, boolean, number, unsigned, string, array, item, no_items, object, member, no_members, null}
+use Rattle.serde_json.specs.Data.{Data, number, unsigned, string, array, item, no_items, object, member, no_members, null}
 use Rattle.tpol_json.specs.Bytes.{bytes_from, bytes_in}
-use Rattle.tpol_json.specs.Members.{needed, one_of, optional}
+use Rattle.tpol_json.specs.Members.{needed, optional}
 use Rattle.tpol_json.specs.Numbers.{number_in}
 use Rattle.tpol_json.specs.Places.{root, at_item, at_member}
 use Rattle.tpol_json.specs.PlaceText.{steps_text, text_of_place}
 use Rattle.tpol_json.specs.Reading.{bad}
 use Rattle.tpol_json.specs.Truth.{truth_in}
-use Rattle.tpol_json.specs.Values.{digest_in, text_in, truth_in as any_truth}
+use Rattle.tpol_json.specs.Values.{digest_in, text_in}
 use Rattle.tpol_json.specs.Words.{same_word}
 use Rattle.tpol_json.specs.declared.fault.JsonKind.TheVariants.{WrongKind, BadHex, BadNumber}
 use Rattle.tpol_json.specs.declared.fault.MemberKind.TheVariants as kinds
@@ -103,11 +103,3 @@ null_is_there = refl
 missing_key : needed kinds.Missing digest_in (codes "digest") null_name root ≡ bad kinds.Missing (at_member root (codes "digest"))
 unfolding null_name
 missing_key = refl
-
-two_names : Data
-two_names = object (member (codes "name") (boolean true) (member (codes "path") null no_members))
-
--- the first of two members is read whole, and then the second comes twice
-second_of_one : one_of kinds.Missing kinds.Twice (codes "name") any_truth ((codes "path", any_truth) ∷ []) two_names root ≡ bad kinds.Twice (at_member root (codes "path"))
-unfolding two_names
-second_of_one = refl

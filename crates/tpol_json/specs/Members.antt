@@ -1,6 +1,6 @@
 -- Reading the members of an object, and the items of a list. Each crate has kinds of faults of its own, so where
 -- a fault may come, its kind is given.
-use Rattle.std.specs.Prelude.{◌≡◌, ℕ, suc, nat_lt, List, [], ◌∷◌, Option, Some, None, is_some, unwrap_or, Result, Ok, Err, Bool, false, ◌||◌, if◌then◌else◌, ⊤}
+use Rattle.std.specs.Prelude.{◌≡◌, ℕ, suc, nat_lt, List, [], ◌∷◌, Option, Some, None, is_some, unwrap_or, Ok, Bool, false, ◌||◌, if◌then◌else◌, ⊤}
 use Rattle.std.specs.Str.{bytes_eq}
 use Rattle.serde_json.specs.Data.{Data, Items, no_items, item, Members, no_members, member}
 use Rattle.serde_json.specs.Find.{get, as_object}
@@ -29,40 +29,11 @@ module _ {A K : Type 0} where
   abbrev pub optional : (Data → Place → ReadAs K A) → A → List ℕ → Data → Place → ReadAs K A
   optional read default name d place = read_optional read default (get name d) (at_member place name)
 
-  -- what was read, unless another member stands beside it
-  abbrev pub alone : ReadAs K A → ReadAs K ⊤ → ReadAs K A
-  alone found others = found >>= λ x. others >>= λ _. Ok x
-
 -- none of these members may be there: the first that is comes a second time
 abbrev pub without : {K : Type 0} → K → List (List ℕ) → Data → Place → ReadAs K ⊤
 without twice [] d place = Ok tt
 without twice (name ∷ names) d place =
     if is_some (get name d) then bad twice (at_member place name) else without twice names d place
-
--- a member by its name, with how it is read
-abbrev pub Way : Type 0 → Type 0 → Type 0
-Way A K = List ℕ × (Data → Place → ReadAs K A)
-
-abbrev pub names_of : {A K : Type 0} → List (Way A K) → List (List ℕ)
-names_of [] = []
-names_of (way ∷ ways) = way.0 ∷ names_of ways
-
-module _ {A K : Type 0} where
-  abbrev pub read_way : Option Data → Place → (Data → Place → ReadAs K A) → ReadAs K ⊤ → ReadAs K A → ReadAs K A
-  read_way None place read others later = later
-  read_way (Some d) place read others later = alone (read d place) others
-
-  -- the first of these members that is there, read whole, and then none of the later ones
-  abbrev pub first_way : K → List (Way A K) → K × Place → Data → Place → ReadAs K A
-  first_way twice [] missing d place = Err missing
-  first_way twice (way ∷ ways) missing d place =
-      read_way (get way.0 d) (at_member place way.0) way.1 (without twice (names_of ways) d place)
-      (first_way twice ways missing d place)
-
-  -- one of several members: none is missing at the first one's place, a further one comes twice at its own
-  abbrev pub one_of : K → K → List ℕ → (Data → Place → ReadAs K A) → List (Way A K) → Data → Place → ReadAs K A
-  one_of missing twice name read ways d place =
-      first_way twice ((name, read) ∷ ways) (missing, at_member place name) d place
 
 -- whether the name is one of these
 abbrev pub is_among : List ℕ → List (List ℕ) → Bool
