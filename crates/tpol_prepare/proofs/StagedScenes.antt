@@ -14,10 +14,11 @@ use Rattle.tpol_prepare.specs.declared.prepared.PreparedScene.{PreparedScene}
 use Rattle.tpol_prepare.specs.declared.scenario.StagedScene.{StagedScene}
 use Rattle.tpol_prepare.specs.FilledDocuments.{IsReadyDocument}
 use Rattle.tpol_prepare.specs.Prepared.{prepared_step}
-use Rattle.tpol_prepare.specs.Scenario.{IsScenarioOf, scenario_with}
+use Rattle.tpol_prepare.specs.Scenario.{CanHappen, IsScenarioOf, scenario_with}
 use Rattle.tpol_prepare.specs.Staged.{IsScriptOf, IsStaged}
 use Rattle.tpol_prepare.proofs.EntitiesKept.{prepared_keeps}
 use Rattle.tpol_prepare.proofs.SetupsKept.{HasHandlesOf, handles_stay}
+use Rattle.tpol_prepare.proofs.Walkable.{all_can_happen}
 use Rattle.tpol_tree.specs.declared.path.ApprovedDoc.{ApprovedDoc}
 
 -- ---- the script
@@ -56,3 +57,9 @@ is_staged explains scene prepared approvals setup scenario begun bounded clients
   grants = clients.grants;
   script = script;
 }
+
+-- its events can happen
+pub events_can_happen : (staged : StagedScene) → IsStaged staged → All CanHappen staged.script
+events_can_happen staged is =
+    all_can_happen (map (λ o. o.handle) staged.setup.objects) (map (λ i. i.public.index) staged.setup.indices)
+    (map (λ client. client.0) staged.scenario.clients) [] staged.script is.script
