@@ -3,7 +3,7 @@ use Rattle.std.proofs.Common.{◌≡◌, ℕ, false, List, [], ◌∷◌, ◌++�
 use Rattle.std.proofs.lemmas.Bool.{false≢true}
 use Rattle.std.proofs.lemmas.List.{map-append, reverse-append}
 use Rattle.tpol_name.specs.declared.setup.Setup.{Setup}
-use Rattle.tpm_rules.specs.declared.outcome.Outcome.TheVariants.{Accepted, Denied, Refused, Served}
+use Rattle.tpm_rules.specs.declared.outcome.Outcome.TheVariants.{Denied, Refused}
 use Rattle.tpm_engine.specs.declared.event.Event.{Event}
 use Rattle.tpm_engine.specs.declared.event.Event.TheVariants as events
 use Rattle.tpm_engine.specs.Calls.{Call, Execute, Advance, SetPresence, Reset, call_of, event_by, journal_after}
@@ -15,13 +15,9 @@ use Rattle.tpm_engine.specs.Views.{next_number, view_of}
 use Rattle.tpm_engine.proofs.Link.{link}
 
 failed : (tables : TableState) (number : ℕ) (event : Event) → succeeded event ≡ false → after_event tables number event ≡ tables
-failed tables number (events.Command client locality buffer reply Accepted) h = absurd (false≢true (sym h))
-failed tables number (events.Command client locality buffer reply Served) h = absurd (false≢true (sym h))
 failed tables number (events.Command client locality buffer reply (Denied denial)) h = refl
 failed tables number (events.Command client locality buffer reply (Refused rc)) h = refl
-failed tables number (events.Time ms) h = absurd (false≢true (sym h))
-failed tables number (events.Presence on) h = absurd (false≢true (sym h))
-failed tables number events.Reset h = absurd (false≢true (sym h))
+failed tables number _ h = absurd (false≢true (sym h))
 
 pub failed-view : (setup : Setup) (past : List Event) (event : Event) → succeeded event ≡ false → view_of setup (event ∷ past) ≡ view_of setup past
 failed-view setup past event h = link setup past event ∙ failed (view_of setup past) (next_number past) event h

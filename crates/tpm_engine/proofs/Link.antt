@@ -11,7 +11,7 @@ use Rattle.tpm_session.specs.Slots.{content_at, handle_of_slot, slot_count, with
 use Rattle.tpm_world.specs.Hashes.{nonce_of_event}
 use Rattle.tpm_world.specs.World.{WorldState, world_of}
 use Rattle.tpm_engine.specs.declared.event.Event.{Event}
-use Rattle.tpm_engine.specs.Deeds.{Deed, Idle, Passes, Shifts, Resets, Extends, Writes, Increments, Starts, Ends, Restarts, Saves, Loads, Shows, SessionUse, after_deed, after_event, after_use, deed_of, use_of, with_shown}
+use Rattle.tpm_engine.specs.Deeds.{Deed, Resets, Starts, Ends, Restarts, Saves, Loads, Shows, SessionUse, after_deed, after_event, after_use, deed_of, use_of, with_shown}
 use Rattle.tpm_engine.specs.Facts.{moment}
 use Rattle.tpm_engine.specs.Tables.{TableState, first_tables, saved_changed, with_changed, without}
 use Rattle.tpm_engine.specs.Views.{counter_after, counter_of, counter_used, facts_after, facts_of, facts_used, held_after, held_used, indices_after, indices_of, is_held, live_slot, next_number, nonce_after, nonce_of, nonce_used, pcrs_after, pcrs_of, presence_after, presence_of, reset_count_after, reset_count_of, restart_count_after, restart_count_of, saved_slot, sequence_after, sequence_of, session_state, start_after, start_of, table, time_after, time_of, view_of, world_at}
@@ -211,14 +211,8 @@ served-state false state fresh = refl
 
 after_deed-seen : (world : WorldState) (number : ℕ) (deed : Deed) (seen : ℕ → Seen)
     → after_deed number deed (tables_of world seen) ≡ tables_of (world_after deed world) (λ s. seen_after world number deed s (seen s))
-after_deed-seen world number Idle seen = refl
-after_deed-seen world number (Passes ms) seen = refl
-after_deed-seen world number (Shifts on) seen = refl
 after_deed-seen world number Resets seen =
     tables-same (world_after Resets world) (table-replicate slot_count None) (table-replicate slot_count None)
-after_deed-seen world number (Extends pcr digest) seen = refl
-after_deed-seen world number (Writes index offset bytes) seen = refl
-after_deed-seen world number (Increments index) seen = refl
 after_deed-seen world number (Starts handle) seen =
     let state : SessionState = state_of world.time (nonce_of_event world.seed number) [] None in
     tables-same world
@@ -251,6 +245,7 @@ after_deed-seen world number (Shows handle fact) seen =
     (λ s. changed-live (nat_eq handle s) (seen s) change _ (shown-state (nat_eq handle s) (seen s).state (shown s) world.pcrs.counter)))
     (saved-written seen _ handle (λ at other. option_map (saved_changed change) at)
     (λ s. changed-saved (nat_eq handle s) (seen s) change _ (shown-state (nat_eq handle s) (seen s).state (shown s) world.pcrs.counter)))
+after_deed-seen world number _ seen = refl
 
 -- a session that served is kept
 kept-live : (here : Bool) (seen : Seen) (fresh : Digest32)

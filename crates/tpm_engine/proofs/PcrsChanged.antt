@@ -14,7 +14,7 @@ use Rattle.tpm_pcr.specs.Bank.{Bank}
 use Rattle.tpm_rules.specs.Session.{is_counter_now}
 use Rattle.tpm_session.specs.Kept.{counter_after as first_counter}
 use Rattle.tpm_engine.specs.declared.event.Event.{Event}
-use Rattle.tpm_engine.specs.Deeds.{Deed, Idle, Passes, Shifts, Resets, Extends, Writes, Increments, Starts, Ends, Restarts, Saves, Loads, Shows, SessionUse, deed_of, use_of}
+use Rattle.tpm_engine.specs.Deeds.{Deed, Resets, Extends, Starts, Restarts, Shows, SessionUse, deed_of, use_of}
 use Rattle.tpm_engine.specs.Facts.{Moment}
 use Rattle.tpm_engine.specs.Uses.{AreOfPcrs, IsOfPcrs, are_pcrs_changed, changed_after, changed_used}
 use Rattle.tpm_engine.specs.Views.{counter_after, counter_of, counter_used, facts_after, facts_of, facts_used, moment_of, pcrs_after, pcrs_of, world_at}
@@ -60,31 +60,24 @@ told-deed : (deed : Deed) (session : ℕ) (now : Moment) (counter : Option ℕ) 
     → Tells counter now.world.pcrs.counter changed (has_pcr facts)
     → Tells (counter_after deed session now counter) (pcrs_after deed now.world.pcrs).counter (changed_after deed session facts changed) (has_pcr (facts_after deed session now facts))
 unfolding Tells
-told-deed Idle session now counter changed facts told = told
-told-deed (Passes ms) session now counter changed facts told = told
-told-deed (Shifts on) session now counter changed facts told = told
 told-deed Resets session now counter changed facts told = (refl, refl)
 told-deed (Extends pcr digest) session now counter changed facts told = told-extended counter now.world.pcrs.counter changed (has_pcr facts) told
-told-deed (Writes index offset bytes) session now counter changed facts told = told
-told-deed (Increments index) session now counter changed facts told = told
 told-deed (Starts started) session now counter changed facts told = at (nat_eq started session)
   where
     at : (b : Bool) → Tells (if b then None else counter) now.world.pcrs.counter (if b then false else changed) (has_pcr (if b then [] else facts))
     at true = (refl, refl)
     at false = told
-told-deed (Ends ended) session now counter changed facts told = told
 told-deed (Restarts restarted) session now counter changed facts told = at (nat_eq restarted session)
   where
     at : (b : Bool) → Tells (if b then None else counter) now.world.pcrs.counter (if b then false else changed) (has_pcr (if b then [] else facts))
     at true = (refl, refl)
     at false = told
-told-deed (Saves saved) session now counter changed facts told = told
-told-deed (Loads loaded) session now counter changed facts told = told
 told-deed (Shows shown fact) session now counter changed facts told = at (nat_eq shown session)
   where
     at : (b : Bool) → Tells (if b then first_counter counter (fact now).act now.world.pcrs.counter else counter) now.world.pcrs.counter changed (has_pcr (if b then facts ++ fact now ∷ [] else facts))
     at true = told-shown counter now.world.pcrs.counter changed facts (fact now) told
     at false = told
+told-deed _ session now counter changed facts told = told
 
 told-use : (used : Option SessionUse) (session : ℕ) (now : ℕ) (counter : Option ℕ) (changed : Bool) (facts : List Fact)
     → Tells counter now changed (has_pcr facts)
@@ -125,23 +118,8 @@ counter-tells setup past session =
 
 -- of an act that is no PolicyPCR there is nothing to say
 of-no-pcr : (pcrs : Bank) (act : Move) → is_pcr act ≡ false → IsOfPcrs pcrs act
-of-no-pcr pcrs (moves.Or digests) none = tt
-of-no-pcr pcrs (moves.Approve key policy_ref approved signature) none = tt
-of-no-pcr pcrs (moves.ApproveNv index approved) none = tt
 of-no-pcr pcrs (moves.Assert (assertions.Pcr mask digest values)) none = absurd (false≢true (sym none))
-of-no-pcr pcrs (moves.Assert (assertions.Nv index operand offset operation)) none = tt
-of-no-pcr pcrs (moves.Assert (assertions.Secret entity policy_ref cp_hash expiration)) none = tt
-of-no-pcr pcrs (moves.Assert (assertions.Signed key policy_ref cp_hash expiration)) none = tt
-of-no-pcr pcrs (moves.Assert (assertions.CounterTimer operand offset operation)) none = tt
-of-no-pcr pcrs (moves.Assert (assertions.CommandCode code)) none = tt
-of-no-pcr pcrs (moves.Assert (assertions.Locality localities)) none = tt
-of-no-pcr pcrs (moves.Assert (assertions.CpHash digest)) none = tt
-of-no-pcr pcrs (moves.Assert (assertions.NameHash digest)) none = tt
-of-no-pcr pcrs (moves.Assert (assertions.NvWritten written)) none = tt
-of-no-pcr pcrs (moves.Assert assertions.AuthValue) none = tt
-of-no-pcr pcrs (moves.Assert assertions.Password) none = tt
-of-no-pcr pcrs (moves.Assert assertions.PhysicalPresence) none = tt
-of-no-pcr pcrs (moves.Assert (assertions.Duplication object parent include)) none = tt
+of-no-pcr pcrs _ none = tt
 
 pub or-false : (a b : Bool) → (a || b) ≡ false → (a ≡ false) × (b ≡ false)
 or-false true b h = absurd (false≢true (sym h))
@@ -165,32 +143,25 @@ ShowsPcrs _ now = ⊤
 of-deed : (deed : Deed) (session : ℕ) (now : Moment) (changed : Bool) (facts : List Fact) → ShowsPcrs deed now
     → (changed ≡ false → AreOfPcrs now.world.pcrs facts)
     → changed_after deed session facts changed ≡ false → AreOfPcrs (pcrs_after deed now.world.pcrs) (facts_after deed session now facts)
-of-deed Idle session now changed facts shows before none = before none
-of-deed (Passes ms) session now changed facts shows before none = before none
-of-deed (Shifts on) session now changed facts shows before none = before none
 of-deed Resets session now changed facts shows before none = tt
 of-deed (Extends pcr digest) session now changed facts shows before none =
     of-none (pcrs_after (Extends pcr digest) now.world.pcrs) facts (or-false changed (has_pcr facts) none).1
-of-deed (Writes index offset bytes) session now changed facts shows before none = before none
-of-deed (Increments index) session now changed facts shows before none = before none
 of-deed (Starts started) session now changed facts shows before none = at (nat_eq started session) none
   where
     at : (b : Bool) → (if b then false else changed) ≡ false → AreOfPcrs now.world.pcrs (if b then [] else facts)
     at true none = tt
     at false none = before none
-of-deed (Ends ended) session now changed facts shows before none = before none
 of-deed (Restarts restarted) session now changed facts shows before none = at (nat_eq restarted session) none
   where
     at : (b : Bool) → (if b then false else changed) ≡ false → AreOfPcrs now.world.pcrs (if b then [] else facts)
     at true none = tt
     at false none = before none
-of-deed (Saves saved) session now changed facts shows before none = before none
-of-deed (Loads loaded) session now changed facts shows before none = before none
 of-deed (Shows shown fact) session now changed facts shows before none = at (nat_eq shown session)
   where
     at : (b : Bool) → AreOfPcrs now.world.pcrs (if b then facts ++ fact now ∷ [] else facts)
     at true = of-more now.world.pcrs facts (fact now) (before none) shows
     at false = before none
+of-deed _ session now changed facts shows before none = before none
 
 of-use : (used : Option SessionUse) (session : ℕ) (pcrs : Bank) (changed : Bool) (facts : List Fact)
     → (changed ≡ false → AreOfPcrs pcrs facts)

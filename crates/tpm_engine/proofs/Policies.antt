@@ -13,7 +13,7 @@ use Rattle.tpm_rules.specs.Entity.{Index, auth_policy_of}
 use Rattle.tpm_world.specs.Entities.{entity_at, entity_of_kind}
 use Rattle.tpm_world.specs.World.{world_of}
 use Rattle.tpm_engine.specs.declared.event.Event.{Event}
-use Rattle.tpm_engine.specs.Deeds.{Deed, Idle, Passes, Shifts, Resets, Extends, Writes, Increments, Starts, Ends, Restarts, Saves, Loads, Shows, deed_of}
+use Rattle.tpm_engine.specs.Deeds.{Deed, Writes, Increments, deed_of}
 use Rattle.tpm_engine.specs.Views.{indices_after, indices_of, world_at}
 
 abbrev policy_of_index : IndexEntry → List ℕ
@@ -41,19 +41,9 @@ policy-written handle index offset bytes (entry ∷ rest) =
 
 policy-deed : (deed : Deed) (handle : ℕ) (indices : List IndexEntry)
     → option_map policy_of_index (index_of handle (indices_after deed indices)) ≡ option_map policy_of_index (index_of handle indices)
-policy-deed Idle handle indices = refl
-policy-deed (Passes ms) handle indices = refl
-policy-deed (Shifts on) handle indices = refl
-policy-deed Resets handle indices = refl
-policy-deed (Extends pcr digest) handle indices = refl
 policy-deed (Writes index offset bytes) handle indices = policy-written handle index offset bytes indices
 policy-deed (Increments index) handle indices = policy-written handle index 0 (to_be_bytes w64 (count_after index indices)) indices
-policy-deed (Starts session) handle indices = refl
-policy-deed (Ends session) handle indices = refl
-policy-deed (Restarts session) handle indices = refl
-policy-deed (Saves session) handle indices = refl
-policy-deed (Loads session) handle indices = refl
-policy-deed (Shows session fact) handle indices = refl
+policy-deed _ handle indices = refl
 
 policy-index : (setup : Setup) (past : List Event) (handle : ℕ)
     → option_map policy_of_index (index_of handle (indices_of setup past)) ≡ option_map policy_of_index (index_of handle setup.indices)
@@ -68,13 +58,9 @@ through-index (Some entry) = refl
 policy-kind : (setup : Setup) (past : List Event) (handle : ℕ) (kind : Option HandleKind)
     → option_map auth_policy_of (entity_of_kind (world_at setup past) handle kind) ≡ option_map auth_policy_of (entity_of_kind (world_of setup) handle kind)
 unfolding world_at
-policy-kind setup past handle None = refl
-policy-kind setup past handle (Some kinds.Pcr) = refl
 policy-kind setup past handle (Some kinds.Index) =
     through-index (index_of handle (indices_of setup past)) ∙ (policy-index setup past handle ∙ sym (through-index (index_of handle setup.indices)))
-policy-kind setup past handle (Some kinds.PolicySession) = refl
-policy-kind setup past handle (Some kinds.Permanent) = refl
-policy-kind setup past handle (Some kinds.Object) = refl
+policy-kind setup past handle _ = refl
 
 pub same-policy : (setup : Setup) (past : List Event) (handle : ℕ)
     → option_map auth_policy_of (entity_at (world_at setup past) handle) ≡ option_map auth_policy_of (entity_at (world_of setup) handle)

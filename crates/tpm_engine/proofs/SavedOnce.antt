@@ -22,7 +22,7 @@ use Rattle.tpm_world.specs.Hashes.{context_mac, nonce_of_event, proof_of}
 use Rattle.tpm_engine.specs.declared.event.Event.{Event}
 use Rattle.tpm_engine.specs.Answers.{early_stop, own_rule}
 use Rattle.tpm_engine.specs.Authorization.{authorization_stop}
-use Rattle.tpm_engine.specs.Deeds.{Deed, Idle, Passes, Shifts, Resets, Extends, Writes, Increments, Starts, Ends, Restarts, Saves, Loads, Shows, SessionUse, area_use, deed_of, use_of}
+use Rattle.tpm_engine.specs.Deeds.{Deed, Resets, Starts, Ends, Restarts, Saves, Loads, Shows, SessionUse, area_use, deed_of, use_of}
 use Rattle.tpm_engine.specs.Legal.{IsAnswered, IsLegal}
 use Rattle.tpm_engine.specs.SavedSessions.{has_save, is_save}
 use Rattle.tpm_engine.specs.SessionCommands.{session_rule}
@@ -70,27 +70,18 @@ load-finds setup past event session answered loads =
 
 -- what is not saved stays so where no event saves it
 sequence-none : (deed : Deed) (session number : ℕ) → is_save session deed ≡ false → sequence_after deed session number None ≡ None
-sequence-none Idle session number none = refl
-sequence-none (Passes ms) session number none = refl
-sequence-none (Shifts on) session number none = refl
-sequence-none Resets session number none = refl
-sequence-none (Extends pcr digest) session number none = refl
-sequence-none (Writes index offset bytes) session number none = refl
-sequence-none (Increments index) session number none = refl
 sequence-none (Starts started) session number none = at (nat_eq started session)
   where
     at : (b : Bool) → ◌≡◌ {A = Option ℕ} (if b then None else None) None
     at true = refl
     at false = refl
-sequence-none (Ends ended) session number none = refl
-sequence-none (Restarts restarted) session number none = refl
 sequence-none (Saves saved) session number none = ap (λ b. if b then Some number else None) none
 sequence-none (Loads load) session number none = at (nat_eq load session)
   where
     at : (b : Bool) → ◌≡◌ {A = Option ℕ} (if b then None else None) None
     at true = refl
     at false = refl
-sequence-none (Shows shown fact) session number none = refl
+sequence-none _ session number none = refl
 
 same-number : (n : ℕ) → nat_eq n n ≡ true
 same-number n = grind (arith, nat_tests)
@@ -178,33 +169,22 @@ state-unused (Some served) session fresh state free = at (nat_eq served.session 
 
 state-quiet : (deed : Deed) (used : Option SessionUse) (session time : ℕ) (fresh : Digest32) (now : Moment) (state : SessionState)
     → touches deed session ≡ false → used_by session used ≡ false → state_after deed used session time fresh now state ≡ state
-state-quiet Idle used session time fresh now state calm free = state-unused used session fresh state free
-state-quiet (Passes ms) used session time fresh now state calm free = state-unused used session fresh state free
-state-quiet (Shifts on) used session time fresh now state calm free = state-unused used session fresh state free
 state-quiet Resets used session time fresh now state calm free = absurd (false≢true (sym calm))
-state-quiet (Extends pcr digest) used session time fresh now state calm free = state-unused used session fresh state free
-state-quiet (Writes index offset bytes) used session time fresh now state calm free = state-unused used session fresh state free
-state-quiet (Increments index) used session time fresh now state calm free = state-unused used session fresh state free
 state-quiet (Starts started) used session time fresh now state calm free =
     ap (λ b. used-parts used session fresh (if b then time else state.start) (if b then fresh else state.nonce) (if b then [] else state.facts) (if b then None else state.counter)) calm
     ∙ state-unused used session fresh state free
-state-quiet (Ends ended) used session time fresh now state calm free = state-unused used session fresh state free
 state-quiet (Restarts restarted) used session time fresh now state calm free =
     ap (λ b. used-parts used session fresh state.start state.nonce (if b then [] else state.facts) (if b then None else state.counter)) calm
     ∙ state-unused used session fresh state free
-state-quiet (Saves saved) used session time fresh now state calm free = state-unused used session fresh state free
-state-quiet (Loads load) used session time fresh now state calm free = state-unused used session fresh state free
 state-quiet (Shows shown fact) used session time fresh now state calm free =
     ap (λ b. used-parts used session fresh state.start state.nonce (if b then state.facts ++ fact now ∷ [] else state.facts) (if b then first_counter state.counter (fact now).act now.world.pcrs.counter else state.counter)) calm
     ∙ state-unused used session fresh state free
+state-quiet _ used session time fresh now state calm free = state-unused used session fresh state free
 
 -- an event that leaves the session saved as it was, where nothing acts on it, touches nothing of it
 saved-calm : (deed : Deed) (used : Option SessionUse) (session number kept : ℕ) (held : Bool) (sequence : Option ℕ)
     → held_used used session (held_after deed session held) ≡ true → sequence_after deed session number sequence ≡ Some kept
     → (acting deed ≡ Some session → ⊥) → touches deed session ≡ false
-saved-calm Idle used session number kept held sequence stays same free = refl
-saved-calm (Passes ms) used session number kept held sequence stays same free = refl
-saved-calm (Shifts on) used session number kept held sequence stays same free = refl
 saved-calm Resets used session number kept held sequence stays same free = absurd (false≢true (sym (never used) ∙ stays))
   where
     never : (u : Option SessionUse) → held_used u session false ≡ false
@@ -215,27 +195,22 @@ saved-calm Resets used session number kept held sequence stays same free = absur
         at true true = refl
         at true false = refl
         at false keep = refl
-saved-calm (Extends pcr digest) used session number kept held sequence stays same free = refl
-saved-calm (Writes index offset bytes) used session number kept held sequence stays same free = refl
-saved-calm (Increments index) used session number kept held sequence stays same free = refl
 saved-calm (Starts started) used session number kept held sequence stays same free = at (nat_eq started session) same
   where
     at : (b : Bool) → (if b then None else sequence) ≡ Some kept → b ≡ false
     at true h = absurd (none-some kept h)
     at false h = refl
-saved-calm (Ends ended) used session number kept held sequence stays same free = refl
 saved-calm (Restarts restarted) used session number kept held sequence stays same free = at (nat_eq restarted session) refl
   where
     at : (b : Bool) → nat_eq restarted session ≡ b → b ≡ false
     at true e = absurd (free (ap Some (grind (arith, nat_tests))))
     at false e = refl
-saved-calm (Saves saved) used session number kept held sequence stays same free = refl
-saved-calm (Loads load) used session number kept held sequence stays same free = refl
 saved-calm (Shows shown fact) used session number kept held sequence stays same free = at (nat_eq shown session) refl
   where
     at : (b : Bool) → nat_eq shown session ≡ b → b ≡ false
     at true e = absurd (free (ap Some (grind (arith, nat_tests))))
     at false e = refl
+saved-calm _ used session number kept held sequence stays same free = refl
 
 -- it was saved so before, where this is not the event that saved it
 held-before : (used : Option SessionUse) (session : ℕ) (held : Bool) → held_used used session held ≡ true → held ≡ true
@@ -248,13 +223,7 @@ held-before (Some served) session held h = at (nat_eq served.session session) se
     at false keep h = h
 
 held-earlier : (deed : Deed) (session number kept : ℕ) (held : Bool) (sequence : Option ℕ) → held_after deed session held ≡ true → sequence_after deed session number sequence ≡ Some kept → held ≡ true
-held-earlier Idle session number kept held sequence h same = h
-held-earlier (Passes ms) session number kept held sequence h same = h
-held-earlier (Shifts on) session number kept held sequence h same = h
 held-earlier Resets session number kept held sequence h same = absurd (false≢true h)
-held-earlier (Extends pcr digest) session number kept held sequence h same = h
-held-earlier (Writes index offset bytes) session number kept held sequence h same = h
-held-earlier (Increments index) session number kept held sequence h same = h
 held-earlier (Starts started) session number kept held sequence h same = at (nat_eq started session) h same
   where
     at : (b : Bool) → (if b then true else held) ≡ true → (if b then None else sequence) ≡ Some kept → held ≡ true
@@ -265,26 +234,14 @@ held-earlier (Ends ended) session number kept held sequence h same = at (nat_eq 
     at : (b : Bool) → (if b then false else held) ≡ true → held ≡ true
     at true h = absurd (false≢true h)
     at false h = h
-held-earlier (Restarts restarted) session number kept held sequence h same = h
-held-earlier (Saves saved) session number kept held sequence h same = h
-held-earlier (Loads load) session number kept held sequence h same = h
-held-earlier (Shows shown fact) session number kept held sequence h same = h
+held-earlier _ session number kept held sequence h same = h
 
 sequence-earlier : (deed : Deed) (session number kept : ℕ) (sequence : Option ℕ) → sequence_after deed session number sequence ≡ Some kept → number ≢ kept → sequence ≡ Some kept
-sequence-earlier Idle session number kept sequence h other = h
-sequence-earlier (Passes ms) session number kept sequence h other = h
-sequence-earlier (Shifts on) session number kept sequence h other = h
-sequence-earlier Resets session number kept sequence h other = h
-sequence-earlier (Extends pcr digest) session number kept sequence h other = h
-sequence-earlier (Writes index offset bytes) session number kept sequence h other = h
-sequence-earlier (Increments index) session number kept sequence h other = h
 sequence-earlier (Starts started) session number kept sequence h other = at (nat_eq started session) h
   where
     at : (b : Bool) → (if b then None else sequence) ≡ Some kept → sequence ≡ Some kept
     at true h = absurd (none-some kept h)
     at false h = h
-sequence-earlier (Ends ended) session number kept sequence h other = h
-sequence-earlier (Restarts restarted) session number kept sequence h other = h
 sequence-earlier (Saves saved) session number kept sequence h other = at (nat_eq saved session) h
   where
     at : (b : Bool) → (if b then Some number else sequence) ≡ Some kept → sequence ≡ Some kept
@@ -295,7 +252,7 @@ sequence-earlier (Loads load) session number kept sequence h other = at (nat_eq 
     at : (b : Bool) → (if b then None else sequence) ≡ Some kept → sequence ≡ Some kept
     at true h = absurd (none-some kept h)
     at false h = h
-sequence-earlier (Shows shown fact) session number kept sequence h other = h
+sequence-earlier _ session number kept sequence h other = h
 
 module _ (setup : Setup) (session : ℕ) where
   -- a session that an event acts on is live

@@ -136,15 +136,7 @@ changed-other slots own session position change none =
 
 pub session-stays : (tables : TableState) (number : ℕ) (command : Command) (reply : List ℕ) (session : ℕ) → authorizing_session command ≡ Some session
     → apart_stop (policy_session_of command) session ≡ None → state_at (after_deed number (command_deed command reply) tables).sessions session ≡ state_at tables.sessions session
-session-stays tables number (commands.StartAuthSession tpm_key bind nonce) reply session is apart = absurd (none-some session is)
-session-stays tables number (commands.FlushContext own) reply session is apart = absurd (none-some session is)
-session-stays tables number (commands.ContextSave own) reply session is apart = absurd (none-some session is)
-session-stays tables number (commands.ContextLoad sequence own digest) reply session is apart = absurd (none-some session is)
-session-stays tables number (commands.PolicyRestart own) reply session is apart = absurd (none-some session is)
-session-stays tables number (commands.PolicyGetDigest own) reply session is apart = absurd (none-some session is)
 session-stays tables number (commands.PcrExtend pcr auth digest) reply session is apart = refl
-session-stays tables number (commands.PcrRead mask) reply session is apart = absurd (none-some session is)
-session-stays tables number (commands.VerifySignature key digest signature) reply session is apart = absurd (none-some session is)
 session-stays tables number (commands.Unseal object auth) reply session is apart = refl
 session-stays tables number (commands.Hmac key auth buffer hash) reply session is apart = refl
 session-stays tables number (commands.NvRead authority index auth size offset) reply session is apart = refl
@@ -152,23 +144,9 @@ session-stays tables number (commands.NvWrite authority index auth bytes offset)
 session-stays tables number (commands.NvIncrement authority index auth) reply session is apart = refl
 session-stays tables number (commands.Duplicate object parent auth) reply session is apart = refl
 session-stays tables number (commands.PolicyNv authority index own auth operand offset operation) reply session is apart = changed-other tables.sessions own session 3 _ apart
-session-stays tables number (commands.PolicyCpHash own digest) reply session is apart = absurd (none-some session is)
-session-stays tables number (commands.PolicyNameHash own digest) reply session is apart = absurd (none-some session is)
-session-stays tables number (commands.PolicyAuthValue own) reply session is apart = absurd (none-some session is)
-session-stays tables number (commands.PolicyPassword own) reply session is apart = absurd (none-some session is)
-session-stays tables number (commands.PolicyPhysicalPresence own) reply session is apart = absurd (none-some session is)
-session-stays tables number (commands.PolicyCommandCode own code) reply session is apart = absurd (none-some session is)
-session-stays tables number (commands.PolicyCounterTimer own operand offset operation) reply session is apart = absurd (none-some session is)
-session-stays tables number (commands.PolicyLocality own locality) reply session is apart = absurd (none-some session is)
-session-stays tables number (commands.PolicyPcr own given mask) reply session is apart = absurd (none-some session is)
-session-stays tables number (commands.PolicyDuplicationSelect own object parent include) reply session is apart = absurd (none-some session is)
-session-stays tables number (commands.PolicyNvWritten own written) reply session is apart = absurd (none-some session is)
-session-stays tables number (commands.PolicySigned key own nonce cp_hash policy_ref expiration signature) reply session is apart = absurd (none-some session is)
 session-stays tables number (commands.PolicySecret entity own auth nonce cp_hash policy_ref expiration) reply session is apart = changed-other tables.sessions own session 2 _ apart
-session-stays tables number (commands.PolicyTicket own timeout cp_hash policy_ref key ticket) reply session is apart = absurd (none-some session is)
-session-stays tables number (commands.PolicyAuthorize own approved policy_ref key ticket) reply session is apart = absurd (none-some session is)
-session-stays tables number (commands.PolicyOr own digests) reply session is apart = absurd (none-some session is)
 session-stays tables number (commands.PolicyAuthorizeNv authority index own auth) reply session is apart = changed-other tables.sessions own session 3 _ apart
+session-stays tables number _ reply session is apart = absurd (none-some session is)
 
 -- what is to be closed is live after the command was carried out, and its facts are to be empty
 pub closing-live : (before after : TableState) (number : ℕ) (command : Command) (reply : List ℕ) → session_stop before command ≡ None

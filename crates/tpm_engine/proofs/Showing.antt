@@ -45,38 +45,7 @@ first o = option_map (λ pair. pair.0) o
 
 pub same-session : (command : Command) → first (shown_by command) ≡ first (policy_session_of command)
 same-session (commands.StartAuthSession tpm_key bind nonce) = refl
-same-session (commands.FlushContext session) = refl
-same-session (commands.ContextSave session) = refl
-same-session (commands.ContextLoad sequence session digest) = refl
-same-session (commands.PolicyRestart session) = refl
-same-session (commands.PolicyGetDigest session) = refl
-same-session (commands.PcrExtend pcr auth digest) = refl
-same-session (commands.PcrRead mask) = refl
-same-session (commands.VerifySignature key digest signature) = refl
-same-session (commands.Unseal object auth) = refl
-same-session (commands.Hmac key auth buffer hash) = refl
-same-session (commands.NvRead authority index auth size offset) = refl
-same-session (commands.NvWrite authority index auth bytes offset) = refl
-same-session (commands.NvIncrement authority index auth) = refl
-same-session (commands.Duplicate object parent auth) = refl
-same-session (commands.PolicyNv authority index session auth operand offset operation) = refl
-same-session (commands.PolicyCpHash session digest) = refl
-same-session (commands.PolicyNameHash session digest) = refl
-same-session (commands.PolicyAuthValue session) = refl
-same-session (commands.PolicyPassword session) = refl
-same-session (commands.PolicyPhysicalPresence session) = refl
-same-session (commands.PolicyCommandCode session code) = refl
-same-session (commands.PolicyCounterTimer session operand offset operation) = refl
-same-session (commands.PolicyLocality session locality) = refl
-same-session (commands.PolicyPcr session given mask) = refl
-same-session (commands.PolicyDuplicationSelect session object parent include) = refl
-same-session (commands.PolicyNvWritten session written) = refl
-same-session (commands.PolicySigned key session nonce cp_hash policy_ref expiration signature) = refl
-same-session (commands.PolicySecret entity session auth nonce cp_hash policy_ref expiration) = refl
-same-session (commands.PolicyTicket session timeout cp_hash policy_ref key ticket) = refl
-same-session (commands.PolicyAuthorize session approved policy_ref key ticket) = refl
-same-session (commands.PolicyOr session digests) = refl
-same-session (commands.PolicyAuthorizeNv authority index session auth) = refl
+same-session _ = refl
 
 -- ---- the counter that is kept with a fact
 
@@ -94,21 +63,6 @@ SameCounter world kept counter act = counter_after counter act kept ≡ counter_
 
 pub same-counter : (world : WorldState) (command : Command) (counter : Option ℕ) (now : Moment)
     → IfSome (shown_by command) (λ shown. SameCounter world (kept_counter world command) counter (shown.1 now).act)
-same-counter world (commands.StartAuthSession tpm_key bind nonce) counter now = tt
-same-counter world (commands.FlushContext session) counter now = tt
-same-counter world (commands.ContextSave session) counter now = tt
-same-counter world (commands.ContextLoad sequence session digest) counter now = tt
-same-counter world (commands.PolicyRestart session) counter now = tt
-same-counter world (commands.PolicyGetDigest session) counter now = tt
-same-counter world (commands.PcrExtend pcr auth digest) counter now = tt
-same-counter world (commands.PcrRead mask) counter now = tt
-same-counter world (commands.VerifySignature key digest signature) counter now = tt
-same-counter world (commands.Unseal object auth) counter now = tt
-same-counter world (commands.Hmac key auth buffer hash) counter now = tt
-same-counter world (commands.NvRead authority index auth size offset) counter now = tt
-same-counter world (commands.NvWrite authority index auth bytes offset) counter now = tt
-same-counter world (commands.NvIncrement authority index auth) counter now = tt
-same-counter world (commands.Duplicate object parent auth) counter now = tt
 same-counter world (commands.PolicyNv authority index session auth operand offset operation) counter now = other-counter counter _ 0 world.pcrs.counter refl
 same-counter world (commands.PolicyCpHash session digest) counter now = other-counter counter _ 0 world.pcrs.counter refl
 same-counter world (commands.PolicyNameHash session digest) counter now = other-counter counter _ 0 world.pcrs.counter refl
@@ -128,6 +82,7 @@ same-counter world (commands.PolicyTicket session timeout cp_hash policy_ref key
 same-counter world (commands.PolicyAuthorize session approved policy_ref key ticket) counter now = other-counter counter _ 0 world.pcrs.counter refl
 same-counter world (commands.PolicyOr session digests) counter now = other-counter counter _ 0 world.pcrs.counter refl
 same-counter world (commands.PolicyAuthorizeNv authority index session auth) counter now = other-counter counter _ 0 world.pcrs.counter refl
+same-counter world _ counter now = tt
 
 -- ---- room
 

@@ -34,38 +34,9 @@ ticketed pcrs false key policy_ref cp_hash = tt
 
 command-pcrs : (command : Command) (reply : List ℕ) (now : Moment) → ShowsPcrs (command_deed command reply) now
 command-pcrs (commands.StartAuthSession tpm_key bind nonce) reply now = started (option_and_then (λ found. started_session found.0) (reply_reading (number_of_code StartAuthSession) reply)) now
-command-pcrs (commands.FlushContext session) reply now = tt
-command-pcrs (commands.ContextSave session) reply now = tt
-command-pcrs (commands.ContextLoad sequence session digest) reply now = tt
-command-pcrs (commands.PolicyRestart session) reply now = tt
-command-pcrs (commands.PolicyGetDigest session) reply now = tt
-command-pcrs (commands.PcrExtend pcr auth digest) reply now = tt
-command-pcrs (commands.PcrRead mask) reply now = tt
-command-pcrs (commands.VerifySignature key digest signature) reply now = tt
-command-pcrs (commands.Unseal object auth) reply now = tt
-command-pcrs (commands.Hmac key auth buffer hash) reply now = tt
-command-pcrs (commands.NvRead authority index auth size offset) reply now = tt
-command-pcrs (commands.NvWrite authority index auth bytes offset) reply now = tt
-command-pcrs (commands.NvIncrement authority index auth) reply now = tt
-command-pcrs (commands.Duplicate object parent auth) reply now = tt
-command-pcrs (commands.PolicyNv authority index session auth operand offset operation) reply now = tt
-command-pcrs (commands.PolicyCpHash session digest) reply now = tt
-command-pcrs (commands.PolicyNameHash session digest) reply now = tt
-command-pcrs (commands.PolicyAuthValue session) reply now = tt
-command-pcrs (commands.PolicyPassword session) reply now = tt
-command-pcrs (commands.PolicyPhysicalPresence session) reply now = tt
-command-pcrs (commands.PolicyCommandCode session code) reply now = tt
-command-pcrs (commands.PolicyCounterTimer session operand offset operation) reply now = tt
-command-pcrs (commands.PolicyLocality session locality) reply now = tt
 command-pcrs (commands.PolicyPcr session given mask) reply now = refl
-command-pcrs (commands.PolicyDuplicationSelect session object parent include) reply now = tt
-command-pcrs (commands.PolicyNvWritten session written) reply now = tt
-command-pcrs (commands.PolicySigned key session nonce cp_hash policy_ref expiration signature) reply now = tt
-command-pcrs (commands.PolicySecret entity session auth nonce cp_hash policy_ref expiration) reply now = tt
 command-pcrs (commands.PolicyTicket session timeout cp_hash policy_ref key ticket) reply now = ticketed now.world.pcrs (ticket.tag == st_auth_secret) key policy_ref cp_hash
-command-pcrs (commands.PolicyAuthorize session approved policy_ref key ticket) reply now = tt
-command-pcrs (commands.PolicyOr session digests) reply now = tt
-command-pcrs (commands.PolicyAuthorizeNv authority index session auth) reply now = tt
+command-pcrs _ reply now = tt
 
 deed-pcrs : (read : Result Command ℕ) (reply : List ℕ) (now : Moment) → ShowsPcrs (deed_in read reply) now
 deed-pcrs (Ok command) reply now = command-pcrs command reply now

@@ -1,6 +1,5 @@
 -- Tickets: what a PolicySecret or PolicySigned answered is accepted by PolicyTicket.
 use Rattle.std.proofs.Common.{◌≡◌, ℕ, ◌+◌, ◌<◌, ◌≤◌, ◌&&◌, ◌||◌, Bool, true, false, List, [], ◌∷◌, ◌++◌, length, Option, None, Some, is_some, Result, Ok, Err, nat_eq, nat_le, nat_lt, if◌then◌else◌, refl, ap, sym, subst, ◌∙◌, arith}
-use Rattle.std.specs.Prelude.{pos}
 use Rattle.std.specs.Option.{option_and_then, option_map, option_map_or}
 use Rattle.std.specs.Str.{bytes_eq}
 use Rattle.std.proofs.lemmas.Bool.{false≢true}
@@ -21,12 +20,14 @@ use Rattle.tpol_tree.specs.declared.path.Move.TheVariants.{Assert}
 use Rattle.tpol_wire.specs.declared.command.Command.{Command}
 use Rattle.tpol_wire.specs.declared.command.Command.TheVariants as commands
 use Rattle.tpol_wire.specs.declared.reply.Reply.TheVariants as replies
+use Rattle.tpol_wire.specs.declared.ticket.Ticket.{Ticket}
 use Rattle.tpol_wire.specs.Reading.{reading}
 use Rattle.tpol_wire.specs.ReplyReading.{reply_reading}
 use Rattle.tpm_auth.specs.Tickets.{auth_ticket}
 use Rattle.tpm_bindings.specs.State.{SessionState}
 use Rattle.tpm_policy.specs.Judgments.{cp_hash_bytes, is_auth_ticket}
 use Rattle.tpm_rules.specs.declared.outcome.Outcome.TheVariants.{Accepted}
+use Rattle.tpm_rules.specs.PolicyTicket.{assertion_of_ticket}
 use Rattle.tpm_rules.specs.Rule.{or_else, unless}
 use Rattle.tpm_rules.specs.Slot.{takes_optional_cp_hash}
 use Rattle.tpm_session.specs.Slots.{is_live, state_at}
@@ -40,7 +41,7 @@ use Rattle.tpm_engine.specs.Deeds.{Idle, Starts, command_deed, deed_in, deed_of,
 use Rattle.tpm_engine.specs.Events.{is_success}
 use Rattle.tpm_engine.specs.Facts.{Moment, shown_by}
 use Rattle.tpm_engine.specs.Legal.{answer_to}
-use Rattle.tpm_engine.specs.PolicyCommands.{policy_command_reply, policy_rule, policy_start, ticket_of, timeout_of}
+use Rattle.tpm_engine.specs.PolicyCommands.{policy_command_reply, policy_rule, ticket_of}
 use Rattle.tpm_engine.specs.Stops.{handles_stop, has_room, refuses, room_stop}
 use Rattle.tpm_engine.specs.Tables.{TableState}
 use Rattle.tpm_engine.specs.Tickets.{Ticketed, has_reset, is_reset, ticket_by, ticket_command, ticketed, told_ticket}
@@ -64,150 +65,52 @@ gives-by world tag name cp_hash policy_ref (Some deadline) given kind h =
     subst (Gives world) (same_Some _ _ h) (record { kind = kind; hierarchy = refl; digest = refl })
 
 gives : (tables : TableState) (command : Command) (given : Ticketed) → ticket_by tables command ≡ Some given → Gives tables.world given
-gives tables (commands.StartAuthSession tpm_key bind nonce) given h = absurd (none-some given h)
-gives tables (commands.FlushContext session) given h = absurd (none-some given h)
-gives tables (commands.ContextSave session) given h = absurd (none-some given h)
-gives tables (commands.ContextLoad sequence session digest) given h = absurd (none-some given h)
-gives tables (commands.PolicyRestart session) given h = absurd (none-some given h)
-gives tables (commands.PolicyGetDigest session) given h = absurd (none-some given h)
-gives tables (commands.PcrExtend pcr auth digest) given h = absurd (none-some given h)
-gives tables (commands.PcrRead mask) given h = absurd (none-some given h)
-gives tables (commands.VerifySignature key digest signature) given h = absurd (none-some given h)
-gives tables (commands.Unseal object auth) given h = absurd (none-some given h)
-gives tables (commands.Hmac key auth buffer hash) given h = absurd (none-some given h)
-gives tables (commands.NvRead authority index auth size offset) given h = absurd (none-some given h)
-gives tables (commands.NvWrite authority index auth bytes offset) given h = absurd (none-some given h)
-gives tables (commands.NvIncrement authority index auth) given h = absurd (none-some given h)
-gives tables (commands.Duplicate object parent auth) given h = absurd (none-some given h)
-gives tables (commands.PolicyNv authority index session auth operand offset operation) given h = absurd (none-some given h)
-gives tables (commands.PolicyCpHash session digest) given h = absurd (none-some given h)
-gives tables (commands.PolicyNameHash session digest) given h = absurd (none-some given h)
-gives tables (commands.PolicyAuthValue session) given h = absurd (none-some given h)
-gives tables (commands.PolicyPassword session) given h = absurd (none-some given h)
-gives tables (commands.PolicyPhysicalPresence session) given h = absurd (none-some given h)
-gives tables (commands.PolicyCommandCode session code) given h = absurd (none-some given h)
-gives tables (commands.PolicyCounterTimer session operand offset operation) given h = absurd (none-some given h)
-gives tables (commands.PolicyLocality session locality) given h = absurd (none-some given h)
-gives tables (commands.PolicyPcr session digest mask) given h = absurd (none-some given h)
-gives tables (commands.PolicyDuplicationSelect session object parent include) given h = absurd (none-some given h)
-gives tables (commands.PolicyNvWritten session written) given h = absurd (none-some given h)
 gives tables (commands.PolicySigned key session nonce cp_hash policy_ref expiration signature) given h =
-    gives-by tables.world st_auth_signed (name_at tables.world key) cp_hash policy_ref (timeout_of (policy_start tables (commands.PolicySigned key session nonce cp_hash policy_ref expiration signature)) nonce expiration) given refl h
+    gives-by tables.world st_auth_signed (name_at tables.world key) cp_hash policy_ref _ given refl h
 gives tables (commands.PolicySecret entity session auth nonce cp_hash policy_ref expiration) given h =
-    gives-by tables.world st_auth_secret (name_at tables.world entity) cp_hash policy_ref (timeout_of (policy_start tables (commands.PolicySecret entity session auth nonce cp_hash policy_ref expiration)) nonce expiration) given refl h
-gives tables (commands.PolicyTicket session timeout cp_hash policy_ref key ticket) given h = absurd (none-some given h)
-gives tables (commands.PolicyAuthorize session approved policy_ref key ticket) given h = absurd (none-some given h)
-gives tables (commands.PolicyOr session digests) given h = absurd (none-some given h)
-gives tables (commands.PolicyAuthorizeNv authority index session auth) given h = absurd (none-some given h)
+    gives-by tables.world st_auth_secret (name_at tables.world entity) cp_hash policy_ref _ given refl h
+gives tables _ given h = absurd (none-some given h)
 
--- ---- the reply tells it
+-- ---- the reply tells it, and tells none where none was given
 
-told-signed : (world : WorldState) (tag : ℕ) (name : Name) (cp_hash : Option Digest32) (policy_ref : List ℕ) (timeout : Option ℕ) (given : Ticketed)
-    → option_map (ticketed world tag name cp_hash policy_ref) timeout ≡ Some given
-    → told_ticket (replies.PolicySigned timeout (ticket_of world tag name cp_hash policy_ref timeout)) ≡ Some (given.deadline, given.ticket)
-told-signed world tag name cp_hash policy_ref None given h = absurd (none-some given h)
-told-signed world tag name cp_hash policy_ref (Some deadline) given h = ap (λ (g : Ticketed). Some (g.deadline, g.ticket)) (same_Some _ _ h)
+abbrev told_of : Option Ticketed → Option (ℕ × Ticket)
+told_of by = option_map (λ given. (given.deadline, given.ticket)) by
 
-told-secret : (world : WorldState) (tag : ℕ) (name : Name) (cp_hash : Option Digest32) (policy_ref : List ℕ) (timeout : Option ℕ) (given : Ticketed)
-    → option_map (ticketed world tag name cp_hash policy_ref) timeout ≡ Some given
-    → told_ticket (replies.PolicySecret timeout (ticket_of world tag name cp_hash policy_ref timeout)) ≡ Some (given.deadline, given.ticket)
-told-secret world tag name cp_hash policy_ref None given h = absurd (none-some given h)
-told-secret world tag name cp_hash policy_ref (Some deadline) given h = ap (λ (g : Ticketed). Some (g.deadline, g.ticket)) (same_Some _ _ h)
+told-signed : (world : WorldState) (tag : ℕ) (name : Name) (cp_hash : Option Digest32) (policy_ref : List ℕ) (timeout : Option ℕ)
+    → told_ticket (replies.PolicySigned timeout (ticket_of world tag name cp_hash policy_ref timeout)) ≡ told_of (option_map (ticketed world tag name cp_hash policy_ref) timeout)
+told-signed world tag name cp_hash policy_ref None = refl
+told-signed world tag name cp_hash policy_ref (Some deadline) = refl
 
-pub told : (tables : TableState) (command : Command) (given : Ticketed) → ticket_by tables command ≡ Some given
-    → told_ticket (policy_command_reply tables command) ≡ Some (given.deadline, given.ticket)
-told tables (commands.StartAuthSession tpm_key bind nonce) given h = absurd (none-some given h)
-told tables (commands.FlushContext session) given h = absurd (none-some given h)
-told tables (commands.ContextSave session) given h = absurd (none-some given h)
-told tables (commands.ContextLoad sequence session digest) given h = absurd (none-some given h)
-told tables (commands.PolicyRestart session) given h = absurd (none-some given h)
-told tables (commands.PolicyGetDigest session) given h = absurd (none-some given h)
-told tables (commands.PcrExtend pcr auth digest) given h = absurd (none-some given h)
-told tables (commands.PcrRead mask) given h = absurd (none-some given h)
-told tables (commands.VerifySignature key digest signature) given h = absurd (none-some given h)
-told tables (commands.Unseal object auth) given h = absurd (none-some given h)
-told tables (commands.Hmac key auth buffer hash) given h = absurd (none-some given h)
-told tables (commands.NvRead authority index auth size offset) given h = absurd (none-some given h)
-told tables (commands.NvWrite authority index auth bytes offset) given h = absurd (none-some given h)
-told tables (commands.NvIncrement authority index auth) given h = absurd (none-some given h)
-told tables (commands.Duplicate object parent auth) given h = absurd (none-some given h)
-told tables (commands.PolicyNv authority index session auth operand offset operation) given h = absurd (none-some given h)
-told tables (commands.PolicyCpHash session digest) given h = absurd (none-some given h)
-told tables (commands.PolicyNameHash session digest) given h = absurd (none-some given h)
-told tables (commands.PolicyAuthValue session) given h = absurd (none-some given h)
-told tables (commands.PolicyPassword session) given h = absurd (none-some given h)
-told tables (commands.PolicyPhysicalPresence session) given h = absurd (none-some given h)
-told tables (commands.PolicyCommandCode session code) given h = absurd (none-some given h)
-told tables (commands.PolicyCounterTimer session operand offset operation) given h = absurd (none-some given h)
-told tables (commands.PolicyLocality session locality) given h = absurd (none-some given h)
-told tables (commands.PolicyPcr session digest mask) given h = absurd (none-some given h)
-told tables (commands.PolicyDuplicationSelect session object parent include) given h = absurd (none-some given h)
-told tables (commands.PolicyNvWritten session written) given h = absurd (none-some given h)
-told tables (commands.PolicySigned key session nonce cp_hash policy_ref expiration signature) given h =
-    told-signed tables.world st_auth_signed (name_at tables.world key) cp_hash policy_ref (timeout_of (policy_start tables (commands.PolicySigned key session nonce cp_hash policy_ref expiration signature)) nonce expiration) given h
-told tables (commands.PolicySecret entity session auth nonce cp_hash policy_ref expiration) given h =
-    told-secret tables.world st_auth_secret (name_at tables.world entity) cp_hash policy_ref (timeout_of (policy_start tables (commands.PolicySecret entity session auth nonce cp_hash policy_ref expiration)) nonce expiration) given h
-told tables (commands.PolicyTicket session timeout cp_hash policy_ref key ticket) given h = absurd (none-some given h)
-told tables (commands.PolicyAuthorize session approved policy_ref key ticket) given h = absurd (none-some given h)
-told tables (commands.PolicyOr session digests) given h = absurd (none-some given h)
-told tables (commands.PolicyAuthorizeNv authority index session auth) given h = absurd (none-some given h)
+told-secret : (world : WorldState) (tag : ℕ) (name : Name) (cp_hash : Option Digest32) (policy_ref : List ℕ) (timeout : Option ℕ)
+    → told_ticket (replies.PolicySecret timeout (ticket_of world tag name cp_hash policy_ref timeout)) ≡ told_of (option_map (ticketed world tag name cp_hash policy_ref) timeout)
+told-secret world tag name cp_hash policy_ref None = refl
+told-secret world tag name cp_hash policy_ref (Some deadline) = refl
+
+pub told : (tables : TableState) (command : Command) → told_ticket (policy_command_reply tables command) ≡ told_of (ticket_by tables command)
+told tables (commands.PolicySigned key session nonce cp_hash policy_ref expiration signature) = told-signed tables.world st_auth_signed (name_at tables.world key) cp_hash policy_ref _
+told tables (commands.PolicySecret entity session auth nonce cp_hash policy_ref expiration) = told-secret tables.world st_auth_secret (name_at tables.world entity) cp_hash policy_ref _
+told tables _ = refl
 
 -- ---- its fact hashes the same
 
 abbrev updates : Moment → Command → Option Update
 updates now command = option_map (λ shown. update_of (shown.1 now).act) (shown_by command)
 
-same-signed : (world : WorldState) (name : Name) (cp_hash : Option Digest32) (policy_ref : List ℕ) (timeout : Option ℕ) (given : Ticketed) (later : Moment)
-    → option_map (ticketed world st_auth_signed name cp_hash policy_ref) timeout ≡ Some given
-    → (other : ℕ) → updates later (ticket_command other given) ≡ Some (update_of (Assert (Signed name policy_ref cp_hash (pos 0))))
-same-signed world name cp_hash policy_ref None given later h other = absurd (none-some given h)
-same-signed world name cp_hash policy_ref (Some deadline) given later h other = ap (λ (g : Ticketed). updates later (ticket_command other g)) (sym (same_Some _ _ h))
-
-same-secret : (world : WorldState) (name : Name) (cp_hash : Option Digest32) (policy_ref : List ℕ) (timeout : Option ℕ) (given : Ticketed) (later : Moment)
-    → option_map (ticketed world st_auth_secret name cp_hash policy_ref) timeout ≡ Some given
-    → (other : ℕ) → updates later (ticket_command other given) ≡ Some (update_of (Assert (Secret name policy_ref cp_hash (pos 0))))
-same-secret world name cp_hash policy_ref None given later h other = absurd (none-some given h)
-same-secret world name cp_hash policy_ref (Some deadline) given later h other = ap (λ (g : Ticketed). updates later (ticket_command other g)) (sym (same_Some _ _ h))
+same-ticket : (world : WorldState) (tag : ℕ) (name : Name) (cp_hash : Option Digest32) (policy_ref : List ℕ) (timeout : Option ℕ) (given : Ticketed) (later : Moment)
+    → option_map (ticketed world tag name cp_hash policy_ref) timeout ≡ Some given
+    → (other : ℕ) → updates later (ticket_command other given) ≡ Some (update_of (Assert (assertion_of_ticket tag name policy_ref cp_hash)))
+same-ticket world tag name cp_hash policy_ref None given later h other = absurd (none-some given h)
+same-ticket world tag name cp_hash policy_ref (Some deadline) given later h other = ap (λ (g : Ticketed). updates later (ticket_command other g)) (sym (same_Some _ _ h))
 
 pub same : (tables : TableState) (command : Command) (given : Ticketed) (other : ℕ) (now later : Moment) → ticket_by tables command ≡ Some given → now.world ≡ tables.world
     → updates later (ticket_command other given) ≡ updates now command
-same tables (commands.StartAuthSession tpm_key bind nonce) given other now later h world = absurd (none-some given h)
-same tables (commands.FlushContext session) given other now later h world = absurd (none-some given h)
-same tables (commands.ContextSave session) given other now later h world = absurd (none-some given h)
-same tables (commands.ContextLoad sequence session digest) given other now later h world = absurd (none-some given h)
-same tables (commands.PolicyRestart session) given other now later h world = absurd (none-some given h)
-same tables (commands.PolicyGetDigest session) given other now later h world = absurd (none-some given h)
-same tables (commands.PcrExtend pcr auth digest) given other now later h world = absurd (none-some given h)
-same tables (commands.PcrRead mask) given other now later h world = absurd (none-some given h)
-same tables (commands.VerifySignature key digest signature) given other now later h world = absurd (none-some given h)
-same tables (commands.Unseal object auth) given other now later h world = absurd (none-some given h)
-same tables (commands.Hmac key auth buffer hash) given other now later h world = absurd (none-some given h)
-same tables (commands.NvRead authority index auth size offset) given other now later h world = absurd (none-some given h)
-same tables (commands.NvWrite authority index auth bytes offset) given other now later h world = absurd (none-some given h)
-same tables (commands.NvIncrement authority index auth) given other now later h world = absurd (none-some given h)
-same tables (commands.Duplicate object parent auth) given other now later h world = absurd (none-some given h)
-same tables (commands.PolicyNv authority index session auth operand offset operation) given other now later h world = absurd (none-some given h)
-same tables (commands.PolicyCpHash session digest) given other now later h world = absurd (none-some given h)
-same tables (commands.PolicyNameHash session digest) given other now later h world = absurd (none-some given h)
-same tables (commands.PolicyAuthValue session) given other now later h world = absurd (none-some given h)
-same tables (commands.PolicyPassword session) given other now later h world = absurd (none-some given h)
-same tables (commands.PolicyPhysicalPresence session) given other now later h world = absurd (none-some given h)
-same tables (commands.PolicyCommandCode session code) given other now later h world = absurd (none-some given h)
-same tables (commands.PolicyCounterTimer session operand offset operation) given other now later h world = absurd (none-some given h)
-same tables (commands.PolicyLocality session locality) given other now later h world = absurd (none-some given h)
-same tables (commands.PolicyPcr session digest mask) given other now later h world = absurd (none-some given h)
-same tables (commands.PolicyDuplicationSelect session object parent include) given other now later h world = absurd (none-some given h)
-same tables (commands.PolicyNvWritten session written) given other now later h world = absurd (none-some given h)
 same tables (commands.PolicySigned key session nonce cp_hash policy_ref expiration signature) given other now later h world =
-    same-signed tables.world (name_at tables.world key) cp_hash policy_ref (timeout_of (policy_start tables (commands.PolicySigned key session nonce cp_hash policy_ref expiration signature)) nonce expiration) given later h other
+    same-ticket tables.world st_auth_signed (name_at tables.world key) cp_hash policy_ref _ given later h other
     ∙ ap (λ (w : WorldState). Some (update_of (Assert (Signed (name_at w key) policy_ref cp_hash expiration)))) (sym world)
 same tables (commands.PolicySecret entity session auth nonce cp_hash policy_ref expiration) given other now later h world =
-    same-secret tables.world (name_at tables.world entity) cp_hash policy_ref (timeout_of (policy_start tables (commands.PolicySecret entity session auth nonce cp_hash policy_ref expiration)) nonce expiration) given later h other
+    same-ticket tables.world st_auth_secret (name_at tables.world entity) cp_hash policy_ref _ given later h other
     ∙ ap (λ (w : WorldState). Some (update_of (Assert (Secret (name_at w entity) policy_ref cp_hash expiration)))) (sym world)
-same tables (commands.PolicyTicket session timeout cp_hash policy_ref key ticket) given other now later h world = absurd (none-some given h)
-same tables (commands.PolicyAuthorize session approved policy_ref key ticket) given other now later h world = absurd (none-some given h)
-same tables (commands.PolicyOr session digests) given other now later h world = absurd (none-some given h)
-same tables (commands.PolicyAuthorizeNv authority index session auth) given other now later h world = absurd (none-some given h)
+same tables _ given other now later h world = absurd (none-some given h)
 
 -- ---- without a Reset the reset count stays
 
@@ -218,38 +121,7 @@ started-keeps (Some session) count = refl
 no-reset : (command : Command) (reply : List ℕ) (count : ℕ) → reset_count_after (command_deed command reply) count ≡ count
 no-reset (commands.StartAuthSession tpm_key bind nonce) reply count =
     started-keeps (option_and_then (λ found. started_session found.0) (reply_reading (number_of_code StartAuthSession) reply)) count
-no-reset (commands.FlushContext session) reply count = refl
-no-reset (commands.ContextSave session) reply count = refl
-no-reset (commands.ContextLoad sequence session digest) reply count = refl
-no-reset (commands.PolicyRestart session) reply count = refl
-no-reset (commands.PolicyGetDigest session) reply count = refl
-no-reset (commands.PcrExtend pcr auth digest) reply count = refl
-no-reset (commands.PcrRead mask) reply count = refl
-no-reset (commands.VerifySignature key digest signature) reply count = refl
-no-reset (commands.Unseal object auth) reply count = refl
-no-reset (commands.Hmac key auth buffer hash) reply count = refl
-no-reset (commands.NvRead authority index auth size offset) reply count = refl
-no-reset (commands.NvWrite authority index auth bytes offset) reply count = refl
-no-reset (commands.NvIncrement authority index auth) reply count = refl
-no-reset (commands.Duplicate object parent auth) reply count = refl
-no-reset (commands.PolicyNv authority index session auth operand offset operation) reply count = refl
-no-reset (commands.PolicyCpHash session digest) reply count = refl
-no-reset (commands.PolicyNameHash session digest) reply count = refl
-no-reset (commands.PolicyAuthValue session) reply count = refl
-no-reset (commands.PolicyPassword session) reply count = refl
-no-reset (commands.PolicyPhysicalPresence session) reply count = refl
-no-reset (commands.PolicyCommandCode session code) reply count = refl
-no-reset (commands.PolicyCounterTimer session operand offset operation) reply count = refl
-no-reset (commands.PolicyLocality session locality) reply count = refl
-no-reset (commands.PolicyPcr session digest mask) reply count = refl
-no-reset (commands.PolicyDuplicationSelect session object parent include) reply count = refl
-no-reset (commands.PolicyNvWritten session written) reply count = refl
-no-reset (commands.PolicySigned key session nonce cp_hash policy_ref expiration signature) reply count = refl
-no-reset (commands.PolicySecret entity session auth nonce cp_hash policy_ref expiration) reply count = refl
-no-reset (commands.PolicyTicket session timeout cp_hash policy_ref key ticket) reply count = refl
-no-reset (commands.PolicyAuthorize session approved policy_ref key ticket) reply count = refl
-no-reset (commands.PolicyOr session digests) reply count = refl
-no-reset (commands.PolicyAuthorizeNv authority index session auth) reply count = refl
+no-reset _ reply count = refl
 
 no-reset-read : (read : Result Command ℕ) (reply : List ℕ) (count : ℕ) → reset_count_after (deed_in read reply) count ≡ count
 no-reset-read (Ok command) reply count = no-reset command reply count

@@ -46,13 +46,14 @@ pub fn saved_sessions_come_back_once()
         → state_at (view_of setup (load ∷ middle ++ save ∷ past)).sessions session ≡ state_at (view_of setup past).sessions session }
 {}
 
-/// A ticket that a PolicySecret or PolicySigned answered is accepted by PolicyTicket with its fields on every
-/// live session that has room and whose slot takes the cpHashA, while the time is at most its deadline and no
-/// Reset came since; and its fact hashes what the first one's does.
+/// The reply to a policy command tells a ticket, with its deadline, exactly where the command gives one: to a
+/// PolicySecret or PolicySigned with a negative expiration. That ticket is accepted by PolicyTicket with its
+/// fields on every live session that has room and whose slot takes the cpHashA, while the time is at most its
+/// deadline and no Reset came since; and its fact hashes what the first one's does.
 pub fn tickets_are_accepted()
-    ensures told { (setup : SetupOf) (past : List EventOf) (command : CommandOf) (given : tickets.Ticketed)
-        → tickets.ticket_by (view_of setup past) command ≡ Some given
-        → tickets.told_ticket (policy_command_reply (view_of setup past) command) ≡ Some (given.deadline, given.ticket) }
+    ensures told { (setup : SetupOf) (past : List EventOf) (command : CommandOf)
+        → tickets.told_ticket (policy_command_reply (view_of setup past) command)
+        ≡ option_map (λ given. (given.deadline, given.ticket)) (tickets.ticket_by (view_of setup past) command) }
     ensures same { (setup : SetupOf) (past : List EventOf) (command : CommandOf) (given : tickets.Ticketed) (own : ℕ) (now later : Moment)
         → tickets.ticket_by (view_of setup past) command ≡ Some given → now.world ≡ (view_of setup past).world
         → option_map (λ shown. update_of (shown.1 later).act) (shown_by (tickets.ticket_command own given)) ≡ option_map (λ shown. update_of (shown.1 now).act) (shown_by command) }

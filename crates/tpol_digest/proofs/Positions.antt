@@ -1,9 +1,10 @@
 -- The path at a position, part by part.
-use Rattle.std.proofs.Common.{◌≡◌, ◌≢◌, ℕ, zero, suc, ◌+◌, ◌-◌, ◌*◌, ◌/◌, ◌%◌, ◌<◌, ◌≤◌, min, Bool, true, false, List, [], ◌∷◌, ◌++◌, map, length, get_or, take, Option, Some, None, refl, sym, ap, ◌∙◌, subst, length-append, arith}
+use Rattle.std.proofs.Common.{◌≡◌, ◌≢◌, ℕ, zero, suc, ◌+◌, ◌-◌, ◌*◌, ◌/◌, ◌%◌, ◌<◌, ◌≤◌, min, true, false, List, [], ◌∷◌, ◌++◌, map, length, get_or, take, Option, Some, None, refl, sym, ap, ◌∙◌, subst, length-append, arith}
 use Rattle.std.specs.Prelude.{All, IfSome, is_some}
 use Rattle.std.specs.List.{flat_map, slice_get}
 use Rattle.std.proofs.Math.Nat.{div-eq_of_eq-mul_left}
 use Rattle.std.proofs.lemmas.Nat.{div-add-mod', div_below}
+use Rattle.std.proofs.lemmas.Bool.{or_parts}
 use Rattle.std.proofs.lemmas.List.{append-nil, length-map, map-append, take_more, take_all}
 use Rattle.std.proofs.lemmas.List.Concat.{flat_map-append, get_or-flat_map}
 use Rattle.std.proofs.lemmas.List.Elements.{recursion_from_All}
@@ -11,6 +12,7 @@ use Rattle.std.proofs.lemmas.List.Folds.{length-flat_map-take}
 use Rattle.std.proofs.lemmas.Option.{slice_get_read, slice_get_within, get_or_from_slice_get}
 use Rattle.tpol_base.specs.declared.digest.Digest32.{Digest32}
 use Rattle.tpol_tree.specs.declared.closed.ClosedElements.{ClosedElements}
+use Rattle.tpol_tree.specs.declared.closed.ClosedElements.TheVariants.{More', End}
 use Rattle.tpol_tree.specs.declared.closed.ClosedElement.{ClosedElement}
 use Rattle.tpol_tree.specs.declared.closed.ClosedElement.TheVariants.{Assert, Or, Authorize, AuthorizeNv}
 use Rattle.tpol_tree.specs.declared.closed.ClosedBranches.{ClosedBranches}
@@ -23,9 +25,9 @@ use Rattle.tpol_tree.specs.declared.path.PathStep.TheVariants.{Branch, Document}
 use Rattle.tpol_tree.specs.Closed.{HasBranchCounts, ElementHasBranchCounts}
 use Rattle.tpol_digest.specs.declared.extent.Extent.{Extent}
 use Rattle.tpol_digest.specs.Digest.{zero_digest, digest_at_element}
-use Rattle.tpol_digest.specs.Extent.{FullExtent, extent_at, extent_at_element, document_extent, IsCapped}
-use Rattle.tpol_digest.specs.Paths.{empty_path, path_of_move, followed_by, product, between, approval_of, paths_by_approval, approved_paths, outside_paths, paths_at, paths_at_branches, document_paths}
-use Rattle.tpol_digest.specs.Positions.{path_of_step, element_list_ways, element_ways, branch_ways, approval_ways, GoesOn}
+use Rattle.tpol_digest.specs.Extent.{extent_at, extent_at_element, document_extent, IsCapped}
+use Rattle.tpol_digest.specs.Paths.{empty_path, path_of_move, followed_by, product, between, approval_of, paths_by_approval, approved_paths, outside_paths, paths_at_branches, document_paths}
+use Rattle.tpol_digest.specs.Positions.{is_or, has_or, path_of_step, element_list_ways, element_ways, branch_ways, approval_ways, GoesOn}
 use Rattle.tpol_digest.proofs.Documents.{approved_none, document_paths-some}
 use Rattle.tpol_digest.proofs.Extents.{mul_bounds, extent_at-positive, extent_at_element-positive}
 use Rattle.tpol_digest.proofs.Measures.{document_agrees, extent_at-measures, extent_at_element-measures}
@@ -107,6 +109,21 @@ pub goes_between : (a behind b longer : Path) (step : PathStep) (act : Move) (wa
 goes_between a behind b longer step act ways i e g f =
     subst (λ l. GoesOn a l i longer) (all_between step act ways) (goes_by_move a b longer act (map (followed_by (path_of_step step)) ways) i (goes_by_step a behind b step ways i e g) f)
 
+-- ---- without an OR the ways are the same from any digest
+
+pub unbranched_element_ways : (documents : List ApprovedDoc) (levels : ℕ) (element : ClosedElement) (d e : Digest32) → is_or element ≡ false → element_ways documents levels element d ≡ element_ways documents levels element e
+unbranched_element_ways documents levels (Assert assertion) d e h = refl
+unbranched_element_ways documents levels (Or branches) d e h = cc
+unbranched_element_ways documents levels (Authorize key policy_ref) d e h = refl
+unbranched_element_ways documents levels (AuthorizeNv index) d e h = refl
+
+pub unbranched_ways : (documents : List ApprovedDoc) (levels : ℕ) (elements : ClosedElements) (d e : Digest32) → has_or elements ≡ false → element_list_ways documents levels elements d ≡ element_list_ways documents levels elements e
+unbranched_ways documents levels End d e h = refl
+unbranched_ways documents levels (More' p element q rest) d e h =
+    let both = or_parts (is_or element) (has_or rest) h in
+    ap (λ firsts. product firsts (element_list_ways documents levels rest (digest_at_element element d))) (unbranched_element_ways documents levels element d e both.0)
+    ∙ ap (product (element_ways documents levels element e)) (unbranched_ways documents levels rest (digest_at_element element d) (digest_at_element element e) both.1)
+
 -- ---- how many ways there are
 
 module _ (documents : List ApprovedDoc) (approved : All (λ document. HasBranchCounts document.closed.elements) documents) (levels : ℕ) where
@@ -172,6 +189,11 @@ module _ (documents : List ApprovedDoc) (approved : All (λ document. HasBranchC
       let firsts = element_ways documents levels element d in
       let rests = element_list_ways documents levels rest (digest_at_element element d) in
       parted extent.paths count index (length firsts) (length rests) (some_element_way documents approved levels element d h) (some_way documents approved levels rest (digest_at_element element d) k) (counted ∙ length-product firsts rests) few (counted_element_ways documents approved levels extent element d h capped) inside
+
+  -- the same without an OR, from the zero digest alone
+  pub parted_unbranched : (extent : Extent) (element : ClosedElement) (rest : ClosedElements) (count index : ℕ) → ElementHasBranchCounts element → HasBranchCounts rest → has_or rest ≡ false → count ≡ length (product (element_ways documents levels element zero_digest) (element_list_ways documents levels rest (digest_at_element element zero_digest))) → count ≤ 65536 → index < count → IsCapped extent (extent_at_element (document_extent documents levels) documents element) → Parted extent.paths count index (length (element_ways documents levels element zero_digest)) (length (element_list_ways documents levels rest zero_digest))
+  parted_unbranched extent element rest count index h k none counted few inside capped =
+      subst (λ ways. Parted extent.paths count index (length (element_ways documents levels element zero_digest)) (length ways)) (unbranched_ways documents levels rest (digest_at_element element zero_digest) zero_digest none) (parted_ways extent element rest zero_digest count index h k counted few inside capped)
 
   -- a branch, or a document, and what stands behind it
   pub counted_first : (extent : Extent) (elements : ClosedElements) (d : Digest32) (f : Path → Path) (others : List Path) → HasBranchCounts elements → length (map f (element_list_ways documents levels elements d) ++ others) ≤ 65536 → IsCapped extent (extent_at (document_extent documents levels) documents elements) → (extent.paths ≡ length (element_list_ways documents levels elements d)) × (length (map f (element_list_ways documents levels elements d) ++ others) ≡ extent.paths + length others)

@@ -1,9 +1,11 @@
 -- One path among those of a part of a policy, by its index.
-use Rattle.std.specs.Prelude.{◌≡◌, ℕ, ◌+◌, false, List, [], ◌∷◌, ◌++◌, map, Option, Some}
+use Rattle.std.specs.Prelude.{◌≡◌, ℕ, ◌+◌, Bool, true, false, ◌||◌, List, [], ◌∷◌, ◌++◌, map, Some}
 use Rattle.std.specs.List.{slice_get}
 use Rattle.tpol_base.specs.declared.digest.Digest32.{Digest32}
 use Rattle.tpol_tree.specs.declared.closed.ClosedElements.{ClosedElements}
+use Rattle.tpol_tree.specs.declared.closed.ClosedElements.TheVariants.{More', End}
 use Rattle.tpol_tree.specs.declared.closed.ClosedElement.{ClosedElement}
+use Rattle.tpol_tree.specs.declared.closed.ClosedElement.TheVariants.{Or}
 use Rattle.tpol_tree.specs.declared.closed.ClosedBranches.{ClosedBranches}
 use Rattle.tpol_tree.specs.declared.closed.ClosedBranches.TheVariants.{More' as MoreBranches', End as EndBranches}
 use Rattle.tpol_tree.specs.declared.path.ApprovedDoc.{ApprovedDoc}
@@ -33,6 +35,15 @@ branch_ways documents levels (MoreBranches' p name elements q rest) position d =
 -- the ways through an element that asks for an approval
 abbrev pub approval_ways : List ApprovedDoc → ℕ → ClosedElement → List Path
 approval_ways documents levels element = approved_paths (document_paths documents levels) documents element ++ outside_paths element
+
+-- whether an element is an OR, and whether one stands among elements, those of approved documents aside
+abbrev pub is_or : ClosedElement → Bool
+is_or (Or branches) = true
+is_or _ = false
+
+abbrev pub has_or : ClosedElements → Bool
+has_or End = false
+has_or (More' p element q rest) = is_or element || has_or rest
 
 -- the path goes on by the way at an index, from 0
 pub record GoesOn (before : Path) (ways : List Path) (index : ℕ) (after : Path) : Type 0 where

@@ -1,6 +1,6 @@
 // One path of a policy, by its position, without the others.
 
-ghost use Rattle.std.specs.Prelude.{◌≡◌, ◌+◌, ◌-◌, ◌^◌, ◌<◌, ◌≤◌, ◌++◌, Some, All, IfOk, IfSome, IsTrue, OnOk, length};
+ghost use Rattle.std.specs.Prelude.{◌≡◌, false, ◌+◌, ◌-◌, ◌^◌, ◌<◌, ◌≤◌, ◌++◌, Some, All, IfOk, IfSome, IsTrue, OnOk, length};
 ghost use Rattle.std.specs.List.{list_any, slice_get};
 ghost use Rattle.tpol_tree.specs.Closed.{branch_count, HasBranchCounts, ElementHasBranchCounts, BranchesHaveBranchCounts};
 ghost use Rattle.tpol_digest.specs.Digest as digest;
@@ -11,11 +11,10 @@ ghost use Rattle.tpol_digest.specs.Sound.{IsSound};
 ghost use Rattle.tpol_digest.specs.WellFormed.{HaveBranchCounts, IsWellFormed};
 
 use crate::approval::{accepts, approval};
-use crate::assertion::extend;
 use crate::counting::{extent_of_element, extent_of_elements};
 use crate::limits::MAX_LEVELS;
 use crate::policy::{
-    approve_digest, approve_nv_digest, digest_after_elements, or_digest, push_branch_digests, zero,
+    digest_after_element, digest_after_elements, or_digest, push_branch_digests, zero,
 };
 use std::alloc::Global;
 use tpol_base::{Blob, Digest32, Digests, NoMemory};
@@ -66,7 +65,7 @@ pub fn path_at(
     let count = extent_of_elements(walk.approvals, walk.levels, &policy.elements).paths;
     let mut path = empty_path(alloc);
     let index = u64::from(position - 1);
-    let _ = push_elements(&walk, &mut path, &policy.elements, zero(), index, count)?;
+    push_from_zero(&walk, &mut path, &policy.elements, index, count)?;
     Ok(path)
 }
 
@@ -81,8 +80,102 @@ fn empty_path(alloc: Global) -> Path
     }
 }
 
-// Adds the way through elements that has an index among their `count` ways, where `before` is the digest
-// before the elements, and answers the digest after them.
+// Whether an OR stands among elements, those of approved documents aside.
+fn has_or(elements: &ClosedElements) -> bool
+    ensures { result ≡ at.has_or elements.now }
+{
+    match elements {
+        ClosedElements::End => false,
+        ClosedElements::More(element, rest) => is_or(element) || has_or(rest),
+    }
+}
+
+// Whether an element is an OR.
+fn is_or(element: &ClosedElement) -> bool
+    ensures { result ≡ at.is_or element.now }
+{
+    matches!(element, ClosedElement::Or(_))
+}
+
+// Adds the way through elements that has an index among their `count` ways, from the zero digest. A digest is
+// needed only before the branches of an OR, so where no OR stands among the elements none is hashed for them.
+#[cycle(at_position)]
+fn push_from_zero(
+    walk: &Walk<'_>,
+    path: &mut Path,
+    elements: &ClosedElements,
+    index: u64,
+    count: u64,
+) -> Result<(), NoMemory>
+    requires branches { HasBranchCounts elements.now }
+    requires approved { All (λ document. HasBranchCounts document.closed.elements) walk.now.approvals.now }
+    requires counted { count ≡ length (at.element_list_ways walk.now.approvals.now walk.now.levels elements.now digest.zero_digest) }
+    requires few { count ≤ 65536 }
+    requires inside { index < count }
+    ensures { OnOk result (at.GoesOn path.old (at.element_list_ways walk.now.approvals.now walk.now.levels elements.now digest.zero_digest) index path.new) }
+{
+    if has_or(elements) {
+        let _ = push_elements(walk, path, elements, zero(), index, count)?;
+        Ok(())
+    } else {
+        push_unbranched(walk, path, elements, index, count)
+    }
+}
+
+// The same of elements among which no OR stands. Their ways are the same from any digest.
+#[cycle(at_position)]
+fn push_unbranched(
+    walk: &Walk<'_>,
+    path: &mut Path,
+    elements: &ClosedElements,
+    index: u64,
+    count: u64,
+) -> Result<(), NoMemory>
+    requires branches { HasBranchCounts elements.now }
+    requires unbranched { at.has_or elements.now ≡ false }
+    requires approved { All (λ document. HasBranchCounts document.closed.elements) walk.now.approvals.now }
+    requires counted { count ≡ length (at.element_list_ways walk.now.approvals.now walk.now.levels elements.now digest.zero_digest) }
+    requires few { count ≤ 65536 }
+    requires inside { index < count }
+    ensures { OnOk result (at.GoesOn path.old (at.element_list_ways walk.now.approvals.now walk.now.levels elements.now digest.zero_digest) index path.new) }
+{
+    match elements {
+        ClosedElements::End => Ok(()),
+        ClosedElements::More(element, rest) => {
+            let choices = extent_of_element(walk.approvals, walk.levels, element).paths;
+            let behind = count / choices;
+            push_unbranched_element(walk, path, element, index / behind)?;
+            push_unbranched(walk, path, rest, index % behind, behind)
+        }
+    }
+}
+
+// The same of one element.
+#[cycle(at_position)]
+fn push_unbranched_element(
+    walk: &Walk<'_>,
+    path: &mut Path,
+    element: &ClosedElement,
+    index: u64,
+) -> Result<(), NoMemory>
+    requires unbranched { at.is_or element.now ≡ false }
+    requires approved { All (λ document. HasBranchCounts document.closed.elements) walk.now.approvals.now }
+    requires few { length (at.element_ways walk.now.approvals.now walk.now.levels element.now digest.zero_digest) ≤ 65536 }
+    requires inside { index < length (at.element_ways walk.now.approvals.now walk.now.levels element.now digest.zero_digest) }
+    ensures { OnOk result (at.GoesOn path.old (at.element_ways walk.now.approvals.now walk.now.levels element.now digest.zero_digest) index path.new) }
+{
+    match element {
+        ClosedElement::Assert(assertion) => path
+            .moves
+            .push(Move::Assert(assertion.try_clone(walk.alloc)?)),
+        ClosedElement::Or(_) => unreachable!(),
+        ClosedElement::Authorize { .. } | ClosedElement::AuthorizeNv { .. } => {
+            push_approval(walk, path, element, index)
+        }
+    }
+}
+
+// The same of any elements, where `before` is the digest before them; answers the digest after them.
 #[cycle(at_position)]
 fn push_elements(
     walk: &Walk<'_>,
@@ -128,11 +221,6 @@ fn push_element(
     ensures path { OnOk result (at.GoesOn path.old (at.element_ways walk.now.approvals.now walk.now.levels element.now before) index path.new) }
 {
     match element {
-        ClosedElement::Assert(assertion) => {
-            path.moves
-                .push(Move::Assert(assertion.try_clone(walk.alloc)?))?;
-            Ok(extend(before, assertion))
-        }
         ClosedElement::Or(branches) => {
             let mut digests = Digests::new(walk.alloc);
             push_branch(walk, path, &mut digests, branches, before, 1, index)?;
@@ -140,13 +228,9 @@ fn push_element(
             path.moves.push(Move::Or(digests))?;
             Ok(after)
         }
-        ClosedElement::Authorize { key, policy_ref } => {
-            push_approval(walk, path, element, index)?;
-            Ok(approve_digest(key, policy_ref))
-        }
-        ClosedElement::AuthorizeNv { index: approver } => {
-            push_approval(walk, path, element, index)?;
-            Ok(approve_nv_digest(approver))
+        _ => {
+            push_unbranched_element(walk, path, element, index)?;
+            Ok(digest_after_element(element, before))
         }
     }
 }
@@ -223,7 +307,7 @@ fn push_approval(
                 if left < count {
                     let name = document.document.try_clone(walk.alloc)?;
                     path.steps.push(PathStep::Document(name))?;
-                    let _ = push_elements(&inner, path, elements, zero(), left, count)?;
+                    push_from_zero(&inner, path, elements, left, count)?;
                     return push_use(walk.alloc, path, element, document);
                 }
                 left -= count;

@@ -5,16 +5,23 @@ use Rattle.tpol_base.specs.declared.command_code.CommandCode.{CommandCode}
 use Rattle.tpol_base.specs.declared.command_code.CommandCode.TheVariants as codes
 use Rattle.tpol_driver.specs.Answers.{answer_of, answer_of_reply}
 use Rattle.tpol_driver.specs.Causes.{HasWrongArea, IsBytes}
-use Rattle.tpol_driver.specs.Driving.{Standing, Over, goal_done, goal_heard, move_heard, start_heard}
+use Rattle.tpol_driver.specs.Commands.{command_of_move}
+use Rattle.tpol_driver.specs.Driving.{Standing, Over, goal_done, goal_heard, is_verification, move_heard, stage_of_move, start_heard, verified}
 use Rattle.tpol_driver.specs.GoalUse.{bytes_of_reply, is_right_area}
+use Rattle.tpol_driver.specs.declared.answer.Answer.{Answer}
+use Rattle.tpol_driver.specs.declared.answer.Answer.TheVariants.{Done, Denied, Malformed}
 use Rattle.tpol_driver.specs.declared.end.End.{End}
 use Rattle.tpol_driver.specs.declared.end.End.TheVariants as ends
 use Rattle.tpol_driver.specs.declared.end.Stage.TheVariants as stages
 use Rattle.tpol_driver.specs.declared.plan.Plan.{Plan}
 use Rattle.tpol_base.specs.declared.digest.Digest32.{Digest32}
 use Rattle.tpol_base.specs.declared.name.Name.{Name}
-use Rattle.tpol_driver.specs.declared.step.Heard.TheVariants.{Failed}
+use Rattle.tpol_driver.specs.declared.session.Session.{Session}
+use Rattle.tpol_driver.specs.declared.step.Heard.TheVariants.{Accepted, Failed}
+use Rattle.tpol_name.specs.declared.entries.DirEntry.{DirEntry}
+use Rattle.tpol_tree.specs.declared.path.Move.{Move}
 use Rattle.tpol_tree.specs.declared.path.Move.TheVariants.{Approve}
+use Rattle.tpol_goal.specs.declared.grants.Grants.{Grants}
 use Rattle.tpol_goal.specs.declared.goal.Goal.{Goal}
 use Rattle.tpol_goal.specs.declared.goal.Goal.TheVariants as goals
 use Rattle.tpol_goal.specs.Goals.{code_of_goal}
@@ -23,6 +30,8 @@ use Rattle.tpol_wire.proofs.RowLaws.{code_again}
 use Rattle.tpol_wire.specs.declared.auth_area.ReplyAuth.{ReplyAuth}
 use Rattle.tpol_wire.specs.declared.reply.Reply.{Reply}
 use Rattle.tpol_wire.specs.declared.reply.Reply.TheVariants as replies
+use Rattle.tpol_wire.specs.declared.ticket.Ticket.{Ticket}
+use Rattle.tpol_wire.specs.Commands.{code_of_command}
 use Rattle.tpol_wire.specs.Replies.{AuthFits, Parts, PartsAnswer, PartsFit, Refusal, Served, SpellsReply, parts_of}
 use Rattle.tpol_wire.specs.ReplyReading.{reply_reading}
 use Rattle.tpol_wire.specs.Rows.{row}
@@ -55,9 +64,33 @@ verify_cases : (key : Name) (policy_ref : List ℕ) (approved signature : Digest
 verify_cases key policy_ref approved signature at None answers bad = refl
 verify_cases key policy_ref approved signature at (Some found) answers bad = absurd (verify_not_bad key policy_ref approved signature at found.0 found.1 (answers found.0 found.1 refl) bad)
 
-pub bad_verify : (key : Name) (policy_ref : List ℕ) (approved signature : Digest32) (at : ℕ) (bytes : List ℕ) → IsBytes bytes → move_heard None (Approve key policy_ref approved signature) at (answer_of (reply_reading (number_of_code codes.VerifySignature) bytes)) ≡ Failed (ends.BadReply (stages.Verify at)) → reply_reading (number_of_code codes.VerifySignature) bytes ≡ None
+bad_verify : (key : Name) (policy_ref : List ℕ) (approved signature : Digest32) (at : ℕ) (bytes : List ℕ) → IsBytes bytes → move_heard None (Approve key policy_ref approved signature) at (answer_of (reply_reading (number_of_code codes.VerifySignature) bytes)) ≡ Failed (ends.BadReply (stages.Verify at)) → reply_reading (number_of_code codes.VerifySignature) bytes ≡ None
 bad_verify key policy_ref approved signature at bytes fits bad =
     verify_cases key policy_ref approved signature at _ (λ reply auth read. (spelled _ bytes reply auth fits read).answers) bad
+
+-- ---- the other commands of moves: any reply that is read is accepted or is a refusal
+
+reply_not_malformed : (reply : Reply) (auth : Option ReplyAuth) → answer_of_reply reply auth ≡ Malformed → ⊥
+reply_not_malformed (replies.Refused rc) auth malformed = cc
+reply_not_malformed reply auth malformed = cc
+
+malformed_reading : (read : Option (Reply × Option ReplyAuth)) → answer_of read ≡ Malformed → read ≡ None
+malformed_reading None malformed = refl
+malformed_reading (Some found) malformed = absurd (reply_not_malformed found.0 found.1 malformed)
+
+done_not_failed : (verifies : Bool) (at : ℕ) (reply : Reply) (end : End) → verifies ≡ false → cond verifies (verified at reply) Accepted ≡ Failed end → ⊥
+done_not_failed true at reply end plain bad = cc
+done_not_failed false at reply end plain bad = cc
+
+plain_bad : (ticket : Option Ticket) (act : Move) (at : ℕ) (answer : Answer) → is_verification ticket act ≡ false → move_heard ticket act at answer ≡ Failed (ends.BadReply (stage_of_move ticket act at)) → answer ≡ Malformed
+plain_bad ticket act at (Done reply auth) plain bad = absurd (done_not_failed (is_verification ticket act) at reply _ plain bad)
+plain_bad ticket act at (Denied rc) plain bad = absurd cc
+plain_bad ticket act at Malformed plain bad = refl
+
+pub bad_move : (directory : List DirEntry) (grants : Grants) (session : Session) (ticket : Option Ticket) (act : Move) (at : ℕ) (bytes : List ℕ) → IsBytes bytes → move_heard ticket act at (answer_of (reply_reading (number_of_code (code_of_command (command_of_move directory grants session ticket act))) bytes)) ≡ Failed (ends.BadReply (stage_of_move ticket act at)) → reply_reading (number_of_code (code_of_command (command_of_move directory grants session ticket act))) bytes ≡ None
+bad_move directory grants session None (Approve key policy_ref approved signature) at bytes fits bad = bad_verify key policy_ref approved signature at bytes fits bad
+bad_move directory grants session None act at bytes fits bad = malformed_reading _ (plain_bad None act at _ refl bad)
+bad_move directory grants session (Some ticket) act at bytes fits bad = malformed_reading _ (plain_bad (Some ticket) act at _ refl bad)
 
 -- ---- the goal
 

@@ -17,35 +17,37 @@ use Rattle.tpol_wire.specs.declared.reply.Reply.{Reply}
 use Rattle.tpol_wire.specs.declared.reply.Reply.TheVariants as replies
 use Rattle.tpol_wire.specs.declared.ticket.Ticket.{Ticket}
 
--- how many commands are left at most, with so many moves left
+-- how many commands are left at most, with so many moves left; with a ticket a move is left in each run, and
+-- where none were, two commands would be
 abbrev left_on : ℕ → Option Ticket → ℕ
-left_on moves None = 2 * moves + 3
-left_on moves (Some ticket) = 2 * moves + 2
+left_on moves None = 2 * moves + 2
+left_on moves (Some ticket) = 2 * moves + 1 + (1 - moves)
 
 abbrev left : Plan → Standing → ℕ
-left plan Starting = 2 * length plan.path.moves + 4
+left plan Starting = 2 * length plan.path.moves + 3
 left plan (Moving session sent ticket done) = left_on (length plan.path.moves - done) ticket
 left plan (Closing session end) = 1
 left plan (Over end) = 0
 
 -- ---- one reply
 
-started_left : (plan : Plan) (reply : Reply) → left plan (started reply) ≤ 2 * length plan.path.moves + 3
+started_left : (plan : Plan) (reply : Reply) → left plan (started reply) ≤ 2 * length plan.path.moves + 2
 started_left plan (replies.StartAuthSession session nonce) = omega arith
 started_left plan reply = omega arith
 
-start_left : (plan : Plan) (answer : Answer) → left plan (start_heard answer) ≤ 2 * length plan.path.moves + 3
+start_left : (plan : Plan) (answer : Answer) → left plan (start_heard answer) ≤ 2 * length plan.path.moves + 2
 start_left plan (Done reply auth) = started_left plan reply
 start_left plan (Denied rc) = omega arith
 start_left plan Malformed = omega arith
 
-verified_left : (plan : Plan) (session : Session) (sent done at : ℕ) (reply : Reply) → left plan (goes_on session sent done (verified at reply)) ≤ 2 * (length plan.path.moves - done) + 2
-verified_left plan session sent done at (replies.VerifySignature ticket) = omega arith
-verified_left plan session sent done at reply = omega arith
+verified_left : (plan : Plan) (session : Session) (sent done at : ℕ) (reply : Reply) → done < length plan.path.moves
+    → left plan (goes_on session sent done (verified at reply)) ≤ 2 * (length plan.path.moves - done) + 1
+verified_left plan session sent done at (replies.VerifySignature ticket) before = omega arith
+verified_left plan session sent done at reply before = omega arith
 
 done_left : (plan : Plan) (session : Session) (sent : ℕ) (ticket : Option Ticket) (done : ℕ) (act : Move) (reply : Reply) (auth : Option ReplyAuth) → done < length plan.path.moves
     → left plan (goes_on session sent done (move_heard ticket act (done + 1) (Done reply auth))) + 1 ≤ left_on (length plan.path.moves - done) ticket
-done_left plan session sent None done (Approve key policy_ref approved signature) reply auth before = omega (arith, verified_left plan session sent done (done + 1) reply)
+done_left plan session sent None done (Approve key policy_ref approved signature) reply auth before = omega (arith, verified_left plan session sent done (done + 1) reply before)
 done_left plan session sent None done act reply auth before = omega arith
 done_left plan session sent (Some ticket) done act reply auth before = omega arith
 
@@ -91,5 +93,9 @@ over_at_nothing plan (Moving session sent (Some ticket) done) nothing = absurd (
 over_at_nothing plan (Closing session end) nothing = absurd (omega arith)
 over_at_nothing plan (Over end) nothing = refl
 
+pub over_after_all : (plan : Plan) (replies : List (List ℕ)) → 2 * length plan.path.moves + 3 ≤ length replies → is_over (stands_after plan replies) ≡ true
+over_after_all plan replies enough = over_at_nothing plan (stands_after plan replies) (nothing_left plan Starting replies enough)
+
+-- the same with one reply to spare
 pub over_at_last : (plan : Plan) (replies : List (List ℕ)) → 2 * length plan.path.moves + 4 ≤ length replies → is_over (stands_after plan replies) ≡ true
-over_at_last plan replies few = over_at_nothing plan (stands_after plan replies) (nothing_left plan Starting replies few)
+over_at_last plan replies enough = over_after_all plan replies (omega (arith, enough))

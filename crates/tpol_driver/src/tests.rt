@@ -2,196 +2,310 @@
 //! commands, and the ends that replies lead to. The run of the disk is on a machine whose seed is 32 zero
 //! bytes; its end has the HMAC that `tpm_auth` has from there too.
 
-use crate::{End, Next, Plan, Planned, Stage};
-use std::alloc::Global;
+use crate::{Asserting, Closing, End, Next, Plan, Planned, Ready, Stage};
+use std::alloc::{AllocError, Global};
 use std::test::*;
 use tpol_base::{Blob, Compare, Digest32, Digests, Name, NoMemory, Sequence, Text};
 use tpol_goal::{Goal, Grants, Secrets};
 use tpol_name::{DirEntry, Directory};
 use tpol_tree::{Assertion, Move, Moves, Path};
 
-/// The run of `disk`: the commands that are sent, and the replies.
-const DISK: [(&[u8], &[u8]); 5] = [
-    (
-        b"80010000003b000001764000000740000007002001db4baa43ffba5451e6427b4b6a4e56eb705b0893de\
-d6889a261689e2e396f10000010010000b",
-        b"800100000030000000000300000000206c61827e1e31e467f7f1b9a2ac8871178903d6d7c8076f46396f\
-8fb70a053c9f",
-    ),
-    (
-        b"80010000003a0000017f03000000002038723a2e5e8a17aa7950dc008209944e898f69a7bd10a23c839d\
-341e935fd5ca00000001000b03950000",
-        b"80010000000a00000000",
-    ),
-    (b"80010000000e0000016b03000000", b"80010000000a00000000"),
-    (
-        b"800100000056000001710300000000000002002090938e03c6356505a182cf9c166daa30c0a69c6f13f6\
-bbca777df6a883ddf7b6002051ae7a4ab4b3efddded3e878f92bec2c9f5e2e88b9c7e67e1b229694ef4b\
-90f2",
-        b"80010000000a00000000",
-    ),
-    (
-        b"80020000005b0000015e8000000000000049030000000020c79a23add6daf28e8a8ebca5b8c6951d0b92\
-78a86f24d4607aa7e96536135e8600002022094c690a0ca37f0d2f3170885b0f7a69a4b00858be879320\
-2efccfd4a27ea9",
-        b"800200000058000000000000000500036b65790020651d25737d57d8b1a2d103af4aaee599180f87444b\
-4f20b69d2ca1ec95edf63c000020e028e8531b8f3dd863c9db22c878f5509ab6066ee86d7c6cd9e07af5\
-2605ff85",
-    ),
+/// A command of a run, and its reply.
+#[derive(Clone, Copy)]
+struct Step {
+    command: &'static [u8],
+    reply: &'static [u8],
+}
+
+/// A reply to the step at this place by which a run fails: the code that denies it, 0 where the reply is bad,
+/// and the stage of the end.
+#[derive(Clone, Copy)]
+struct Failing {
+    place: usize,
+    reply: &'static [u8],
+    code: u32,
+    stage: Stage,
+}
+
+/// The run of `disk`.
+const DISK: [Step; 5] = [
+    Step {
+        command: b"\x80\x01\x00\x00\x00\x3b\x00\x00\x01\x76\x40\x00\x00\x07\x40\x00\x00\x07\x00\x20\
+          \x01\xdb\x4b\xaa\x43\xff\xba\x54\x51\xe6\x42\x7b\x4b\x6a\x4e\x56\xeb\x70\x5b\x08\
+          \x93\xde\xd6\x88\x9a\x26\x16\x89\xe2\xe3\x96\xf1\x00\x00\x01\x00\x10\x00\x0b",
+        reply: b"\x80\x01\x00\x00\x00\x30\x00\x00\x00\x00\x03\x00\x00\x00\x00\x20\x6c\x61\x82\x7e\
+          \x1e\x31\xe4\x67\xf7\xf1\xb9\xa2\xac\x88\x71\x17\x89\x03\xd6\xd7\xc8\x07\x6f\x46\
+          \x39\x6f\x8f\xb7\x0a\x05\x3c\x9f",
+    },
+    Step {
+        command: b"\x80\x01\x00\x00\x00\x3a\x00\x00\x01\x7f\x03\x00\x00\x00\x00\x20\x38\x72\x3a\x2e\
+          \x5e\x8a\x17\xaa\x79\x50\xdc\x00\x82\x09\x94\x4e\x89\x8f\x69\xa7\xbd\x10\xa2\x3c\
+          \x83\x9d\x34\x1e\x93\x5f\xd5\xca\x00\x00\x00\x01\x00\x0b\x03\x95\x00\x00",
+        reply: b"\x80\x01\x00\x00\x00\x0a\x00\x00\x00\x00",
+    },
+    Step {
+        command: b"\x80\x01\x00\x00\x00\x0e\x00\x00\x01\x6b\x03\x00\x00\x00",
+        reply: b"\x80\x01\x00\x00\x00\x0a\x00\x00\x00\x00",
+    },
+    Step {
+        command: b"\x80\x01\x00\x00\x00\x56\x00\x00\x01\x71\x03\x00\x00\x00\x00\x00\x00\x02\x00\x20\
+          \x90\x93\x8e\x03\xc6\x35\x65\x05\xa1\x82\xcf\x9c\x16\x6d\xaa\x30\xc0\xa6\x9c\x6f\
+          \x13\xf6\xbb\xca\x77\x7d\xf6\xa8\x83\xdd\xf7\xb6\x00\x20\x51\xae\x7a\x4a\xb4\xb3\
+          \xef\xdd\xde\xd3\xe8\x78\xf9\x2b\xec\x2c\x9f\x5e\x2e\x88\xb9\xc7\xe6\x7e\x1b\x22\
+          \x96\x94\xef\x4b\x90\xf2",
+        reply: b"\x80\x01\x00\x00\x00\x0a\x00\x00\x00\x00",
+    },
+    Step {
+        command: b"\x80\x02\x00\x00\x00\x5b\x00\x00\x01\x5e\x80\x00\x00\x00\x00\x00\x00\x49\x03\x00\
+          \x00\x00\x00\x20\xc7\x9a\x23\xad\xd6\xda\xf2\x8e\x8a\x8e\xbc\xa5\xb8\xc6\x95\x1d\
+          \x0b\x92\x78\xa8\x6f\x24\xd4\x60\x7a\xa7\xe9\x65\x36\x13\x5e\x86\x00\x00\x20\x22\
+          \x09\x4c\x69\x0a\x0c\xa3\x7f\x0d\x2f\x31\x70\x88\x5b\x0f\x7a\x69\xa4\xb0\x08\x58\
+          \xbe\x87\x93\x20\x2e\xfc\xcf\xd4\xa2\x7e\xa9",
+        reply: b"\x80\x02\x00\x00\x00\x58\x00\x00\x00\x00\x00\x00\x00\x05\x00\x03\x6b\x65\x79\x00\
+          \x20\x65\x1d\x25\x73\x7d\x57\xd8\xb1\xa2\xd1\x03\xaf\x4a\xae\xe5\x99\x18\x0f\x87\
+          \x44\x4b\x4f\x20\xb6\x9d\x2c\xa1\xec\x95\xed\xf6\x3c\x00\x00\x20\xe0\x28\xe8\x53\
+          \x1b\x8f\x3d\xd8\x63\xc9\xdb\x22\xc8\x78\xf5\x50\x9a\xb6\x06\x6e\xe8\x6d\x7c\x6c\
+          \xd9\xe0\x7a\xf5\x26\x05\xff\x85",
+    },
 ];
 
 /// The run of `device`.
-const DEVICE: [(&[u8], &[u8]); 10] = [
-    (
-        b"80010000003b000001764000000740000007002018999f7e07dd6ba249eae39d454d2f4600f5a07cf587\
-00d2aff3911814b2f2e40000010010000b",
-        b"800100000030000000000300000200205555555555555555555555555555555555555555555555555555\
-555555555555",
-    ),
-    (
-        b"800100000083000001608000000103000002002055555555555555555555555555555555555555555555\
-555555555555555555550020777777777777777777777777777777777777777777777777777777777777\
-77770003726566fffffffe0005000ba6b9ccd995cd95a8aec89c4150f2ef525a4012bd3922a52b9a8897\
-a1adccc958",
-        b"8001000000140000000000008025400000070000",
-    ),
-    (
-        b"800200000049000001514000000b03000002000000094000000900000100000020555555555555555555\
-55555555555555555555555555555555555555555555550000000000000000",
-        b"80020000001d000000000000000a000080234000000700000000010000",
-    ),
-    (
-        b"80020000002e0000014901c07f0101c07f01030000020000000c40000009000001000369647800020506\
-00010009",
-        b"80020000001300000000000000000000010000",
-    ),
-    (
-        b"80010000005400000177800000010020caf17868e612c2ac344d2ce3362e3a95dcb6b9fad78a2faff6d1\
-d974553dbfff0005000b9999999999999999999999999999999999999999999999999999999999999999",
-        b"800100000032000000008022400000010020aaaaaaaaaaaaaaaaaaaaaaaaaaaaaaaaaaaaaaaaaaaaaaaa\
-aaaaaaaaaaaaaaaa",
-    ),
-    (
-        b"8001000000810000016a0300000200208888888888888888888888888888888888888888888888888888\
-88888888888800036170700022000b111111111111111111111111111111111111111111111111111111\
-11111111118022400000010020aaaaaaaaaaaaaaaaaaaaaaaaaaaaaaaaaaaaaaaaaaaaaaaaaaaaaaaaaa\
-aaaaaa",
-        b"80010000000a00000000",
-    ),
-    (
-        b"800200000028000001924000000101000002030000020000000e4000000900000100056f776e6572",
-        b"80020000001300000000000000000000010000",
-    ),
-    (
-        b"8001000000150000016d0300000200010700080002",
-        b"80010000000a00000000",
-    ),
-    (b"80010000000e0000018c03000002", b"80010000000a00000000"),
-    (
-        b"8002000000460000014e01c07f0101c07f010000002c0300000200203f5f240ebf8a82c2c1df513d8134\
-d684eaca716a26966f02b0323cb1e579686e00000369647800040002",
-        b"80020000003900000000000000060004646174610020bbbbbbbbbbbbbbbbbbbbbbbbbbbbbbbbbbbbbbbb\
-bbbbbbbbbbbbbbbbbbbbbbbb000000",
-    ),
+const DEVICE: [Step; 10] = [
+    Step {
+        command: b"\x80\x01\x00\x00\x00\x3b\x00\x00\x01\x76\x40\x00\x00\x07\x40\x00\x00\x07\x00\x20\
+          \x18\x99\x9f\x7e\x07\xdd\x6b\xa2\x49\xea\xe3\x9d\x45\x4d\x2f\x46\x00\xf5\xa0\x7c\
+          \xf5\x87\x00\xd2\xaf\xf3\x91\x18\x14\xb2\xf2\xe4\x00\x00\x01\x00\x10\x00\x0b",
+        reply: b"\x80\x01\x00\x00\x00\x30\x00\x00\x00\x00\x03\x00\x00\x02\x00\x20\x55\x55\x55\x55\
+          \x55\x55\x55\x55\x55\x55\x55\x55\x55\x55\x55\x55\x55\x55\x55\x55\x55\x55\x55\x55\
+          \x55\x55\x55\x55\x55\x55\x55\x55",
+    },
+    Step {
+        command: b"\x80\x01\x00\x00\x00\x83\x00\x00\x01\x60\x80\x00\x00\x01\x03\x00\x00\x02\x00\x20\
+          \x55\x55\x55\x55\x55\x55\x55\x55\x55\x55\x55\x55\x55\x55\x55\x55\x55\x55\x55\x55\
+          \x55\x55\x55\x55\x55\x55\x55\x55\x55\x55\x55\x55\x00\x20\x77\x77\x77\x77\x77\x77\
+          \x77\x77\x77\x77\x77\x77\x77\x77\x77\x77\x77\x77\x77\x77\x77\x77\x77\x77\x77\x77\
+          \x77\x77\x77\x77\x77\x77\x00\x03\x72\x65\x66\xff\xff\xff\xfe\x00\x05\x00\x0b\xa6\
+          \xb9\xcc\xd9\x95\xcd\x95\xa8\xae\xc8\x9c\x41\x50\xf2\xef\x52\x5a\x40\x12\xbd\x39\
+          \x22\xa5\x2b\x9a\x88\x97\xa1\xad\xcc\xc9\x58",
+        reply: b"\x80\x01\x00\x00\x00\x14\x00\x00\x00\x00\x00\x00\x80\x25\x40\x00\x00\x07\x00\x00",
+    },
+    Step {
+        command: b"\x80\x02\x00\x00\x00\x49\x00\x00\x01\x51\x40\x00\x00\x0b\x03\x00\x00\x02\x00\x00\
+          \x00\x09\x40\x00\x00\x09\x00\x00\x01\x00\x00\x00\x20\x55\x55\x55\x55\x55\x55\x55\
+          \x55\x55\x55\x55\x55\x55\x55\x55\x55\x55\x55\x55\x55\x55\x55\x55\x55\x55\x55\x55\
+          \x55\x55\x55\x55\x55\x00\x00\x00\x00\x00\x00\x00\x00",
+        reply: b"\x80\x02\x00\x00\x00\x1d\x00\x00\x00\x00\x00\x00\x00\x0a\x00\x00\x80\x23\x40\x00\
+          \x00\x07\x00\x00\x00\x00\x01\x00\x00",
+    },
+    Step {
+        command: b"\x80\x02\x00\x00\x00\x2e\x00\x00\x01\x49\x01\xc0\x7f\x01\x01\xc0\x7f\x01\x03\x00\
+          \x00\x02\x00\x00\x00\x0c\x40\x00\x00\x09\x00\x00\x01\x00\x03\x69\x64\x78\x00\x02\
+          \x05\x06\x00\x01\x00\x09",
+        reply: b"\x80\x02\x00\x00\x00\x13\x00\x00\x00\x00\x00\x00\x00\x00\x00\x00\x01\x00\x00",
+    },
+    Step {
+        command: b"\x80\x01\x00\x00\x00\x54\x00\x00\x01\x77\x80\x00\x00\x01\x00\x20\xca\xf1\x78\x68\
+          \xe6\x12\xc2\xac\x34\x4d\x2c\xe3\x36\x2e\x3a\x95\xdc\xb6\xb9\xfa\xd7\x8a\x2f\xaf\
+          \xf6\xd1\xd9\x74\x55\x3d\xbf\xff\x00\x05\x00\x0b\x99\x99\x99\x99\x99\x99\x99\x99\
+          \x99\x99\x99\x99\x99\x99\x99\x99\x99\x99\x99\x99\x99\x99\x99\x99\x99\x99\x99\x99\
+          \x99\x99\x99\x99",
+        reply: b"\x80\x01\x00\x00\x00\x32\x00\x00\x00\x00\x80\x22\x40\x00\x00\x01\x00\x20\xaa\xaa\
+          \xaa\xaa\xaa\xaa\xaa\xaa\xaa\xaa\xaa\xaa\xaa\xaa\xaa\xaa\xaa\xaa\xaa\xaa\xaa\xaa\
+          \xaa\xaa\xaa\xaa\xaa\xaa\xaa\xaa\xaa\xaa",
+    },
+    Step {
+        command: b"\x80\x01\x00\x00\x00\x81\x00\x00\x01\x6a\x03\x00\x00\x02\x00\x20\x88\x88\x88\x88\
+          \x88\x88\x88\x88\x88\x88\x88\x88\x88\x88\x88\x88\x88\x88\x88\x88\x88\x88\x88\x88\
+          \x88\x88\x88\x88\x88\x88\x88\x88\x00\x03\x61\x70\x70\x00\x22\x00\x0b\x11\x11\x11\
+          \x11\x11\x11\x11\x11\x11\x11\x11\x11\x11\x11\x11\x11\x11\x11\x11\x11\x11\x11\x11\
+          \x11\x11\x11\x11\x11\x11\x11\x11\x11\x80\x22\x40\x00\x00\x01\x00\x20\xaa\xaa\xaa\
+          \xaa\xaa\xaa\xaa\xaa\xaa\xaa\xaa\xaa\xaa\xaa\xaa\xaa\xaa\xaa\xaa\xaa\xaa\xaa\xaa\
+          \xaa\xaa\xaa\xaa\xaa\xaa\xaa\xaa\xaa",
+        reply: b"\x80\x01\x00\x00\x00\x0a\x00\x00\x00\x00",
+    },
+    Step {
+        command: b"\x80\x02\x00\x00\x00\x28\x00\x00\x01\x92\x40\x00\x00\x01\x01\x00\x00\x02\x03\x00\
+          \x00\x02\x00\x00\x00\x0e\x40\x00\x00\x09\x00\x00\x01\x00\x05\x6f\x77\x6e\x65\x72",
+        reply: b"\x80\x02\x00\x00\x00\x13\x00\x00\x00\x00\x00\x00\x00\x00\x00\x00\x01\x00\x00",
+    },
+    Step {
+        command: b"\x80\x01\x00\x00\x00\x15\x00\x00\x01\x6d\x03\x00\x00\x02\x00\x01\x07\x00\x08\x00\
+          \x02",
+        reply: b"\x80\x01\x00\x00\x00\x0a\x00\x00\x00\x00",
+    },
+    Step {
+        command: b"\x80\x01\x00\x00\x00\x0e\x00\x00\x01\x8c\x03\x00\x00\x02",
+        reply: b"\x80\x01\x00\x00\x00\x0a\x00\x00\x00\x00",
+    },
+    Step {
+        command: b"\x80\x02\x00\x00\x00\x46\x00\x00\x01\x4e\x01\xc0\x7f\x01\x01\xc0\x7f\x01\x00\x00\
+          \x00\x2c\x03\x00\x00\x02\x00\x20\x3f\x5f\x24\x0e\xbf\x8a\x82\xc2\xc1\xdf\x51\x3d\
+          \x81\x34\xd6\x84\xea\xca\x71\x6a\x26\x96\x6f\x02\xb0\x32\x3c\xb1\xe5\x79\x68\x6e\
+          \x00\x00\x03\x69\x64\x78\x00\x04\x00\x02",
+        reply: b"\x80\x02\x00\x00\x00\x39\x00\x00\x00\x00\x00\x00\x00\x06\x00\x04\x64\x61\x74\x61\
+          \x00\x20\xbb\xbb\xbb\xbb\xbb\xbb\xbb\xbb\xbb\xbb\xbb\xbb\xbb\xbb\xbb\xbb\xbb\xbb\
+          \xbb\xbb\xbb\xbb\xbb\xbb\xbb\xbb\xbb\xbb\xbb\xbb\xbb\xbb\x00\x00\x00",
+    },
 ];
 
-/// Replies of the run of `disk` that fail: how many replies come before, the reply, and its end in words.
-/// Replies that fail in the run of the disk: the count of replies before, the reply, the code that denies (0
-/// where the reply is bad), and the stage.
-const DISK_FAILURES: [(usize, &[u8], u32, Stage); 10] = [
-    (0, b"80010000000a00000903", 0x903, Stage::Start),
-    (0, b"80010000000a00000000", 0, Stage::Start),
-    (1, b"80010000000a000001c4", 0x1c4, Stage::Move(1)),
-    (3, b"80010000000a000000", 0, Stage::Move(3)),
-    (4, b"80010000000a000009a3", 0x9a3, Stage::Goal),
-    (4, b"80010000000a00000000", 0, Stage::Goal),
-    (
-        4,
-        b"800200000057000000000000000500036b6579001f651d25737d57d8b1a2d103af4aaee599180f87444b\
-4f20b69d2ca1ec95edf60000206dbb66b5aec0643c605a59ac2513c9136982b4134ccb0cd3cb4e9a9c71\
-23329d",
-        0,
-        Stage::Goal,
-    ),
-    (
-        4,
-        b"800200000058000000000000000500036b65790020651d25737d57d8b1a2d103af4aaee599180f87444b\
-4f20b69d2ca1ec95edf63c010020e028e8531b8f3dd863c9db22c878f5509ab6066ee86d7c6cd9e07af5\
-2605ff85",
-        0,
-        Stage::Goal,
-    ),
-    (
-        4,
-        b"800200000058000000000000000500036b65790020651d25737d57d8b1a2d103af4aaee599180f87444b\
-4f20b69d2ca1ec95edf63c000020d62e61943e527754b1019cec664beb0acabb2fdd1c3756045d5b2cf7\
-bc409c88",
-        0,
-        Stage::Goal,
-    ),
-    (
-        4,
-        b"800200000038000000000000000500036b65790020651d25737d57d8b1a2d103af4aaee599180f87444b\
-4f20b69d2ca1ec95edf63c000000",
-        0,
-        Stage::Goal,
-    ),
+/// Replies that fail in the run of the disk.
+const DISK_FAILURES: [Failing; 10] = [
+    Failing {
+        place: 0,
+        reply: b"\x80\x01\x00\x00\x00\x0a\x00\x00\x09\x03",
+        code: 0x903,
+        stage: Stage::Start,
+    },
+    Failing {
+        place: 0,
+        reply: b"\x80\x01\x00\x00\x00\x0a\x00\x00\x00\x00",
+        code: 0,
+        stage: Stage::Start,
+    },
+    Failing {
+        place: 1,
+        reply: b"\x80\x01\x00\x00\x00\x0a\x00\x00\x01\xc4",
+        code: 0x1c4,
+        stage: Stage::Move(1),
+    },
+    Failing {
+        place: 3,
+        reply: b"\x80\x01\x00\x00\x00\x0a\x00\x00\x00",
+        code: 0,
+        stage: Stage::Move(3),
+    },
+    Failing {
+        place: 4,
+        reply: b"\x80\x01\x00\x00\x00\x0a\x00\x00\x09\xa3",
+        code: 0x9a3,
+        stage: Stage::Goal,
+    },
+    Failing {
+        place: 4,
+        reply: b"\x80\x01\x00\x00\x00\x0a\x00\x00\x00\x00",
+        code: 0,
+        stage: Stage::Goal,
+    },
+    Failing {
+        place: 4,
+        reply: b"\x80\x02\x00\x00\x00\x57\x00\x00\x00\x00\x00\x00\x00\x05\x00\x03\x6b\x65\x79\x00\
+          \x1f\x65\x1d\x25\x73\x7d\x57\xd8\xb1\xa2\xd1\x03\xaf\x4a\xae\xe5\x99\x18\x0f\x87\
+          \x44\x4b\x4f\x20\xb6\x9d\x2c\xa1\xec\x95\xed\xf6\x00\x00\x20\x6d\xbb\x66\xb5\xae\
+          \xc0\x64\x3c\x60\x5a\x59\xac\x25\x13\xc9\x13\x69\x82\xb4\x13\x4c\xcb\x0c\xd3\xcb\
+          \x4e\x9a\x9c\x71\x23\x32\x9d",
+        code: 0,
+        stage: Stage::Goal,
+    },
+    Failing {
+        place: 4,
+        reply: b"\x80\x02\x00\x00\x00\x58\x00\x00\x00\x00\x00\x00\x00\x05\x00\x03\x6b\x65\x79\x00\
+          \x20\x65\x1d\x25\x73\x7d\x57\xd8\xb1\xa2\xd1\x03\xaf\x4a\xae\xe5\x99\x18\x0f\x87\
+          \x44\x4b\x4f\x20\xb6\x9d\x2c\xa1\xec\x95\xed\xf6\x3c\x01\x00\x20\xe0\x28\xe8\x53\
+          \x1b\x8f\x3d\xd8\x63\xc9\xdb\x22\xc8\x78\xf5\x50\x9a\xb6\x06\x6e\xe8\x6d\x7c\x6c\
+          \xd9\xe0\x7a\xf5\x26\x05\xff\x85",
+        code: 0,
+        stage: Stage::Goal,
+    },
+    Failing {
+        place: 4,
+        reply: b"\x80\x02\x00\x00\x00\x58\x00\x00\x00\x00\x00\x00\x00\x05\x00\x03\x6b\x65\x79\x00\
+          \x20\x65\x1d\x25\x73\x7d\x57\xd8\xb1\xa2\xd1\x03\xaf\x4a\xae\xe5\x99\x18\x0f\x87\
+          \x44\x4b\x4f\x20\xb6\x9d\x2c\xa1\xec\x95\xed\xf6\x3c\x00\x00\x20\xd6\x2e\x61\x94\
+          \x3e\x52\x77\x54\xb1\x01\x9c\xec\x66\x4b\xeb\x0a\xca\xbb\x2f\xdd\x1c\x37\x56\x04\
+          \x5d\x5b\x2c\xf7\xbc\x40\x9c\x88",
+        code: 0,
+        stage: Stage::Goal,
+    },
+    Failing {
+        place: 4,
+        reply: b"\x80\x02\x00\x00\x00\x38\x00\x00\x00\x00\x00\x00\x00\x05\x00\x03\x6b\x65\x79\x00\
+          \x20\x65\x1d\x25\x73\x7d\x57\xd8\xb1\xa2\xd1\x03\xaf\x4a\xae\xe5\x99\x18\x0f\x87\
+          \x44\x4b\x4f\x20\xb6\x9d\x2c\xa1\xec\x95\xed\xf6\x3c\x00\x00\x00",
+        code: 0,
+        stage: Stage::Goal,
+    },
 ];
 
 /// The same in the run of the device.
-const DEVICE_FAILURES: [(usize, &[u8], u32, Stage); 4] = [
-    (4, b"80010000000a000002db", 0x2db, Stage::Verify(4)),
-    (4, b"80010000000a00000000", 0, Stage::Verify(4)),
-    (5, b"80010000000a000004c4", 0x4c4, Stage::Move(4)),
-    (
-        9,
-        b"80020000005900000000000000060004646174610020bbbbbbbbbbbbbbbbbbbbbbbbbbbbbbbbbbbbbbbb\
-bbbbbbbbbbbbbbbbbbbbbbbb000020000000000000000000000000000000000000000000000000000000\
-0000000000",
-        0,
-        Stage::Goal,
-    ),
+const DEVICE_FAILURES: [Failing; 4] = [
+    Failing {
+        place: 4,
+        reply: b"\x80\x01\x00\x00\x00\x0a\x00\x00\x02\xdb",
+        code: 0x2db,
+        stage: Stage::Verify(4),
+    },
+    Failing {
+        place: 4,
+        reply: b"\x80\x01\x00\x00\x00\x0a\x00\x00\x00\x00",
+        code: 0,
+        stage: Stage::Verify(4),
+    },
+    Failing {
+        place: 5,
+        reply: b"\x80\x01\x00\x00\x00\x0a\x00\x00\x04\xc4",
+        code: 0x4c4,
+        stage: Stage::Move(4),
+    },
+    Failing {
+        place: 9,
+        reply: b"\x80\x02\x00\x00\x00\x59\x00\x00\x00\x00\x00\x00\x00\x06\x00\x04\x64\x61\x74\x61\
+          \x00\x20\xbb\xbb\xbb\xbb\xbb\xbb\xbb\xbb\xbb\xbb\xbb\xbb\xbb\xbb\xbb\xbb\xbb\xbb\
+          \xbb\xbb\xbb\xbb\xbb\xbb\xbb\xbb\xbb\xbb\xbb\xbb\xbb\xbb\x00\x00\x20\x00\x00\x00\
+          \x00\x00\x00\x00\x00\x00\x00\x00\x00\x00\x00\x00\x00\x00\x00\x00\x00\x00\x00\x00\
+          \x00\x00\x00\x00\x00\x00\x00\x00\x00",
+        code: 0,
+        stage: Stage::Goal,
+    },
 ];
 
-/// FlushContext of each session.
-const FLUSHES: [&[u8]; 2] = [
-    b"80010000000e0000016503000000",
-    b"80010000000e0000016503000002",
-];
+/// FlushContext of the disk's session.
+const DISK_FLUSH: &[u8] = b"\x80\x01\x00\x00\x00\x0e\x00\x00\x01\x65\x03\x00\x00\x00";
 
-/// The digests of the branches `boot` and `owner`.
-const BRANCHES: [&[u8]; 2] = [
-    b"90938e03c6356505a182cf9c166daa30c0a69c6f13f6bbca777df6a883ddf7b6",
-    b"51ae7a4ab4b3efddded3e878f92bec2c9f5e2e88b9c7e67e1b229694ef4b90f2",
-];
+/// FlushContext of the device's session.
+const DEVICE_FLUSH: &[u8] = b"\x80\x01\x00\x00\x00\x0e\x00\x00\x01\x65\x03\x00\x00\x02";
 
-/// The nonce seed of run 1, the digest of the PCRs 0, 2, 4 and 7 at zero, and the digest in the Name of the disk key.
-const DIGESTS: [&[u8]; 3] = [
-    b"3e099991de6752164ae478d6a4e5116156dab8bae52e11a5c82bf4c180e17001",
-    b"38723a2e5e8a17aa7950dc008209944e898f69a7bd10a23c839d341e935fd5ca",
-    b"01170c0cccc38ea2eb6129dc09e97f4ee713351d167181e97c8c8b9f32c7395e",
-];
+/// The digest of the branch `boot`.
+const BOOT: Digest32 = Digest32 {
+    bytes: *b"\x90\x93\x8e\x03\xc6\x35\x65\x05\xa1\x82\xcf\x9c\x16\x6d\xaa\x30\xc0\xa6\x9c\x6f\
+      \x13\xf6\xbb\xca\x77\x7d\xf6\xa8\x83\xdd\xf7\xb6",
+};
 
-fn digest(alloc: Global, text: &[u8]) -> Result<Digest32, Fail> {
-    let bytes = hex::decode(alloc, text)?;
-    if bytes.len() != 32 {
-        return Err("no digest".into());
-    }
-    Ok(Digest32::from_slice(bytes.as_slice()))
-}
+/// The digest of the branch `owner`.
+const OWNER: Digest32 = Digest32 {
+    bytes: *b"\x51\xae\x7a\x4a\xb4\xb3\xef\xdd\xde\xd3\xe8\x78\xf9\x2b\xec\x2c\x9f\x5e\x2e\x88\
+      \xb9\xc7\xe6\x7e\x1b\x22\x96\x94\xef\x4b\x90\xf2",
+};
 
-fn filled(byte: u8) -> Digest32 {
-    Digest32 { bytes: [byte; 32] }
-}
+/// The nonce seed of run 1.
+const NONCE_SEED: Digest32 = Digest32 {
+    bytes: *b"\x3e\x09\x99\x91\xde\x67\x52\x16\x4a\xe4\x78\xd6\xa4\xe5\x11\x61\x56\xda\xb8\xba\
+      \xe5\x2e\x11\xa5\xc8\x2b\xf4\xc1\x80\xe1\x70\x01",
+};
 
-fn blob(alloc: Global, bytes: &[u8]) -> Result<Blob, NoMemory> {
-    Blob::from_slice(alloc, bytes)
-}
+/// The digest of the PCRs 0, 2, 4 and 7 at zero.
+const ZERO_PCRS: Digest32 = Digest32 {
+    bytes: *b"\x38\x72\x3a\x2e\x5e\x8a\x17\xaa\x79\x50\xdc\x00\x82\x09\x94\x4e\x89\x8f\x69\xa7\
+      \xbd\x10\xa2\x3c\x83\x9d\x34\x1e\x93\x5f\xd5\xca",
+};
+
+/// The digest in the Name of the disk key.
+const DISK_KEY: Digest32 = Digest32 {
+    bytes: *b"\x01\x17\x0c\x0c\xcc\xc3\x8e\xa2\xeb\x61\x29\xdc\x09\xe9\x7f\x4e\xe7\x13\x35\x1d\
+      \x16\x71\x81\xe9\x7c\x8c\x8b\x9f\x32\xc7\x39\x5e",
+};
+
+const KEY: Name = Name::Hash(Digest32 { bytes: [0x11; 32] });
+
+const COUNTER: Name = Name::Hash(Digest32 { bytes: [0x22; 32] });
+
+const APPROVALS: Name = Name::Hash(Digest32 { bytes: [0x33; 32] });
+
+const APPROVED: Digest32 = Digest32 { bytes: [0x88; 32] };
 
 fn secrets(alloc: Global, values: &[(u32, &[u8])]) -> Result<Secrets, NoMemory> {
     let mut secrets = Sequence::new(alloc);
     for (handle, value) in values {
-        secrets.push((*handle, blob(alloc, value)?))?;
+        secrets.push((*handle, Blob::from_slice(alloc, value)?))?;
     }
     Ok(secrets)
 }
@@ -217,123 +331,141 @@ fn path(alloc: Global, moves: Moves) -> Path {
     }
 }
 
-fn disk_moves(alloc: Global) -> Result<Moves, Fail> {
-    let pcr_digest = digest(alloc, DIGESTS[1])?;
-    let branches = [digest(alloc, BRANCHES[0])?, digest(alloc, BRANCHES[1])?];
-    let mut moves = Sequence::new(alloc);
-    moves.push(Move::Assert(Assertion::Pcr {
-        mask: 0x95,
-        pcr_digest,
-        values: Digests::new(alloc),
-    }))?;
-    moves.push(Move::Assert(Assertion::AuthValue))?;
-    moves.push(Move::Or(Digests::from_slice(alloc, &branches)?))?;
-    Ok(moves)
+fn disk_move(alloc: Global, place: u32) -> Result<Move, NoMemory> {
+    match place {
+        0 => Ok(Move::Assert(Assertion::Pcr {
+            mask: 0x95,
+            pcr_digest: ZERO_PCRS,
+            values: Digests::new(alloc),
+        })),
+        1 => Ok(Move::Assert(Assertion::AuthValue)),
+        _ => Ok(Move::Or(Digests::from_slice(alloc, &[BOOT, OWNER])?)),
+    }
 }
 
-/// The branch `boot` of the policy of a disk key: PCRs and the value of the key.
-fn disk(alloc: Global) -> Result<Plan, Fail> {
-    let key = Name::Hash(digest(alloc, DIGESTS[2])?);
-    let nonce_seed = digest(alloc, DIGESTS[0])?;
-    let directory = directory(alloc, &[(0x8000_0000, key, 0x40)])?;
-    let secrets = secrets(alloc, &[(0x8000_0000, b"pin")])?;
-    Ok(Plan {
-        path: path(alloc, disk_moves(alloc)?),
-        goal: Goal::Unseal {
-            object: 0x8000_0000,
-        },
-        grants: Grants {
-            secrets,
-            keys: Sequence::new(alloc),
-        },
-        directory,
-        nonce_seed,
+fn disk_path(alloc: Global) -> Result<Path, NoMemory> {
+    let mut moves = Sequence::new(alloc);
+    for place in 0..3 {
+        moves.push(disk_move(alloc, place)?)?;
+    }
+    Ok(path(alloc, moves))
+}
+
+fn disk_grants(alloc: Global) -> Result<Grants, NoMemory> {
+    Ok(Grants {
+        secrets: secrets(alloc, &[(0x8000_0000, b"pin")])?,
+        keys: Sequence::new(alloc),
     })
 }
 
-const KEY: Name = Name::Hash(Digest32 { bytes: [0x11; 32] });
-
-const COUNTER: Name = Name::Hash(Digest32 { bytes: [0x22; 32] });
-
-const APPROVALS: Name = Name::Hash(Digest32 { bytes: [0x33; 32] });
-
-fn signed(alloc: Global) -> Result<Move, NoMemory> {
-    Ok(Move::Assert(Assertion::Signed {
-        key: KEY,
-        policy_ref: blob(alloc, b"ref")?,
-        cp_hash: Some(filled(0x77)),
-        expiration: -2,
-    }))
+/// The branch `boot` of the policy of a disk key: PCRs and the value of the key.
+fn disk(alloc: Global) -> Result<Plan, NoMemory> {
+    let path = disk_path(alloc)?;
+    let grants = disk_grants(alloc)?;
+    let directory = directory(alloc, &[(0x8000_0000, Name::Hash(DISK_KEY), 0x40)])?;
+    Ok(Plan {
+        path,
+        goal: Goal::Unseal {
+            object: 0x8000_0000,
+        },
+        grants,
+        directory,
+        nonce_seed: NONCE_SEED,
+    })
 }
 
-fn secret(alloc: Global) -> Move {
-    Move::Assert(Assertion::Secret {
+fn signed(alloc: Global) -> Result<Assertion, NoMemory> {
+    Ok(Assertion::Signed {
+        key: KEY,
+        policy_ref: Blob::from_slice(alloc, b"ref")?,
+        cp_hash: Some(Digest32 { bytes: [0x77; 32] }),
+        expiration: -2,
+    })
+}
+
+fn secret(alloc: Global) -> Assertion {
+    Assertion::Secret {
         entity: Name::Handle(0x4000_000b),
         policy_ref: Blob::new(alloc),
         cp_hash: None,
         expiration: 0,
-    })
+    }
 }
 
-fn counter(alloc: Global) -> Result<Move, NoMemory> {
-    Ok(Move::Assert(Assertion::Nv {
+fn counter(alloc: Global) -> Result<Assertion, NoMemory> {
+    Ok(Assertion::Nv {
         index: COUNTER,
-        operand: blob(alloc, b"\x05\x06")?,
+        operand: Blob::from_slice(alloc, b"\x05\x06")?,
         offset: 1,
         operation: Compare::UnsignedLe,
-    }))
+    })
 }
 
 fn approval(alloc: Global) -> Result<Move, NoMemory> {
     Ok(Move::Approve {
         key: KEY,
-        policy_ref: blob(alloc, b"app")?,
-        approved: filled(0x88),
-        signature: filled(0x99),
+        policy_ref: Blob::from_slice(alloc, b"app")?,
+        approved: APPROVED,
+        signature: Digest32 { bytes: [0x99; 32] },
     })
 }
 
-fn timer(alloc: Global) -> Result<Move, NoMemory> {
-    Ok(Move::Assert(Assertion::CounterTimer {
-        operand: blob(alloc, b"\x07")?,
+fn timer(alloc: Global) -> Result<Assertion, NoMemory> {
+    Ok(Assertion::CounterTimer {
+        operand: Blob::from_slice(alloc, b"\x07")?,
         offset: 8,
         operation: Compare::SignedGt,
-    }))
+    })
 }
 
-fn device_moves(alloc: Global) -> Result<Moves, NoMemory> {
+fn device_move(alloc: Global, place: u32) -> Result<Move, NoMemory> {
+    match place {
+        0 => Ok(Move::Assert(signed(alloc)?)),
+        1 => Ok(Move::Assert(secret(alloc))),
+        2 => Ok(Move::Assert(counter(alloc)?)),
+        3 => approval(alloc),
+        4 => Ok(Move::ApproveNv {
+            index: APPROVALS,
+            approved: APPROVED,
+        }),
+        5 => Ok(Move::Assert(timer(alloc)?)),
+        _ => Ok(Move::Assert(Assertion::Password)),
+    }
+}
+
+fn device_path(alloc: Global) -> Result<Path, NoMemory> {
     let mut moves = Sequence::new(alloc);
-    moves.push(signed(alloc)?)?;
-    moves.push(secret(alloc))?;
-    moves.push(counter(alloc)?)?;
-    moves.push(approval(alloc)?)?;
-    moves.push(Move::ApproveNv {
-        index: APPROVALS,
-        approved: filled(0x88),
-    })?;
-    moves.push(timer(alloc)?)?;
-    moves.push(Move::Assert(Assertion::Password))?;
-    Ok(moves)
+    for place in 0..7 {
+        moves.push(device_move(alloc, place)?)?;
+    }
+    Ok(path(alloc, moves))
 }
 
 fn device_grants(alloc: Global) -> Result<Grants, NoMemory> {
+    let secrets_of_it = secrets(alloc, &[(0x4000_0001, b"owner"), (0x01c0_7f01, b"idx")])?;
+    let keys = secrets(alloc, &[(0x8000_0001, b"hmackey")])?;
     Ok(Grants {
-        secrets: secrets(alloc, &[(0x4000_0001, b"owner"), (0x01c0_7f01, b"idx")])?,
-        keys: secrets(alloc, &[(0x8000_0001, b"hmackey")])?,
+        secrets: secrets_of_it,
+        keys,
     })
 }
 
-/// A path with each command that takes a handle, a value or a key, and a goal by password.
-fn device(alloc: Global) -> Result<Plan, Fail> {
+fn device_directory(alloc: Global) -> Result<Directory, NoMemory> {
     let lines = [
         (0x8000_0001, KEY, 0x4_0040),
         (0x01c0_7f01, COUNTER, 0x2004_0004),
         (0x0100_0002, APPROVALS, 0x2004_0004),
     ];
-    let directory = directory(alloc, &lines)?;
+    directory(alloc, &lines)
+}
+
+/// A path with each command that takes a handle, a value or a key, and a goal by password.
+fn device(alloc: Global) -> Result<Plan, NoMemory> {
+    let path = device_path(alloc)?;
     let grants = device_grants(alloc)?;
+    let directory = device_directory(alloc)?;
     Ok(Plan {
-        path: path(alloc, device_moves(alloc)?),
+        path,
         goal: Goal::NvRead {
             index: 0x01c0_7f01,
             size: 4,
@@ -341,169 +473,145 @@ fn device(alloc: Global) -> Result<Plan, Fail> {
         },
         grants,
         directory,
-        nonce_seed: filled(0x66),
+        nonce_seed: Digest32 { bytes: [0x66; 32] },
     })
 }
 
-/// The next command of a run that has begun; nothing at its end.
-fn next(alloc: Global, state: &Next) -> Result<Blob, NoMemory> {
-    match state {
-        Next::Asserting(state) => state.next(alloc),
-        Next::Ready(state) => state.next(alloc),
-        Next::Closing(state) => state.next(alloc),
-        Next::Over(_) => Ok(Blob::new(alloc)),
+/// Whether this command was made, and is the one that is wanted.
+fn is_made(made: Result<Blob, NoMemory>, command: &[u8]) -> bool {
+    match made {
+        Ok(bytes) => bytes.as_slice() == command,
+        Err(_) => false,
     }
 }
 
-fn take(alloc: Global, state: Next, reply: &[u8]) -> Result<Next, NoMemory> {
-    match state {
-        Next::Asserting(state) => state.take(alloc, reply).map_err(|refused| refused.1),
-        Next::Ready(state) => state.take(alloc, reply).map_err(|refused| refused.1),
-        Next::Closing(state) => state.take(alloc, reply).map_err(|refused| refused.1),
-        Next::Over(over) => Ok(Next::Over(over)),
-    }
-}
+// One command and its reply in each state: the state after them, nothing where the command is another one.
 
-/// Whether the bytes are those of this text.
-fn is(alloc: Global, bytes: &Blob, text: &[u8]) -> Result<bool, Fail> {
-    Ok(bytes.as_slice() == hex::decode(alloc, text)?.as_slice())
-}
-
-/// The state after the first reply, and whether the first command was right.
-fn start(alloc: Global, plan: Plan, command: &[u8], reply: &[u8]) -> Result<(bool, Next), Fail> {
+fn at_start(alloc: Global, plan: Plan, command: &[u8], reply: &[u8]) -> Option<Next> {
     if !plan.complete() || plan.path.moves.len() > 512 {
-        return Err("no plan to carry out".into());
+        return None;
     }
-    let planned = Planned::new(plan);
-    let right = is(alloc, &planned.next(alloc)?, command)?;
-    match planned.take(alloc, hex::decode(alloc, reply)?.as_slice()) {
-        Ok(state) => Ok((right, state)),
-        Err((_, no_memory)) => Err(no_memory.into()),
-    }
-}
-
-/// The state after one reply, and whether the command was right.
-fn step(alloc: Global, state: Next, command: &[u8], reply: &[u8]) -> Result<(bool, Next), Fail> {
-    let right = is(alloc, &next(alloc, &state)?, command)?;
-    let bytes = hex::decode(alloc, reply)?;
-    Ok((right, take(alloc, state, bytes.as_slice())?))
-}
-
-/// The state after all replies of a run but the last, and another last one, and whether the commands were
-/// right.
-fn run(
-    alloc: Global,
-    plan: Plan,
-    steps: &[(&[u8], &[u8])],
-    last: &[u8],
-) -> Result<(bool, Next), Fail> {
-    let (mut right, mut state) = match steps {
-        [] => return Err("no steps".into()),
-        [(command, _)] => start(alloc, plan, command, last)?,
-        [(command, reply), ..] => start(alloc, plan, command, reply)?,
-    };
-    for (place, (command, reply)) in steps.iter().enumerate() {
-        if place > 0 {
-            let reply = if place + 1 == steps.len() {
-                last
-            } else {
-                *reply
-            };
-            let (same, next) = step(alloc, state, command, reply)?;
-            right = right && same;
-            state = next;
-        }
-    }
-    Ok((right, state))
-}
-
-/// The state after a FlushContext of this text, which no reply answers, where the run is not over.
-fn closed(alloc: Global, state: Next, flush: &[u8]) -> Result<Next, Fail> {
-    if let Next::Closing(closing) = &state {
-        if !is(alloc, &closing.next(alloc)?, flush)? {
-            return Err("another command".into());
-        }
-    }
-    Ok(take(alloc, state, b"")?)
-}
-
-/// What a run was served; nothing where it was not.
-fn served(state: &Next) -> &[u8] {
-    match state {
-        Next::Over(over) => match &over.end {
-            End::Served(bytes) => bytes.as_slice(),
-            _ => b"",
-        },
-        _ => b"",
-    }
-}
-
-/// The code that denied a run, 0 where a reply was bad, and the stage; `None` for another state.
-fn failure(state: &Next) -> Option<(u32, Stage)> {
-    match state {
-        Next::Over(over) => match &over.end {
-            End::Denied { at, rc } => Some((rc.code, *at)),
-            End::BadReply(stage) => Some((0, *stage)),
-            End::Served(_) => None,
-        },
-        _ => None,
-    }
-}
-
-/// The first steps, so many and one more.
-fn front_of<'a>(
-    steps: &'a [(&'a [u8], &'a [u8])],
-    count: usize,
-) -> Option<&'a [(&'a [u8], &'a [u8])]> {
-    if count < steps.len() {
-        Some(&steps[..count + 1])
+    let state = Planned::new(plan);
+    if is_made(state.next(alloc), command) {
+        state.take(alloc, reply).ok()
     } else {
         None
     }
 }
 
-/// Whether a run sends its commands, ends its session by this FlushContext, and fails so.
-fn fails(
-    alloc: Global,
-    plan: Plan,
-    steps: &[(&[u8], &[u8])],
-    flush: &[u8],
-    failing: &(usize, &[u8], u32, Stage),
-) -> Result<bool, Fail> {
-    let (count, reply, code, stage) = failing;
-    let Some(steps) = front_of(steps, *count) else {
-        return Ok(false);
-    };
-    let (right, state) = run(alloc, plan, steps, reply)?;
-    let state = closed(alloc, state, flush)?;
-    Ok(right && failure(&state) == Some((*code, *stage)))
+fn on_path(alloc: Global, state: Asserting, command: &[u8], reply: &[u8]) -> Option<Next> {
+    if is_made(state.next(alloc), command) {
+        state.take(alloc, reply).ok()
+    } else {
+        None
+    }
 }
 
-/// Whether a run sends its commands and is served these bytes.
-fn serves(alloc: Global, plan: Plan, steps: &[(&[u8], &[u8])], bytes: &[u8]) -> Result<bool, Fail> {
-    let Some((_, last)) = steps.last() else {
-        return Ok(false);
+fn at_goal(alloc: Global, state: Ready, command: &[u8], reply: &[u8]) -> Option<Next> {
+    if is_made(state.next(alloc), command) {
+        state.take(alloc, reply).ok()
+    } else {
+        None
+    }
+}
+
+fn at_end(alloc: Global, state: Closing, command: &[u8], reply: &[u8]) -> Option<Next> {
+    if is_made(state.next(alloc), command) {
+        state.take(alloc, reply).ok()
+    } else {
+        None
+    }
+}
+
+fn turn(alloc: Global, state: Next, command: &[u8], reply: &[u8]) -> Option<Next> {
+    match state {
+        Next::Asserting(state) => on_path(alloc, state, command, reply),
+        Next::Ready(state) => at_goal(alloc, state, command, reply),
+        Next::Closing(state) => at_end(alloc, state, command, reply),
+        Next::Over(_) => None,
+    }
+}
+
+/// The end of a run by these steps.
+fn end_of(alloc: Global, plan: Plan, steps: &[Step]) -> Option<End> {
+    let Some((first, rest)) = steps.split_first() else {
+        return None;
     };
-    let (right, state) = run(alloc, plan, steps, last)?;
-    Ok(right && served(&state) == bytes)
+    let mut state = at_start(alloc, plan, first.command, first.reply)?;
+    for step in rest {
+        state = turn(alloc, state, step.command, step.reply)?;
+    }
+    match state {
+        Next::Over(over) => Some(over.end),
+        _ => None,
+    }
+}
+
+/// The steps up to the one that fails, that one with its reply, and the flush of the session, which no reply
+/// answers.
+fn failing_steps(
+    alloc: Global,
+    steps: &[Step],
+    failing: &Failing,
+    flush: &'static [u8],
+) -> Result<Vec<Step>, AllocError> {
+    let mut out = Vec::new(alloc);
+    for (place, step) in steps.iter().enumerate() {
+        if place < failing.place {
+            out.push(*step)?;
+        } else if place == failing.place {
+            out.push(Step {
+                command: step.command,
+                reply: failing.reply,
+            })?;
+        }
+    }
+    if failing.place > 0 {
+        out.push(Step {
+            command: flush,
+            reply: b"",
+        })?;
+    }
+    Ok(out)
+}
+
+/// Whether a run was served these bytes.
+fn served(end: &Option<End>, wanted: &[u8]) -> bool {
+    match end {
+        Some(End::Served(bytes)) => bytes.as_slice() == wanted,
+        _ => false,
+    }
+}
+
+/// Whether a run was denied by this code at this stage, or heard a bad reply there where the code is 0.
+fn failed(end: &Option<End>, code: u32, stage: Stage) -> bool {
+    match end {
+        Some(End::Denied { at, rc }) => rc.code == code && *at == stage,
+        Some(End::BadReply(at)) => code == 0 && *at == stage,
+        _ => false,
+    }
 }
 
 #[test]
 fn runs_that_are_served(rt: HostRuntime) -> Result<(), Fail> {
-    assert!(rt; serves(rt.alloc(), disk(rt.alloc())?, &DISK, b"key")?);
-    assert!(rt; serves(rt.alloc(), device(rt.alloc())?, &DEVICE, b"data")?);
+    let end = end_of(rt.alloc(), disk(rt.alloc())?, &DISK);
+    assert!(rt; served(&end, b"key"));
+    let end = end_of(rt.alloc(), device(rt.alloc())?, &DEVICE);
+    assert!(rt; served(&end, b"data"));
     Ok(())
 }
 
 #[test]
 fn runs_that_fail(rt: HostRuntime) -> Result<(), Fail> {
     for failing in &DISK_FAILURES {
-        let plan = disk(rt.alloc())?;
-        assert!(rt; fails(rt.alloc(), plan, &DISK, FLUSHES[0], failing)?);
+        let steps = failing_steps(rt.alloc(), &DISK, failing, DISK_FLUSH)?;
+        let end = end_of(rt.alloc(), disk(rt.alloc())?, steps.as_slice());
+        assert!(rt; failed(&end, failing.code, failing.stage));
     }
     for failing in &DEVICE_FAILURES {
-        let plan = device(rt.alloc())?;
-        assert!(rt; fails(rt.alloc(), plan, &DEVICE, FLUSHES[1], failing)?);
+        let steps = failing_steps(rt.alloc(), &DEVICE, failing, DEVICE_FLUSH)?;
+        let end = end_of(rt.alloc(), device(rt.alloc())?, steps.as_slice());
+        assert!(rt; failed(&end, failing.code, failing.stage));
     }
     Ok(())
 }

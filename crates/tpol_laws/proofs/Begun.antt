@@ -26,6 +26,7 @@ use Rattle.tpol_prepare.specs.declared.documents.FilledDocument.{FilledDocument}
 use Rattle.tpol_prepare.specs.declared.scenario.Scenario.{Scenario}
 use Rattle.tpol_prepare.specs.declared.scenario.StagedScene.{StagedScene}
 use Rattle.tpol_prepare.specs.Scenario.{IsWalkable, grants_of, is_client, is_document, no_grants, paths_in, paths_named}
+use Rattle.tpol_prepare.specs.Staged.{IsStaged}
 use Rattle.tpol_runs.specs.Courses.{begun as begun_underway}
 use Rattle.tpol_runs.specs.Runs.{has_number, run_at, run_in}
 use Rattle.tpol_scene.specs.declared.script.ScriptEvent.{ScriptEvent}
@@ -36,7 +37,7 @@ use Rattle.tpol_tree.specs.declared.path.Path.{Path}
 use Rattle.tpol_tree.specs.Bounds.{HasClosedBounds}
 use Rattle.tpol_laws.specs.Acts.{Run}
 use Rattle.tpol_laws.specs.Runs.{IsBegun}
-use Rattle.tpol_laws.specs.Told.{AreBlocksOf, BeginsNowhere, BeginsOn, IsStaged, RunOf, before_begin, begins, behind_begin, chosen_for, paths_for, sight_at_begin}
+use Rattle.tpol_laws.specs.Told.{AreBlocksOf, BeginsNowhere, BeginsOn, RunOf, before_begin, begins, behind_begin, chosen_for, paths_for, sight_at_begin}
 use Rattle.tpol_laws.proofs.Finds.{all-at, find-each}
 use Rattle.tpol_laws.proofs.Followed.{any, allows-any}
 use Rattle.tpol_laws.proofs.Prints.{IsBehind, IsOther, Spares, all-spare, found-begun}

@@ -16,6 +16,7 @@ use Rattle.tpol_perform.specs.Script.{all_happened, happened, performed, turn_to
 use Rattle.tpol_perform.specs.Turns.{turned, turned_by, turned_times, turned_to_end, turned_to_end_by}
 use Rattle.tpol_prepare.specs.declared.scenario.Scenario.{Scenario}
 use Rattle.tpol_prepare.specs.declared.scenario.StagedScene.{StagedScene}
+use Rattle.tpol_prepare.specs.Staged.{IsStaged}
 use Rattle.tpol_runs.specs.Courses.{next_of}
 use Rattle.tpol_runs.specs.Runs.{has_number, run_at, run_in}
 use Rattle.tpol_scene.specs.declared.script.ScriptEvent.{ScriptEvent}
@@ -23,7 +24,7 @@ use Rattle.tpol_scene.specs.declared.script.ScriptEvent.TheVariants.{Begin, Turn
 use Rattle.tpol_tree.specs.declared.path.Path.{Path}
 use Rattle.tpm_engine.specs.Sights.{sight_after}
 use Rattle.tpol_laws.specs.Acts.{begun}
-use Rattle.tpol_laws.specs.Told.{BeginsNowhere, BeginsOn, HasTurns, IsAlone, IsServedOn, IsStaged, IsToldServed, RunOf, before_begin, begins, behind_begin, behind_own, chosen_for, paths_for, sight_at_begin, turns_for, turns_given, with_over}
+use Rattle.tpol_laws.specs.Told.{BeginsNowhere, BeginsOn, HasTurns, IsAlone, IsServedOn, IsToldServed, RunOf, before_begin, begins, behind_begin, behind_own, chosen_for, paths_for, sight_at_begin, turns_for, turns_given, with_over}
 use Rattle.tpol_laws.proofs.Begun.{along-state, begins-nowhere, begins-on, begun-along-is, begun-is, begun-run-is, front, none-before, run-along, setup-before, stands-in}
 use Rattle.tpol_laws.proofs.Followed.{Follows, allows-any, any, entry_at, own-follow}
 use Rattle.tpol_laws.proofs.Prints.{IsBehind, all-behind, all-spare, blocks-spare, found-begun}

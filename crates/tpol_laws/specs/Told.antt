@@ -1,48 +1,28 @@
 -- Runs of a scene's script, and what the report tells of them.
-use Rattle.std.specs.Prelude.{◌≡◌, ◌≤◌, ◌⊎◌, ◌+◌, ◌*◌, ◌-◌, ⊤, ℕ, ◌==◌, Bool, true, false, List, [], ◌∷◌, ◌++◌, All, Contains, length, map, slice_get, Option, Some, None, replicate, if◌then◌else◌}
+use Rattle.std.specs.Prelude.{◌≡◌, ◌≤◌, ◌⊎◌, ◌+◌, ◌*◌, ◌-◌, ⊤, ℕ, ◌==◌, Bool, true, false, List, [], ◌∷◌, ◌++◌, Contains, length, slice_get, Option, Some, None, replicate, if◌then◌else◌}
 use Rattle.tpol_choose.specs.declared.block.Block.{Block}
 use Rattle.tpol_choose.specs.Blocks.{chosen_path, first_block}
 use Rattle.tpol_driver.specs.declared.end.End.TheVariants.{Served}
 use Rattle.tpol_goal.specs.declared.goal.Goal.{Goal}
-use Rattle.tpol_goal.specs.Grants.{IsGrants}
 use Rattle.tpol_json.specs.declared.place.Place.{Place}
 use Rattle.tpol_lines.specs.BlockLine.{block_line}
 use Rattle.tpol_lines.specs.Lines.{line_of}
 use Rattle.tpol_lines.specs.Runs.{chosen_line, end_line, nobranch_line, over_line}
 use Rattle.tpol_name.specs.declared.sight.Sight.{Sight}
-use Rattle.tpol_name.specs.Directories.{directory_of}
-use Rattle.tpol_name.specs.Setups.{IsSetup}
 use Rattle.tpol_perform.specs.declared.new_run.NewRun.{NewRun}
 use Rattle.tpol_perform.specs.Begin.{new_run}
 use Rattle.tpol_perform.specs.Performance.{PerformanceState, start_of}
 use Rattle.tpol_perform.specs.Script.{all_happened, happened}
 use Rattle.tpol_prepare.specs.declared.scenario.Scenario.{Scenario}
 use Rattle.tpol_prepare.specs.declared.scenario.StagedScene.{StagedScene}
-use Rattle.tpol_prepare.specs.Scenario.{IsScenarioOf, paths_named}
+use Rattle.tpol_prepare.specs.Scenario.{paths_named}
 use Rattle.tpol_runs.specs.Runs.{run_at}
-use Rattle.tpol_scene.specs.Conditions.{AreEventsBehind}
 use Rattle.tpol_scene.specs.declared.script.ScriptEvent.{ScriptEvent}
 use Rattle.tpol_scene.specs.declared.script.ScriptEvent.TheVariants as events
 use Rattle.tpol_tree.specs.declared.path.Path.{Path}
-use Rattle.tpol_tree.specs.Bounds.{HasClosedBounds}
 use Rattle.tpm_engine.specs.Sights.{sight_after}
 
--- ---- the scene
-
--- A scene that can be carried out: its machine starts from the setup of a scene, the scenario is one of this setup
--- and has its directory, the policies and approvals are within the bounds of the wire, each client has grants
--- whose values fit into commands, and the script begins each run once, for a goal on the scene's entities.
-pub record IsStaged (staged : StagedScene) : Type 0 where
-  pub setup : IsSetup staged.setup
-  pub scenario : IsScenarioOf staged.setup staged.scenario
-  pub directory : staged.scenario.directory ≡ directory_of staged.setup
-  pub begun : All (λ document. HasClosedBounds document.closed) staged.scenario.begun
-  pub approvals : All (λ document. HasClosedBounds document.closed) staged.scenario.approvals
-  pub grants : All (λ client. IsGrants client.1) staged.scenario.clients
-  pub script : AreEventsBehind (map (λ o. o.handle) staged.setup.objects) (map (λ i. i.public.index) staged.setup.indices)
-      (map (λ client. client.0) staged.scenario.clients) [] staged.script
-
--- ---- a run of its script
+-- ---- a run of the script of a scene
 
 -- the events before the run's begin, its begin, some events behind that, and the others
 pub record RunOf (script : List ScriptEvent) : Type 0 where

@@ -27,11 +27,12 @@ ghost use Rattle.tpol_laws.specs.Acts.{Act, Run, Turn, after_act, after_acts, be
 ghost use Rattle.tpol_laws.specs.Chances.{IsByChance};
 ghost use Rattle.tpol_laws.specs.Others.{AreOthersApart, AreSecretsOnWritten, HasGoneOn, place_of};
 ghost use Rattle.tpol_laws.specs.Runs.{HasShortOffset, IsBegun, IsRun};
-ghost use Rattle.tpol_laws.specs.Told.{BeginsNowhere, BeginsOn, HasTurns, IsAlone, IsServedOn, IsStaged, IsToldServed, RunOf, behind_begin, behind_own, chosen_for, turns_for, with_over};
+ghost use Rattle.tpol_laws.specs.Told.{BeginsNowhere, BeginsOn, HasTurns, IsAlone, IsServedOn, IsToldServed, RunOf, behind_begin, behind_own, chosen_for, turns_for, with_over};
 ghost use Rattle.tpol_perform.specs.Performance.{PerformanceState};
 ghost use Rattle.tpol_perform.specs.Script.{performed, turn_told};
 ghost use Rattle.tpol_prepare.specs.declared.scenario.Scenario.{Scenario};
 ghost use Rattle.tpol_prepare.specs.declared.scenario.StagedScene.{StagedScene};
+ghost use Rattle.tpol_prepare.specs.Staged.{IsStaged};
 ghost use Rattle.tpol_runs.specs.Runs.{run_at};
 
 /// A path that nothing stops on the machine as it is now is one whose commands can all be made: it is not outside,
@@ -110,11 +111,11 @@ pub fn session_digest_is_compiled()
         → digest_of_moves (moves_of_facts (facts_of run.setup (after_acts run acts (begun past)).past session)) ≡ policy_digest policy }
 {}
 
-/// What the report of a scene tells of a run of its script. The run begins on the first path of its policy that
-/// nothing blocks, whose line is printed, or on none: then what blocks each path is printed, in their order. Where
-/// only the run's own turns make events behind its begin, and they are enough, the report tells that the run is
-/// served exactly where it begins on a path; those to its end are enough. A run that begins on none is over, and its
-/// turns print that.
+/// What the report of a scene tells of a run of its script, for each scene that `stage` of tpol_prepare gives. The
+/// run begins on the first path of its policy that nothing blocks, whose line is printed, or on none: then what
+/// blocks each path is printed, in their order. Where only the run's own turns make events behind its begin, and
+/// they are enough, the report tells that the run is served exactly where it begins on a path; those to its end are
+/// enough. A run that begins on none is over, and its turns print that.
 pub fn runs_are_served_as_told()
     ensures begins_on { (staged : StagedScene) (run : RunOf staged.script) (position : ℕ)
         → IsStaged staged → chosen_for staged run ≡ Some position → BeginsOn staged run position }

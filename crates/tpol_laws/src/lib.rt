@@ -43,12 +43,7 @@
 //!   index once it is written.
 //!
 //! `runs_are_served_as_told`, whose lines are those of `performed` of tpol_perform, which `perform` ensures
-//! - `IsStaged.setup`, `IsStaged.scenario`: the clauses `setup` and `scenario` of `stage`.
-//! - `IsStaged.directory`: its clause `answer`, by which the scenario has the directory of the setup.
-//! - `IsStaged.begun`: the clause `begun` of `prepare`. `IsStaged.approvals`: the clause `bounded` of
-//!   `Store::approvals`.
-//! - `IsStaged.grants`, `IsStaged.script`: the clauses `clients` and `script` of `read_scene`. The setup that is
-//!   filled has the scene's handles, by the clause `answer` of `stage`.
+//! - `IsStaged`: the clause `staged` of `stage`, which gives the scene that the commands `run` and `explain` carry out.
 //! - `IsAlone`: only the run's own turns make events behind its begin, up to where it is looked at.
 //! - `HasTurns`: these turns are enough for the path that the run begins on.
 //!

@@ -1,6 +1,6 @@
 // The lines of the events of a machine.
 
-ghost use Rattle.std.specs.Prelude.{◌≡◌, IfOk};
+ghost use Rattle.std.specs.Prelude.{◌≡◌, ◌++◌, IfOk, OnOk};
 ghost use Rattle.std.specs.String.{string_bytes};
 ghost use Rattle.tpol_lines.specs.Events.{answer_text, check_word, class_text, command_line, denial_word, presence_line, reset_line, switch_word, time_line};
 
@@ -8,6 +8,9 @@ use crate::hexadecimal::code_of_buffer;
 use std::alloc::Global;
 use tpm_rules::{Denial, Outcome};
 use tpol_base::{Check, NoMemory, Text};
+
+// Room for all of a command's line but its reply.
+const ROOM_BESIDE_REPLY: usize = 96;
 
 /// The line of a command: the number of its event, the client that sent it and from which locality, the
 /// codes of the command and of the reply, what became of it, and the reply.
@@ -26,35 +29,50 @@ pub fn command_line(
     ensures { IfOk result (λ line. line ≡ command_line event client locality buffer.now reply.now outcome.now) }
 {
     let code = code_of_buffer(alloc, buffer)?;
-    let answer = answer_text(alloc, reply, outcome)?;
-    Ok(Text::from_string(format!(in alloc;
-        "{event} client {client} locality {locality} code {code} {answer}"
-    )?))
+    let room = reply
+        .len()
+        .saturating_mul(2)
+        .saturating_add(ROOM_BESIDE_REPLY);
+    let mut line = String::with_capacity(alloc, room)?;
+    write!(
+        line,
+        "{event} client {client} locality {locality} code {code} "
+    )?;
+    push_answer(alloc, &mut line, reply, outcome)?;
+    Ok(Text::from_string(line))
 }
 
-// The reply to a command, and what became of it.
-fn answer_text(alloc: Global, reply: &[u8], outcome: &Outcome) -> Result<String, NoMemory>
-    ensures { IfOk result (λ text. string_bytes text ≡ answer_text reply.now outcome.now) }
+// Adds the reply to a command, and what became of it.
+fn push_answer(
+    alloc: Global,
+    line: &mut String,
+    reply: &[u8],
+    outcome: &Outcome,
+) -> Result<(), NoMemory>
+    ensures { OnOk result (string_bytes line.new ≡ string_bytes line.old ++ answer_text reply.now outcome.now) }
 {
     let rc = code_of_buffer(alloc, reply)?;
-    let class = class_text(alloc, outcome)?;
+    write!(line, "rc {rc} ")?;
+    push_class(line, outcome)?;
     let reply = hex::encode(alloc, reply)?;
-    Ok(format!(in alloc; "rc {rc} {class} reply {reply}")?)
+    write!(line, " reply {reply}")?;
+    Ok(())
 }
 
-// What became of a command.
-fn class_text(alloc: Global, outcome: &Outcome) -> Result<String, NoMemory>
-    ensures { IfOk result (λ text. string_bytes text ≡ class_text outcome.now) }
+// Adds what became of a command.
+fn push_class(line: &mut String, outcome: &Outcome) -> Result<(), NoMemory>
+    ensures { OnOk result (string_bytes line.new ≡ string_bytes line.old ++ class_text outcome.now) }
 {
     match outcome {
-        Outcome::Accepted => Ok(String::from_str(alloc, "accepted")?),
-        Outcome::Served => Ok(String::from_str(alloc, "served")?),
+        Outcome::Accepted => line.push_str("accepted")?,
+        Outcome::Served => line.push_str("served")?,
         Outcome::Denied(denial) => {
-            let word = denial_word(denial);
-            Ok(format!(in alloc; "denied {word}")?)
+            line.push_str("denied ")?;
+            line.push_str(denial_word(denial))?;
         }
-        Outcome::Refused(_) => Ok(String::from_str(alloc, "refused")?),
+        Outcome::Refused(_) => line.push_str("refused")?,
     }
+    Ok(())
 }
 
 // The word for a failed authorization.

@@ -11,7 +11,10 @@ pub type Lines = Sequence<Blob>;
 pub fn push_line(alloc: Global, lines: &mut Lines, line: &str) -> Result<(), NoMemory>
     ensures { OnOk result (lines.new ≡ lines.old ++ line_of line.now ∷ []) }
 {
-    push_bytes(lines, Blob::from_slice(alloc, line.as_bytes())?)
+    let mut bytes = Vec::with_capacity(alloc, line.len().saturating_add(1))?;
+    bytes.extend_from_slice(line.as_bytes())?;
+    bytes.push(b'\n')?;
+    lines.push(Blob::from_vec(bytes))
 }
 
 /// Adds the line of these bytes, with its line end.

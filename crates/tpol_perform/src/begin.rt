@@ -13,7 +13,7 @@ use crate::new_run::NewRun;
 use crate::performance::Performance;
 use std::alloc::Global;
 use tpol_base::{Digest32, ExactClone, NoMemory};
-use tpol_choose::{block_at, choose};
+use tpol_choose::{can, choose};
 use tpol_digest::{count_paths, path_at};
 use tpol_driver::Plan;
 use tpol_hash::Hasher;
@@ -173,6 +173,7 @@ impl Performance {
     }
 
     // The line of what stands in the way of the path at this position.
+    #[tactic(auto, using(crate::proofs::Chosen::path_is_short))]
     fn print_block(
         &mut self,
         alloc: Global,
@@ -193,16 +194,7 @@ impl Performance {
         let closed = &document.closed;
         let path = path_at(alloc, closed, approvals, position)?;
         let steps = path.steps.as_slice();
-        match block_at(
-            alloc,
-            closed,
-            approvals,
-            position,
-            sight,
-            &run.grants,
-            &run.goal,
-            run.locality,
-        ) {
+        match can(&path, sight, &run.grants, &run.goal, run.locality) {
             Ok(()) => Ok(()),
             Err(block) => {
                 let line = block_line(alloc, position, steps, &block)?;

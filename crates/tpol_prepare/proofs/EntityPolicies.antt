@@ -1,6 +1,6 @@
 -- The entities whose policies a scene names have the digests of these as their authPolicies.
 use Rattle.std.proofs.lemmas.Bool.Decides.{nat_tests}
-use Rattle.std.proofs.Common.{◌≡◌, ◌∙◌, arith, ap, refl, subst, sym, ℕ, ◌==◌, Bool, true, false, nat_eq, if◌then◌else◌, List, [], ◌∷◌, ◌++◌, map, find, reverse, length, Option, Some, None, Result, Ok, Err, IfSome}
+use Rattle.std.proofs.Common.{◌≡◌, ◌∙◌, arith, ap, refl, subst, sym, ℕ, ◌==◌, Bool, true, false, nat_eq, if◌then◌else◌, List, [], ◌∷◌, ◌++◌, map, find, reverse, length, Option, Some, None, Ok, IfSome}
 use Rattle.std.proofs.lemmas.List.{reverse-append}
 use Rattle.std.specs.Option.{option_map}
 use Rattle.tpm_nv.specs.Indices.{index_of}
@@ -13,20 +13,14 @@ use Rattle.tpol_name.specs.declared.setup.Setup.{Setup}
 use Rattle.tpol_scene.specs.declared.entities.EntityPolicy.{EntityPolicy}
 use Rattle.tpol_scene.specs.declared.scene.Scene.{Scene}
 use Rattle.tpol_store.specs.Stores.{NamedPolicy}
-use Rattle.tpol_prepare.specs.declared.answer.Answer.{Answer}
 use Rattle.tpol_prepare.specs.declared.entities.CompiledEntity.{CompiledEntity}
-use Rattle.tpol_prepare.specs.declared.entities.CompiledSetup.{CompiledSetup}
 use Rattle.tpol_prepare.specs.declared.prepared.PreparedScene.{PreparedScene}
-use Rattle.tpol_prepare.specs.Entities.{compiled_entity, compiled_step, erased_entity, entities_from, entity_step, index_with_policy, no_entity, object_with_policy, setup_with_policy, with_entity}
-use Rattle.tpol_prepare.specs.Prepared.{begun_step, filled_scene_step, prepared_step, prepared_with}
+use Rattle.tpol_prepare.specs.Entities.{compiled_entity, erased_entity, index_with_policy, object_with_policy, setup_with_policy}
+use Rattle.tpol_prepare.specs.Prepared.{prepared_step}
 use Rattle.tpol_prepare.specs.Scenario.{HasPolicyAt, HavePolicies, is_entity, policy_of_entity}
-use Rattle.tpol_prepare.specs.Steps.{Step, ◌>>=◌}
-use Rattle.tpol_prepare.specs.References.{entity_references, references_step, script_references}
-use Rattle.tpol_prepare.specs.FilledDocuments.{documents_from}
-use Rattle.tpol_prepare.specs.declared.documents.FilledDocument.{FilledDocument}
-use Rattle.tpol_prepare.proofs.FilledErased.{policy_digest_erased}
 use Rattle.tpol_prepare.proofs.EntitiesErased.{reversed_erased}
-use Rattle.tpol_name.specs.Setups.{first_sight}
+use Rattle.tpol_prepare.proofs.EntitiesKept.{prepared_keeps}
+use Rattle.tpol_prepare.proofs.FilledErased.{policy_digest_erased}
 use Rattle.tpol_tree.specs.ClosedErased.{erased}
 use Rattle.tpol_tree.specs.declared.closed.Closed.{Closed}
 
@@ -120,45 +114,10 @@ added setup entities policy closed h handle =
     through None e there = tt
     through (Some c) e there = kept_there policy.handle (policy_digest closed) handle e setup (policy_digest c) there
 
-have_by : (store : List NamedPolicy) (compiled : CompiledSetup) (policy : EntityPolicy) (rest : List EntityPolicy) (result : CompiledSetup) (step : Step Closed)
-    → ((after : CompiledSetup) → HavePolicies after.setup after.entities → entities_from store after rest ≡ Ok result → HavePolicies result.setup result.entities)
-    → HavePolicies compiled.setup compiled.entities
-    → ((step >>= λ closed. Ok (with_entity compiled policy closed)) >>= λ after. entities_from store after rest) ≡ Ok result → HavePolicies result.setup result.entities
-have_by store compiled policy rest result (Err answer) later h e = absurd cc
-have_by store compiled policy rest result (Ok closed) later h e =
-    later (with_entity compiled policy closed) (added compiled.setup compiled.entities policy closed h) e
-
-entities_have : (store : List NamedPolicy) (compiled : CompiledSetup) (policies : List EntityPolicy) (result : CompiledSetup)
-    → HavePolicies compiled.setup compiled.entities → entities_from store compiled policies ≡ Ok result → HavePolicies result.setup result.entities
-unfolding entities_from compiled_step
-entities_have store compiled [] result h e =
-    let same : compiled ≡ result = cc in subst (λ (c : CompiledSetup). HavePolicies c.setup c.entities) same h
-entities_have store compiled (policy ∷ rest) result h e =
-    have_by store compiled policy rest result (entity_step store compiled.setup policy) (λ after has gives. entities_have store after rest result has gives) h e
-
 -- ---- a scene whose policies are filled
 
-prepared_end : (compiled : CompiledSetup) (result : PreparedScene) (begun : Step (List FilledDocument)) → HavePolicies compiled.setup compiled.entities
-    → (begun >>= λ b. Ok (prepared_with compiled b)) ≡ Ok result → HavePolicies result.setup result.entities
-prepared_end compiled result (Err answer) h e = absurd cc
-prepared_end compiled result (Ok b) h e =
-    let same : prepared_with compiled b ≡ result = cc in subst (λ (p : PreparedScene). HavePolicies p.setup p.entities) same h
-
-prepared_by : (result : PreparedScene) (entities script : Step (Unit {0})) (compiled : Step CompiledSetup) (begun : CompiledSetup → Step (List FilledDocument))
-    → ((c : CompiledSetup) → compiled ≡ Ok c → HavePolicies c.setup c.entities)
-    → (entities >>= λ one. script >>= λ two. compiled >>= λ c. begun c >>= λ b. Ok (prepared_with c b)) ≡ Ok result → HavePolicies result.setup result.entities
-prepared_by result (Err answer) script compiled begun has e = absurd cc
-prepared_by result (Ok one) (Err answer) compiled begun has e = absurd cc
-prepared_by result (Ok one) (Ok two) (Err answer) begun has e = absurd cc
-prepared_by result (Ok one) (Ok two) (Ok c) begun has e = prepared_end c result (begun c) (has c refl) e
-
 pub prepared_have : (store : List NamedPolicy) (scene : Scene) (result : PreparedScene) → prepared_step store scene ≡ Ok result → HavePolicies result.setup result.entities
-unfolding prepared_step filled_scene_step begun_step
-prepared_have store scene result e =
-    prepared_by result (references_step store (entity_references scene)) (references_step store (script_references scene))
-    (entities_from store (no_entity scene.setup) scene.policies)
-    (λ compiled. documents_from store (Some (first_sight compiled.setup)) [] (script_references scene))
-    (λ c gives. entities_have store (no_entity scene.setup) scene.policies c (λ handle. tt) gives) e
+prepared_have store scene result e = prepared_keeps HavePolicies added store scene result (λ handle. tt) e
 
 -- ---- whichever memory the policies lie in
 

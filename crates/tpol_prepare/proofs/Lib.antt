@@ -1,10 +1,12 @@
 pub mod EntitiesAdded
 pub mod EntitiesErased
+pub mod EntitiesKept
 pub mod EntityPolicies
 pub mod FilledErased
 pub mod FilledNames
 pub mod LimitTests
 pub mod PathSteps
 pub mod SetupsKept
+pub mod StagedScenes
 pub mod Stored
 pub mod Walkable

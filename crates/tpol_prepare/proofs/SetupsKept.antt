@@ -1,4 +1,4 @@
--- A setup in which an entity was given its authPolicy is a setup again.
+-- A setup in which an entity was given its authPolicy is a setup again, of the same handles.
 use Rattle.std.proofs.Common.{◌≡◌, ◌∙◌, ap, refl, subst, sym, inr, List, [], ◌∷◌, ◌++◌, length, map, get_or, true, false}
 use Rattle.std.proofs.lemmas.List.Elements.{All-map}
 use Rattle.std.specs.Prelude.{ℕ, ◌==◌, nat_eq, All, if◌then◌else◌}
@@ -15,6 +15,11 @@ use Rattle.tpol_prepare.specs.Entities.{index_with_policy, object_with_policy, s
 kept_by : {A B : Type 0} (change : A → A) (seen : A → B) → ((x : A) → seen (change x) ≡ seen x) → (xs : List A) → map seen (map change xs) ≡ map seen xs
 kept_by change seen same [] = refl
 kept_by change seen same (x ∷ xs) = ap (λ y. y ∷ map seen (map change xs)) (same x) ∙ ap (λ ys. seen x ∷ ys) (kept_by change seen same xs)
+
+-- the objects and the indices of a setup have the handles of those of another one
+pub record HasHandlesOf (before setup : Setup) : Type 0 where
+  pub objects : map (λ o. o.handle) setup.objects ≡ map (λ o. o.handle) before.objects
+  pub indices : map (λ i. i.public.index) setup.indices ≡ map (λ i. i.public.index) before.indices
 
 module _ (handle : ℕ) (digest : Digest32) where
   abbrev object_changed : ObjectEntry → ObjectEntry
@@ -91,4 +96,10 @@ module _ (handle : ℕ) (digest : Digest32) where
     pcrs = h.pcrs;
     time = h.time;
     entities = are_entities setup.objects setup.indices h.entities;
+  }
+
+  pub handles_stay : (before setup : Setup) → HasHandlesOf before setup → HasHandlesOf before (setup_with_policy handle digest setup)
+  handles_stay before setup same = record {
+    objects = kept_by (object_with_policy handle digest) (λ o. o.handle) object_handle setup.objects ∙ same.objects;
+    indices = kept_by (index_with_policy handle digest) (λ i. i.public.index) index_handle setup.indices ∙ same.indices;
   }

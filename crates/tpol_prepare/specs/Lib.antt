@@ -11,5 +11,6 @@ pub mod References
 pub mod Refusals
 pub mod Scenario
 pub mod SceneStep
+pub mod Staged
 pub mod Steps
 pub mod StoreStep

@@ -3,7 +3,8 @@
 ghost use Rattle.std.specs.Option.{option_copied};
 ghost use Rattle.std.specs.Prelude.{◌≡◌, ◌≤◌, true, All, IfSome, IfOk, IsOk, find, length, map, reverse};
 ghost use Rattle.tpol_name.specs.Setups.{IsSetup};
-ghost use Rattle.tpol_scene.specs.Conditions.{HasScript};
+ghost use Rattle.tpol_scene.specs.Conditions.{HasClients, HasScript};
+ghost use Rattle.tpol_store.specs.Approvals.{HasApprovedBounds};
 ghost use Rattle.tpol_store.specs.Stores.{IsReadable, policies_of, stored};
 ghost use Rattle.tpol_digest.specs.WellFormed.{IsWellFormedDocument};
 ghost use Rattle.tpol_prepare.specs.Entities.{IsReadyEntity, erased_entity};
@@ -12,6 +13,7 @@ ghost use Rattle.tpol_prepare.specs.Limits.{limits_step};
 ghost use Rattle.tpol_prepare.specs.Prepared.{erased_prepared};
 ghost use Rattle.tpol_prepare.specs.Scenario.{CanHappen, HavePolicies, IsScenarioOf, IsWalkable, entity_document, erased_staged, grants_of, is_client, is_document, is_entity, limited_step, policy_of_entity, scenario_with, staged_by, staged_step, staged_with};
 ghost use Rattle.tpol_prepare.specs.SceneStep.{scene_of_bytes};
+ghost use Rattle.tpol_prepare.specs.Staged.{IsScriptOf, IsStaged};
 ghost use Rattle.tpol_prepare.specs.Steps.{Answers, AsksShelf, IsInside};
 ghost use Rattle.tpol_tree.specs.ClosedErased.{erased_document};
 
@@ -68,6 +70,7 @@ pub fn stage<H: Shelf>(
     ensures answer { IfSome (H.documents shelf.old) (λ all. Answers erased_staged (staged_step explains input.now all) result) }
     ensures keeps { H.documents shelf.new ≡ H.documents shelf.old }
     ensures asks { AsksShelf true (IsOk (scene_of_bytes input.now)) shelf.old shelf.new (H.faults shelf.old) (H.faults shelf.new) result }
+    ensures staged { IfOk result IsStaged }
     ensures setup { IfOk result (λ staged. IsSetup staged.setup) }
     ensures scenario { IfOk result (λ staged. IsScenarioOf staged.setup staged.scenario) }
     ensures happens { IfOk result (λ staged. All CanHappen staged.script) }
@@ -88,13 +91,12 @@ fn stage_with(
 ) -> Result<StagedScene, Halt>
     requires readable { All IsReadable (stored store.now) }
     requires setup { IsSetup scene.setup }
+    requires clients { HasClients scene }
     requires script { HasScript scene }
     requires few { length scene.script ≤ 4096 }
     ensures answer { Answers erased_staged (staged_with explains scene (policies_of store.now)) result }
     ensures inside { IsInside result }
-    ensures setup { IfOk result (λ staged. IsSetup staged.setup) }
-    ensures scenario { IfOk result (λ staged. IsScenarioOf staged.setup staged.scenario) }
-    ensures happens { IfOk result (λ staged. All CanHappen staged.script) }
+    ensures staged { IfOk result IsStaged }
     ensures few { IfOk result (λ staged. length staged.script ≤ 4096) }
 {
     let prepared = prepare(alloc, store, &scene)?;
@@ -103,7 +105,7 @@ fn stage_with(
 }
 
 // The same of a scene whose policies are filled.
-#[tactic(auto, using(crate::proofs::Walkable::all_can_happen), unfolding(crate::specs::Scenario::staged_by))]
+#[tactic(auto, unfolding(crate::specs::Scenario::staged_by))]
 fn stage_prepared(
     alloc: Global,
     explains: bool,
@@ -111,18 +113,19 @@ fn stage_prepared(
     prepared: PreparedScene,
     approvals: Approvals,
 ) -> Result<StagedScene, Halt>
-    requires script { HasScript scene }
-    requires few { length scene.script ≤ 4096 }
+    requires setup { IsSetup prepared.setup }
     requires entities { All IsReadyEntity prepared.entities }
     requires begun { All IsReadyDocument prepared.begun }
-    requires approvals { All IsWellFormedDocument approvals }
     requires policies { HavePolicies prepared.setup prepared.entities }
+    requires approvals { All IsWellFormedDocument approvals }
+    requires bounded { All HasApprovedBounds approvals }
+    requires clients { HasClients scene }
+    requires script { IsScriptOf prepared.setup scene.clients scene.script }
+    requires few { length scene.script ≤ 4096 }
     ensures answer { Answers erased_staged
         (staged_by explains scene (erased_prepared prepared) (map erased_document approvals)) result }
     ensures inside { IsInside result }
-    ensures setup { IsSetup prepared.setup → IfOk result (λ staged. IsSetup staged.setup) }
-    ensures scenario { IfOk result (λ staged. IsScenarioOf staged.setup staged.scenario) }
-    ensures happens { IfOk result (λ staged. All CanHappen staged.script) }
+    ensures staged { IfOk result IsStaged }
     ensures few { IfOk result (λ staged. length staged.script ≤ 4096) }
 {
     check_scene(alloc, &prepared, &approvals)?;

@@ -10,7 +10,8 @@ use Rattle.tpol_runs.specs.declared.sent.Sent.{Sent}
 use Rattle.tpol_runs.specs.Underway.{Underway}
 use Rattle.tpol_wire.specs.Commands.{spelling}
 
--- before the first command; the commands are at most two for each move, the start, the goal and the end
+-- before the first command; the commands are at most two for each move, the start, the goal and the end, and the
+-- bound has one to spare
 abbrev pub begun : ℕ → ℕ → Plan → Underway
 begun client locality plan =
     record { client = client; locality = locality; most_commands = 2 * length plan.path.moves + 4; driving = record { plan = plan; standing = Starting } }

@@ -53,7 +53,8 @@ impl Run {
         }
     }
 
-    /// How many commands the run has at most: two for each move, the start, the goal and the end.
+    /// A bound on the commands of the run, which is over after as many replies at the latest: two for each move, the
+    /// start, the goal and the end, and one to spare.
     pub fn most_commands(&self) -> u32
         ensures { result ≡ self.now.most_commands }
     {

@@ -1,4 +1,5 @@
-use Rattle.std.proofs.Common.{◌≡◌, ◌≢◌, ◌+◌, ◌-◌, ◌*◌, ◌/◌, ◌%◌, ◌<◌, ◌≤◌, ◌++◌, [], ◌∷◌, length, map, take, subst, sym, ap, ◌∙◌, length-append, arith}
+use Rattle.std.proofs.Common.{◌≡◌, ◌≢◌, ◌+◌, ◌-◌, ◌/◌, ◌%◌, ◌<◌, ◌≤◌, ◌++◌, false, [], ◌∷◌, length, map, subst, sym, ap, ◌∙◌, length-append, arith}
+use Rattle.std.proofs.lemmas.Bool.{or_parts}
 use Rattle.std.proofs.lemmas.List.{length-map}
 use Rattle.std.proofs.lemmas.Result.{on_ok_weaker}
 use Rattle.tpol_tree.specs.declared.closed.ClosedBranch.{ClosedBranch}
@@ -6,14 +7,124 @@ use Rattle.tpol_tree.specs.declared.path.Move.TheVariants.{Assert, Or}
 use Rattle.tpol_tree.specs.declared.path.Path.{Path}
 use Rattle.tpol_tree.specs.declared.path.PathStep.TheVariants.{Branch, Document}
 use Rattle.tpol_tree.specs.Closed.{HasBranchCounts, ElementHasBranchCounts, BranchesHaveBranchCounts, branch_count}
-use Rattle.tpol_digest.specs.Digest.{branch_digests, digest_at_element}
+use Rattle.tpol_digest.specs.Digest.{zero_digest, branch_digests, digest_at_element}
 use Rattle.tpol_digest.specs.Extent.{IsCapped, extent_at, extent_at_element, document_extent}
-use Rattle.tpol_digest.specs.Paths.{followed_by, path_of_move, approved_paths, outside_paths, document_paths}
-use Rattle.tpol_digest.specs.Positions.{path_of_step, element_list_ways, element_ways, branch_ways, approval_ways, GoesOn}
+use Rattle.tpol_digest.specs.Paths.{followed_by, path_of_move, product, approved_paths, outside_paths, document_paths}
+use Rattle.tpol_digest.specs.Positions.{is_or, has_or, path_of_step, element_list_ways, element_ways, branch_ways, approval_ways, GoesOn}
 use Rattle.tpol_digest.proofs.Weights.{weight, weight_of_element, weight_of_branches, greatest, weight-lt-greatest, level_less}
-use Rattle.tpol_digest.proofs.Positions.{step_pushed, move_pushed, goes_nowhere, goes_one, goes_through, goes_first, goes_later, goes_by_step, goes_by_move, branches_closed, length-branch_ways, parted_ways, counted_first, before_document, parts_more, part_inside, part_passed, document_counted, goes_in_document, goes_by_document, no_document, all_documents, left_over, goes_outside}
+use Rattle.tpol_digest.proofs.Positions.{step_pushed, move_pushed, goes_nowhere, goes_one, goes_through, goes_first, goes_later, goes_by_step, goes_by_move, branches_closed, length-branch_ways, unbranched_ways, parted_ways, parted_unbranched, counted_first, before_document, parts_more, part_inside, part_passed, document_counted, goes_in_document, goes_by_document, no_document, all_documents, left_over, goes_outside}
 use Rattle.tpol_digest.proofs.at_position.+at_position.Goals as goal
 use Rattle.tpol_digest.proofs.at_position.+at_position.Goals.{push_approval-then-accepts+else-left-count, push_approval-else-accepts, push_approval-then-walk-gt0+else-loop-document-test, push_approval-else-walk-gt0}
+
+pub push_unbranched-nonzero_div-behind : goal.push_unbranched-nonzero_div-behind
+push_unbranched-nonzero_div-behind t c =
+    let documents = c.args.walk.now.approvals.now in
+    let levels = c.args.walk.now.levels in
+    let counts = rw c.in-More.is at c.requires.branches in
+    let counted = rw c.in-More.is at c.requires.counted in
+    let none = or_parts (is_or c.in-More.element.value) (has_or c.in-More.rest.value) (rw c.in-More.is at c.requires.unbranched) in
+    let capped = subst (λ e. IsCapped c.extent_of_element-choices.result (extent_at_element (document_extent documents levels) documents e)) c.deref.ensures c.extent_of_element-choices.ensures in
+    (parted_unbranched documents c.requires.approved levels c.extent_of_element-choices.result c.in-More.element.value c.in-More.rest.value c.args.count c.args.index counts.0 counts.1 none.1 counted c.requires.few c.requires.inside capped).divides
+
+pub push_unbranched-nonzero_div-index : goal.push_unbranched-nonzero_div-index
+push_unbranched-nonzero_div-index t c =
+    let documents = c.args.walk.now.approvals.now in
+    let levels = c.args.walk.now.levels in
+    let counts = rw c.in-More.is at c.requires.branches in
+    let counted = rw c.in-More.is at c.requires.counted in
+    let none = or_parts (is_or c.in-More.element.value) (has_or c.in-More.rest.value) (rw c.in-More.is at c.requires.unbranched) in
+    let capped = subst (λ e. IsCapped c.extent_of_element-choices.result (extent_at_element (document_extent documents levels) documents e)) c.deref.ensures c.extent_of_element-choices.ensures in
+    (parted_unbranched documents c.requires.approved levels c.extent_of_element-choices.result c.in-More.element.value c.in-More.rest.value c.args.count c.args.index counts.0 counts.1 none.1 counted c.requires.few c.requires.inside capped).behind_divides
+
+pub push_unbranched-nonzero_rem-index : goal.push_unbranched-nonzero_rem-index
+push_unbranched-nonzero_rem-index t c =
+    let documents = c.args.walk.now.approvals.now in
+    let levels = c.args.walk.now.levels in
+    let counts = rw c.in-More.is at c.requires.branches in
+    let counted = rw c.in-More.is at c.requires.counted in
+    let none = or_parts (is_or c.in-More.element.value) (has_or c.in-More.rest.value) (rw c.in-More.is at c.requires.unbranched) in
+    let capped = subst (λ e. IsCapped c.extent_of_element-choices.result (extent_at_element (document_extent documents levels) documents e)) c.deref.ensures c.extent_of_element-choices.ensures in
+    (parted_unbranched documents c.requires.approved levels c.extent_of_element-choices.result c.in-More.element.value c.in-More.rest.value c.args.count c.args.index counts.0 counts.1 none.1 counted c.requires.few c.requires.inside capped).behind_divides
+
+pub push_unbranched-push_unbranched_element-requires : goal.push_unbranched-push_unbranched_element-requires
+push_unbranched-push_unbranched_element-requires t c =
+    let documents = c.args.walk.now.approvals.now in
+    let levels = c.args.walk.now.levels in
+    let counts = rw c.in-More.is at c.requires.branches in
+    let counted = rw c.in-More.is at c.requires.counted in
+    let none = or_parts (is_or c.in-More.element.value) (has_or c.in-More.rest.value) (rw c.in-More.is at c.requires.unbranched) in
+    let capped = subst (λ e. IsCapped c.extent_of_element-choices.result (extent_at_element (document_extent documents levels) documents e)) c.deref.ensures c.extent_of_element-choices.ensures in
+    let p = parted_unbranched documents c.requires.approved levels c.extent_of_element-choices.result c.in-More.element.value c.in-More.rest.value c.args.count c.args.index counts.0 counts.1 none.1 counted c.requires.few c.requires.inside capped in (
+      omega (arith, rw c.in-More.is at c.decreases, ap weight_of_element c.deref-in-More.ensures),
+      (
+        subst (λ e. is_or e ≡ false) (sym c.deref-in-More.ensures) none.0,
+        (
+          c.requires.approved,
+          (
+            subst (λ e. length (element_ways documents levels e zero_digest) ≤ 65536) (sym c.deref-in-More.ensures) p.first_few,
+            subst (λ e. c.args.index / (c.args.count / c.extent_of_element-choices.result.paths) < length (element_ways documents levels e zero_digest)) (sym c.deref-in-More.ensures) p.first_inside,
+          ),
+        ),
+      ),
+    )
+
+pub push_unbranched-push_unbranched-requires : goal.push_unbranched-push_unbranched-requires
+push_unbranched-push_unbranched-requires t c =
+    let documents = c.args.walk.now.approvals.now in
+    let levels = c.args.walk.now.levels in
+    let counts = rw c.in-More.is at c.requires.branches in
+    let counted = rw c.in-More.is at c.requires.counted in
+    let none = or_parts (is_or c.in-More.element.value) (has_or c.in-More.rest.value) (rw c.in-More.is at c.requires.unbranched) in
+    let capped = subst (λ e. IsCapped c.extent_of_element-choices.result (extent_at_element (document_extent documents levels) documents e)) c.deref.ensures c.extent_of_element-choices.ensures in
+    let p = parted_unbranched documents c.requires.approved levels c.extent_of_element-choices.result c.in-More.element.value c.in-More.rest.value c.args.count c.args.index counts.0 counts.1 none.1 counted c.requires.few c.requires.inside capped in (
+      omega (arith, rw c.in-More.is at c.decreases, ap weight c.deref-in-More-2.ensures),
+      (
+        subst HasBranchCounts (sym c.deref-in-More-2.ensures) counts.1,
+        (
+          subst (λ e. has_or e ≡ false) (sym c.deref-in-More-2.ensures) none.1,
+          (
+            c.requires.approved,
+            (
+              p.behind ∙ ap (λ e. length (element_list_ways documents levels e zero_digest)) (sym c.deref-in-More-2.ensures),
+              (p.rest_few, p.rest_inside),
+            ),
+          ),
+        ),
+      ),
+    )
+
+pub push_unbranched-returns-in-End : goal.push_unbranched-returns-in-End
+push_unbranched-returns-in-End t c =
+    let counted = rw c.in-End.is at c.requires.counted in
+    rw c.in-End.is (goes_nowhere c.args.path.now c.args.index (omega (arith, counted, c.requires.inside)))
+
+pub push_unbranched-returns-in_ok-push_unbranched_element-in-More : goal.push_unbranched-returns-in_ok-push_unbranched_element-in-More
+push_unbranched-returns-in_ok-push_unbranched_element-in-More t c =
+    let element = c.in-More.element.value in
+    let rest = c.in-More.rest.value in
+    let documents = c.args.walk.now.approvals.now in
+    let levels = c.args.walk.now.levels in
+    let counts = rw c.in-More.is at c.requires.branches in
+    let counted = rw c.in-More.is at c.requires.counted in
+    let none = or_parts (is_or c.in-More.element.value) (has_or c.in-More.rest.value) (rw c.in-More.is at c.requires.unbranched) in
+    let capped = subst (λ e. IsCapped c.extent_of_element-choices.result (extent_at_element (document_extent documents levels) documents e)) c.deref.ensures c.extent_of_element-choices.ensures in
+    let p = parted_unbranched documents c.requires.approved levels c.extent_of_element-choices.result c.in-More.element.value c.in-More.rest.value c.args.count c.args.index counts.0 counts.1 none.1 counted c.requires.few c.requires.inside capped in
+    let behind = c.args.count / c.extent_of_element-choices.result.paths in
+    let middle = c.push_unbranched_element.new.path in
+    let firsts = element_ways documents levels element zero_digest in
+    let rests = element_list_ways documents levels rest zero_digest in
+    let first = subst (λ e. GoesOn c.args.path.now (element_ways documents levels e zero_digest) (c.args.index / behind) middle) c.deref-in-More.ensures c.in_ok-push_unbranched_element-in-More.ensures in
+    let same = unbranched_ways documents levels rest zero_digest (digest_at_element element zero_digest) none.1 in
+    rw c.in-More.is (on_ok_weaker c.push_unbranched.result (λ g. subst (λ ways. GoesOn c.args.path.now (product firsts ways) c.args.index c.push_unbranched.new.path) same (goes_through c.args.path.now middle c.push_unbranched.new.path firsts rests (c.args.index / behind) (c.args.index % behind) c.args.index first (subst (λ e. GoesOn middle (element_list_ways documents levels e zero_digest) (c.args.index % behind) c.push_unbranched.new.path) c.deref-in-More-2.ensures g) p.whole)) c.push_unbranched.ensures)
+
+pub push_unbranched_element-returns-in_ok-try_clone-in-Assert : goal.push_unbranched_element-returns-in_ok-try_clone-in-Assert
+push_unbranched_element-returns-in_ok-try_clone-in-Assert t c =
+    let before = c.args.path.now in
+    let act = Assert c.in-Assert.assertion in
+    let inside = rw c.in-Assert.is at c.requires.inside in
+    let longer : Path = record { steps = before.steps; moves = c.push.new.self; outside = before.outside } in
+    let copied = ap (λ a. before.moves ++ Assert a ∷ []) c.in_ok-try_clone-in-Assert.ensures in
+    rw c.in-Assert.is (on_ok_weaker c.push.result (λ pushed. goes_one before longer (path_of_move act) c.args.index (omega (arith, inside)) (move_pushed before act c.push.new.self (pushed ∙ copied))) c.push.ensures.ok)
 
 pub push_elements-nonzero_div-behind : goal.push_elements-nonzero_div-behind
 push_elements-nonzero_div-behind t c =
@@ -108,14 +219,6 @@ push_elements-returns-in_ok-after-in-More-clause-path t c =
     let same = ap (λ e. element_list_ways documents levels e c.in_ok-after-in-More.after) c.deref-in-More-2.ensures ∙ ap (element_list_ways documents levels rest) after_is in
     rw c.in-More.is (on_ok_weaker c.push_elements.result (λ g. goes_through c.args.path.now middle c.push_elements.new.path (element_ways documents levels element d) (element_list_ways documents levels rest (digest_at_element element d)) (c.args.index / behind) (c.args.index % behind) c.args.index first (subst (λ l. GoesOn middle l (c.args.index % behind) c.push_elements.new.path) same g) p.whole) c.push_elements.ensures.path)
 
-pub push_element-returns-in_ok-push-in-Assert-clause-path : goal.push_element-returns-in_ok-push-in-Assert-clause-path
-push_element-returns-in_ok-push-in-Assert-clause-path t c =
-    let before = c.args.path.now in
-    let act = Assert c.in-Assert.assertion in
-    let inside = rw c.in-Assert.is at c.requires.inside in
-    let pushed = c.in_ok-push-in-Assert.ensures.ok ∙ ap (λ a. before.moves ++ Assert a ∷ []) c.in_ok-try_clone-in-Assert.ensures in
-    rw c.in-Assert.is (goes_one before (record { steps = before.steps; moves = c.push.new.self; outside = before.outside }) (path_of_move act) c.args.index (omega (arith, inside)) (move_pushed before act c.push.new.self pushed))
-
 pub push_element-push_branch-requires : goal.push_element-push_branch-requires
 push_element-push_branch-requires t c =
     let documents = c.args.walk.now.approvals.now in
@@ -150,8 +253,8 @@ push_element-returns-in_ok-push-in-Or-clause-path t c =
     let middle = c.push_branch.new.path in
     let digests_are = c.in_ok-push_branch-in-Or.ensures.digests ∙ ap (λ l. l ++ branch_digests branches d) c.new-digests.ensures in
     let pushed = c.in_ok-push-in-Or.ensures.ok ∙ ap (λ l. middle.moves ++ Or l ∷ []) digests_are in
-    let longer : Path = record { steps = middle.steps; moves = c.push-in-Or.new.self; outside = middle.outside } in
-    rw c.in-Or.is (subst (λ l. GoesOn c.args.path.now l c.args.index longer) (branches_closed documents levels branches 1 act d) (goes_by_move c.args.path.now middle longer act (branch_ways documents levels branches 1 d) c.args.index c.in_ok-push_branch-in-Or.ensures.path (move_pushed middle act c.push-in-Or.new.self pushed)))
+    let longer : Path = record { steps = middle.steps; moves = c.push.new.self; outside = middle.outside } in
+    rw c.in-Or.is (subst (λ l. GoesOn c.args.path.now l c.args.index longer) (branches_closed documents levels branches 1 act d) (goes_by_move c.args.path.now middle longer act (branch_ways documents levels branches 1 d) c.args.index c.in_ok-push_branch-in-Or.ensures.path (move_pushed middle act c.push.new.self pushed)))
 
 pub push_branch-push_elements-requires : goal.push_branch-push_elements-requires
 push_branch-push_elements-requires t c =
@@ -238,8 +341,8 @@ push_branch-returns-in_ok-push-in-More-3-clause-path t c =
     let split : c.args.index ≡ length firsts + (c.args.index - c.extent_of_elements-count.result.paths) = omega (arith, counted.0, counted.1, c.if-index-count.false, length-map (element_list_ways documents levels branch.policy.elements d) step) in
     rw c.in-More.is (on_ok_weaker c.push_branch.result (λ g. goes_later c.args.path.now c.push_branch.new.path firsts others (c.args.index - c.extent_of_elements-count.result.paths) c.args.index split (subst (λ r. GoesOn c.args.path.now (branch_ways documents levels r (c.args.position + 1) d) (c.args.index - c.extent_of_elements-count.result.paths) c.push_branch.new.path) c.deref-else-index-count.ensures g)) c.push_branch.ensures.path)
 
-pub push_approval-push_elements-requires : goal.push_approval-push_elements-requires
-push_approval-push_elements-requires t c =
+pub push_approval-push_from_zero-requires : goal.push_approval-push_from_zero-requires
+push_approval-push_from_zero-requires t c =
     let documents = c.args.walk.now.approvals.now in
     let levels = c.args.walk.now.levels in
     let document = c.document-item.result in
@@ -257,7 +360,7 @@ push_approval-push_elements-requires t c =
         (
           c.requires.approved,
           (
-            counted.1 ∙ ap (λ d. length (element_list_ways documents (levels - 1) document.closed.elements d)) (sym c.zero.ensures),
+            counted.1,
             (omega (arith, counted.0, inside, total, c.requires.few), c.if-left-count.true),
           ),
         ),
@@ -277,8 +380,8 @@ push_approval-returns-then-left-count t c =
     let accepted = sym c.accepts.ensures ∙ c.if-accepts.true in
     let pushed = c.in_ok-push.ensures.ok ∙ ap (λ n. before.steps ++ Document n ∷ []) c.in_ok-name.ensures in
     let behind : Path = record { steps = c.push.new.self; moves = before.moves; outside = before.outside } in
-    let inner = subst (λ d. GoesOn behind (element_list_ways documents (levels - 1) document.closed.elements d) left c.push_elements.new.path) c.zero.ensures c.in_ok-push_elements.ensures.path in
-    on_ok_weaker c.push_use.result (λ used. subst (λ p. GoesOn p (approval_ways documents levels element) c.args.index c.push_use.new.path) c.loop-document.invariant.same (subst (λ i. GoesOn before (approval_ways documents levels element) i c.push_use.new.path) (sym c.loop-document.invariant.counted) (goes_first before c.push_use.new.path (approved_paths (document_paths documents levels) documents element) (outside_paths element) (length (before_document documents levels element index) + left) (goes_in_document documents levels element before c.push_use.new.path index left document c.loop-document-test.true c.document-item.is (goes_by_document documents levels element before behind c.push_elements.new.path c.push_use.new.path document left level accepted (step_pushed before (Document document.document) c.push.new.self pushed) inner used))))) c.push_use.ensures
+    let inner = c.in_ok-push_from_zero.ensures in
+    on_ok_weaker c.push_use.result (λ used. subst (λ p. GoesOn p (approval_ways documents levels element) c.args.index c.push_use.new.path) c.loop-document.invariant.same (subst (λ i. GoesOn before (approval_ways documents levels element) i c.push_use.new.path) (sym c.loop-document.invariant.counted) (goes_first before c.push_use.new.path (approved_paths (document_paths documents levels) documents element) (outside_paths element) (length (before_document documents levels element index) + left) (goes_in_document documents levels element before c.push_use.new.path index left document c.loop-document-test.true c.document-item.is (goes_by_document documents levels element before behind c.push_from_zero.new.path c.push_use.new.path document left level accepted (step_pushed before (Document document.document) c.push.new.self pushed) inner used))))) c.push_use.ensures
 
 pub push_approval-loop-document-preserved : goal.push_approval-loop-document-preserved
 push_approval-loop-document-preserved t c =

@@ -1,0 +1,65 @@
+-- A scene whose policies are filled and can be walked is staged.
+use Rattle.std.proofs.Common.{◌≡◌, ℕ, Bool, List, [], All, map, refl, subst, sym, Ok}
+use Rattle.tpol_digest.specs.Digest.{policy_digest}
+use Rattle.tpol_goal.specs.declared.grants.Grants.{Grants}
+use Rattle.tpol_name.specs.declared.setup.Setup.{Setup}
+use Rattle.tpol_name.specs.Setups.{IsSetup}
+use Rattle.tpol_scene.specs.Conditions.{AreClients, AreEventsBehind, HasClients}
+use Rattle.tpol_scene.specs.declared.scene.Scene.{Scene}
+use Rattle.tpol_scene.specs.declared.script.ScriptEvent.{ScriptEvent}
+use Rattle.tpol_store.specs.Approvals.{HasApprovedBounds}
+use Rattle.tpol_store.specs.Stores.{NamedPolicy}
+use Rattle.tpol_prepare.specs.declared.documents.FilledDocument.{FilledDocument}
+use Rattle.tpol_prepare.specs.declared.prepared.PreparedScene.{PreparedScene}
+use Rattle.tpol_prepare.specs.declared.scenario.StagedScene.{StagedScene}
+use Rattle.tpol_prepare.specs.FilledDocuments.{IsReadyDocument}
+use Rattle.tpol_prepare.specs.Prepared.{prepared_step}
+use Rattle.tpol_prepare.specs.Scenario.{CanHappen, IsScenarioOf, scenario_with}
+use Rattle.tpol_prepare.specs.Staged.{IsScriptOf, IsStaged}
+use Rattle.tpol_prepare.proofs.EntitiesKept.{prepared_keeps}
+use Rattle.tpol_prepare.proofs.SetupsKept.{HasHandlesOf, handles_stay}
+use Rattle.tpol_prepare.proofs.Walkable.{all_can_happen}
+use Rattle.tpol_tree.specs.declared.path.ApprovedDoc.{ApprovedDoc}
+
+-- ---- the script
+
+same_handles : (setup : Setup) → HasHandlesOf setup setup
+same_handles setup = record { objects = refl; indices = refl }
+
+-- the entities keep their handles when their policies are compiled
+handles_kept : (store : List NamedPolicy) (scene : Scene) (result : PreparedScene) → prepared_step store scene ≡ Ok result → HasHandlesOf scene.setup result.setup
+handles_kept store scene result e =
+    prepared_keeps (λ setup entities. HasHandlesOf scene.setup setup)
+    (λ setup entities policy closed same. handles_stay policy.handle (policy_digest closed) scene.setup setup same)
+    store scene result (same_handles scene.setup) e
+
+script_over : (before setup : Setup) (clients : List (ℕ × Grants)) (script : List ScriptEvent) → HasHandlesOf before setup → IsScriptOf before clients script → IsScriptOf setup clients script
+script_over before setup clients script same is =
+    subst (λ objects. AreEventsBehind objects (map (λ i. i.public.index) setup.indices) (map (λ client. client.0) clients) [] script) (sym same.objects)
+    (subst (λ indices. AreEventsBehind (map (λ o. o.handle) before.objects) indices (map (λ client. client.0) clients) [] script) (sym same.indices) is)
+
+-- so the scene's script is one over them
+pub script_kept : (store : List NamedPolicy) (scene : Scene) (result : PreparedScene) → prepared_step store scene ≡ Ok result → IsScriptOf scene.setup scene.clients scene.script
+    → IsScriptOf result.setup scene.clients scene.script
+script_kept store scene result e is = script_over scene.setup result.setup scene.clients scene.script (handles_kept store scene result e) is
+
+-- ---- all of it
+
+pub is_staged : (explains : Bool) (scene : Scene) (prepared : PreparedScene) (approvals : List ApprovedDoc) → IsSetup prepared.setup
+    → IsScenarioOf prepared.setup (scenario_with explains scene prepared approvals).scenario → All IsReadyDocument prepared.begun → All HasApprovedBounds approvals
+    → HasClients scene → IsScriptOf prepared.setup scene.clients scene.script → IsStaged (scenario_with explains scene prepared approvals)
+is_staged explains scene prepared approvals setup scenario begun bounded clients script = record {
+  setup = setup;
+  scenario = scenario;
+  directory = refl;
+  begun = λ i document within. (begun i document within).bounded;
+  approvals = bounded;
+  grants = clients.grants;
+  script = script;
+}
+
+-- its events can happen
+pub events_can_happen : (staged : StagedScene) → IsStaged staged → All CanHappen staged.script
+events_can_happen staged is =
+    all_can_happen (map (λ o. o.handle) staged.setup.objects) (map (λ i. i.public.index) staged.setup.indices)
+    (map (λ client. client.0) staged.scenario.clients) [] staged.script is.script
