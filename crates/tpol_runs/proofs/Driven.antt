@@ -1,7 +1,7 @@
 -- A run is where the driver stands after its replies.
-use Rattle.std.proofs.Common.{◌≡◌, ℕ, true, List, [], ◌∷◌, Option, Some, None, refl, ap, sym, ◌∙◌}
+use Rattle.std.proofs.Common.{◌≡◌, ℕ, true, List, [], ◌∷◌, Some, None, refl, ap, ◌∙◌}
 use Rattle.std.specs.List.{fold}
-use Rattle.tpol_driver.specs.Driving.{Driving, Standing, Starting, Moving, Closing, Over, hears, sends}
+use Rattle.tpol_driver.specs.Driving.{Standing, Starting, Moving, Closing, Over, hears, sends}
 use Rattle.tpol_driver.specs.States.{is_over}
 use Rattle.tpol_runs.specs.Courses.{after_replies, goes_on, heard_by, next_of, sent_in, stands_at, underway_at}
 use Rattle.tpol_runs.specs.Underway.{Underway}

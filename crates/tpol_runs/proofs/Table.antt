@@ -1,7 +1,7 @@
 -- The run of a number among the runs: where it stands, and what a write there gives.
-use Rattle.std.proofs.Common.{◌≡◌, ℕ, suc, ◌+◌, ◌<◌, ◌≤◌, Bool, true, false, not, cond, List, [], ◌∷◌, length, get_or, Option, Some, None, slice_get, refl, ap, sym, ◌∙◌, subst, ltb, rules, arith, set}
+use Rattle.std.proofs.Common.{◌≡◌, ℕ, suc, ◌+◌, ◌<◌, Bool, true, false, not, cond, List, [], ◌∷◌, length, get_or, Option, Some, None, slice_get, refl, ap, sym, ◌∙◌, subst, ltb, rules, arith, set}
 use Rattle.std.specs.Prelude.{position, find}
-use Rattle.std.specs.List.{position_or_len, prefix_len}
+use Rattle.std.specs.List.{position_or_len}
 use Rattle.std.proofs.lemmas.List.Folds.{find_at}
 use Rattle.std.proofs.lemmas.Option.{slice_get_past, slice_get-get_or}
 use Rattle.tpol_runs.specs.declared.numbered.Numbered.{Numbered}
@@ -95,3 +95,35 @@ same false entry rest number later = ap (λ l. entry ∷ l) later
 pub written_same : (runs : List Numbered) (number : ℕ) → with_run runs number (run_at runs number) ≡ runs
 written_same [] number = refl
 written_same (entry ∷ rest) number = same (has_number number entry) entry rest number (written_same rest number)
+
+-- ---- a write leaves each run where it stands
+
+placed : (b : Bool) (entry : Numbered) (rest : List Numbered) (number : ℕ) (run : Option Underway) → b ≡ has_number number entry
+    → position_or_len (has_number number) (with_run rest number run) ≡ position_or_len (has_number number) rest
+    → position_or_len (has_number number) (cond b (record { number = entry.number; run = run } ∷ rest) (entry ∷ with_run rest number run))
+    ≡ cond (not b) (1 + position_or_len (has_number number) rest) 0
+placed true entry rest number run is later =
+    let P : Bool → Type 0 = λ b. cond (not b) (1 + position_or_len (has_number number) rest) 0 ≡ 0 in
+    subst P is refl
+placed false entry rest number run is later =
+    let P : Bool → Type 0 = λ b. cond (not b) (1 + position_or_len (has_number number) (with_run rest number run)) 0 ≡ 1 + position_or_len (has_number number) rest in
+    subst P is (ap (λ i. 1 + i) later)
+
+place_stays : (runs : List Numbered) (number : ℕ) (run : Option Underway) → position_or_len (has_number number) (with_run runs number run) ≡ position_or_len (has_number number) runs
+place_stays [] number run = refl
+place_stays (entry ∷ rest) number run = placed (has_number number entry) entry rest number run refl (place_stays rest number run)
+
+length_first : (b : Bool) (entry written : Numbered) (rest after : List Numbered) → length after ≡ length rest → length (cond b (written ∷ rest) (entry ∷ after)) ≡ suc (length rest)
+length_first true entry written rest after later = refl
+length_first false entry written rest after later = ap suc later
+
+length-with_run : (runs : List Numbered) (number : ℕ) (run : Option Underway) → length (with_run runs number run) ≡ length runs
+length-with_run [] number run = refl
+length-with_run (entry ∷ rest) number run =
+    length_first (has_number number entry) entry (record { number = entry.number; run = run }) rest (with_run rest number run) (length-with_run rest number run)
+
+pub position_stays : (runs : List Numbered) (number : ℕ) (run : Option Underway) → position (has_number number) (with_run runs number run) ≡ position (has_number number) runs
+position_stays runs number run =
+    let at : ℕ → ℕ → Option ℕ = λ place count. cond (ltb place count) (Some place) None in
+    ap (λ place. at place (length (with_run runs number run))) (place_stays runs number run)
+    ∙ ap (at (position_or_len (has_number number) runs)) (length-with_run runs number run)

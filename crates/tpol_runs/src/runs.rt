@@ -1,6 +1,6 @@
 //! The runs of a script.
 
-ghost use Rattle.std.specs.Prelude.{◌≡◌, ◌≤◌, ◌∷◌, ◌++◌, [], None, Some, length, position, IfOk, IfSome, OnOk, OnErr};
+ghost use Rattle.std.specs.Prelude.{◌≡◌, ◌<◌, ◌≤◌, ◌∷◌, ◌++◌, [], None, Some, length, position, IfOk, IfSome, OnOk, OnErr, ℕ};
 ghost use Rattle.std.specs.Option.{option_copied};
 ghost use Rattle.tpol_runs.specs.Courses.{begun, end_told, goes_on, heard_by, most_of, next_of, run_after};
 ghost use Rattle.tpol_runs.specs.Runs.{has_number, run_at, with_run};
@@ -103,11 +103,14 @@ impl Runs {
         ensures runs { OnOk result (self.new ≡ with_run self.old number (goes_on (heard_by (run_at self.old number) reply.now))) }
         ensures err { OnErr result (self.new ≡ self.old) }
     {
-        let Some(run) = self.exchange(number, None) else {
+        let Some(place) = self.place_of(number) else {
+            return Ok(None);
+        };
+        let Some(run) = self.exchange(place, None) else {
             return Ok(None);
         };
         let (run, told) = hand(run, alloc, reply);
-        self.exchange(number, run);
+        self.exchange(place, run);
         told
     }
 
@@ -121,14 +124,12 @@ impl Runs {
         self.runs[place].run.as_ref()
     }
 
-    // Puts another state, or none, in place of that of the run of this number, and hands out what was there.
-    fn exchange(&mut self, number: u16, run: Option<Run>) -> Option<Run>
-        ensures before { result ≡ run_at self.old number }
-        ensures after { self.new ≡ with_run self.old number run }
+    // Puts another state, or none, in place of that of the run at this place, and hands out what was there.
+    fn exchange(&mut self, place: usize, run: Option<Run>) -> Option<Run>
+        requires within { place < length self.old }
+        ensures before { (number : ℕ) → position (has_number number) self.old ≡ Some place → result ≡ run_at self.old number }
+        ensures after { (number : ℕ) → position (has_number number) self.old ≡ Some place → self.new ≡ with_run self.old number run }
     {
-        let Some(place) = self.place_of(number) else {
-            return None;
-        };
         replace(&mut self.runs[place].run, run)
     }
 

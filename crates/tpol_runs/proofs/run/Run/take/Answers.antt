@@ -1,5 +1,5 @@
 use Rattle.std.proofs.Common.{◌≡◌, ◌∙◌, subst}
-use Rattle.tpol_driver.specs.Driving.{Driving, Standing, hears}
+use Rattle.tpol_driver.specs.Driving.{Standing, hears}
 use Rattle.tpol_runs.specs.Courses.{run_after}
 use Rattle.tpol_runs.specs.State.{driving_of}
 use Rattle.tpol_runs.specs.Underway.{Underway}
