@@ -291,6 +291,20 @@ fn nothing_is_called_again(rt: HostRuntime) -> Result<(), Fail> {
     Ok(())
 }
 
+// `import` makes one call of the shelf, which puts the document: every other one fails here.
+#[test]
+fn import_neither_lists_nor_fetches(rt: HostRuntime) -> Result<(), Fail> {
+    let alloc = rt.alloc();
+    let words = words_of(alloc, &["import", "/policy/disk"])?;
+    let mut source = MemorySource::new(SECRET.as_bytes().to_vec(alloc)?);
+    let mut sink = MemorySink::new(alloc);
+    let mut shelf = Failing::new(MemoryShelf::new(alloc), vec![in alloc; 2, 3, 4]?);
+    let status = policy_main(alloc, &words, &mut source, &mut sink, &mut shelf);
+    assert_eq!(rt; status, Status::Done);
+    assert_eq!(rt; sink.written().ok_or("lost")?, "imported disk\n".as_bytes());
+    Ok(())
+}
+
 #[test]
 fn each_line_is_one_write(rt: HostRuntime) -> Result<(), Fail> {
     let alloc = rt.alloc();
