@@ -2,7 +2,7 @@
 use Rattle.std.proofs.Common.{◌≡◌, ℕ, ◌+◌, ◌*◌, ◌≤◌, true, List, [], ◌∷◌, ◌++◌, length, refl, ap, sym, ◌∙◌, arith}
 use Rattle.std.proofs.lemmas.Grind.{fold-append}
 use Rattle.std.proofs.lemmas.List.{length-append}
-use Rattle.tpol_driver.proofs.Ending.{over_at_last}
+use Rattle.tpol_driver.proofs.Ending.{over_after_all}
 use Rattle.tpol_driver.specs.declared.end.End.{End}
 use Rattle.tpol_driver.specs.declared.plan.Plan.{Plan}
 use Rattle.std.specs.Prelude.{slice_get}
@@ -28,24 +28,24 @@ one-more n replies reply acts enough = omega (arith, enough, length-append repli
 
 -- from where it stands after these replies
 ends-from : (run : Run) (acts : List Act) (past : List Event) (standing : Standing) (replies : List (List ℕ)) → stands_after run.plan replies ≡ standing
-    → 2 * length run.plan.path.moves + 4 ≤ length replies + turns_in acts
+    → 2 * length run.plan.path.moves + 3 ≤ length replies + turns_in acts
     → is_over (after_acts run acts (record { past = past; standing = standing })).standing ≡ true
 unfolding after_acts
-ends-from run [] past at replies is enough = ap is_over (sym is) ∙ over_at_last run.plan replies (omega (arith, enough))
+ends-from run [] past at replies is enough = ap is_over (sym is) ∙ over_after_all run.plan replies (omega (arith, enough))
 ends-from run (Other call ∷ acts) past at replies is enough = ends-from run acts _ at replies is enough
 ends-from run (Turn ∷ acts) past (Over end) replies is enough = over-stays run acts past end
 ends-from run (Turn ∷ acts) past Starting replies is enough =
     let reply = (answer_in run past (start_command run.plan.nonce_seed)).reply in
     ends-from run acts _ (hears run.plan Starting reply) (replies ++ reply ∷ []) (heard-once run.plan replies reply ∙ ap (λ at. hears run.plan at reply) is)
-    (one-more (2 * length run.plan.path.moves + 4) replies reply acts enough)
+    (one-more (2 * length run.plan.path.moves + 3) replies reply acts enough)
 ends-from run (Turn ∷ acts) past (Moving session sent ticket done) replies is enough =
     let reply = (answer_in run past (next_command run.plan session sent ticket (slice_get run.plan.path.moves done))).reply in
     ends-from run acts _ (hears run.plan (Moving session sent ticket done) reply) (replies ++ reply ∷ []) (heard-once run.plan replies reply ∙ ap (λ at. hears run.plan at reply) is)
-    (one-more (2 * length run.plan.path.moves + 4) replies reply acts enough)
+    (one-more (2 * length run.plan.path.moves + 3) replies reply acts enough)
 ends-from run (Turn ∷ acts) past (Closing session end) replies is enough =
     let reply = (answer_in run past (commands.FlushContext session)).reply in
     ends-from run acts _ (hears run.plan (Closing session end) reply) (replies ++ reply ∷ []) (heard-once run.plan replies reply ∙ ap (λ at. hears run.plan at reply) is)
-    (one-more (2 * length run.plan.path.moves + 4) replies reply acts enough)
+    (one-more (2 * length run.plan.path.moves + 3) replies reply acts enough)
 
-pub run-ends : (run : Run) (past : List Event) (acts : List Act) → 2 * length run.plan.path.moves + 4 ≤ turns_in acts → is_over (after_acts run acts (begun past)).standing ≡ true
+pub run-ends : (run : Run) (past : List Event) (acts : List Act) → 2 * length run.plan.path.moves + 3 ≤ turns_in acts → is_over (after_acts run acts (begun past)).standing ≡ true
 run-ends run past acts enough = ends-from run acts past Starting [] refl (omega (arith, enough))

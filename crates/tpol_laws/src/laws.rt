@@ -74,7 +74,7 @@ pub fn a_blocked_path_fails()
 /// start, the goal and the end of its session.
 pub fn a_run_ends()
     ensures { (run : Run) (past : List EventOf) (acts : List Act)
-        → 2 * length run.plan.path.moves + 4 ≤ turns_in acts → is_over (after_acts run acts (begun past)).standing ≡ true }
+        → 2 * length run.plan.path.moves + 3 ≤ turns_in acts → is_over (after_acts run acts (begun past)).standing ≡ true }
 {}
 
 /// A run goes on where the machine carries out its command: a run whose session is started stands before its
