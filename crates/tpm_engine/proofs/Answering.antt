@@ -9,13 +9,13 @@ use Rattle.tpm_bindings.specs.Facts.{moves_of}
 use Rattle.tpm_engine.specs.declared.opened.Opened.{Opened}
 use Rattle.tpm_engine.specs.declared.responded.Responded.{Responded}
 use Rattle.tpm_engine.specs.declared.stop.Stop.{Stop}
-use Rattle.tpm_engine.specs.Answers.{answer, answer_to_command, answer_to_reading, answer_unless, early_stop, opened_by_command, opened_by_reading, opened_of, opened_unless, opening_of, own_rule, stopped, succeeding}
+use Rattle.tpm_engine.specs.Answers.{answer, answer_to_command, answer_to_reading, answer_unless, opened_by_command, opened_by_reading, opened_of, opened_unless, opening_of, stopped, succeeding}
 use Rattle.tpm_engine.specs.Deeds.{after_event}
 use Rattle.tpm_engine.specs.Events.{Answered, event_of, is_success}
-use Rattle.tpm_engine.specs.Responses.{IsResponse, own_answer, own_opened}
+use Rattle.tpm_engine.specs.Responses.{IsResponse, checked_stop}
 use Rattle.tpm_engine.specs.Stops.{refuses}
 use Rattle.tpm_engine.specs.Tables.{TableState}
-use Rattle.tpm_engine.proofs.Serving.{Fails, early-fails, early-none, early-some, event-after, event-fails, own-refused, stopped-response}
+use Rattle.tpm_engine.proofs.Serving.{Fails, checked-fails, checked-first, event-after, event-fails, stopped-response}
 
 pub ok-map : {A E : Type 0} (P Q : A → Type 0) (result : Result A E) → ((x : A) → P x → Q x) → IfOk result P → IfOk result Q
 ok-map P Q (Ok x) f h = f x h
@@ -39,28 +39,14 @@ stop-response before number command (Ok done) stop answered opened is none fails
     stopped-response before before number command done stop answered opened is none fails how.reply how.kept how.outcome how.opened refl
 stop-response before number command (Err e) stop answered opened is none fails how = tt
 
--- the own rules refuse a command
-pub refused-response : (before : TableState) (number : ℕ) (command : Command) (result : Result Responded NoMemory) (code : ℕ) → own_rule before command ≡ Some code → IsStopped (refuses code) result
-    → IfOk result (λ done. IsResponse before number command (own_answer before number command) (own_opened before command) before done)
-refused-response before number command result code rule how =
-    let is = own-refused before number command code rule in
-    stop-response before number command result (refuses code) _ _ is.0 is.1 refl how
-
--- a rule before them does
-pub early-response : (before : TableState) (number locality : ℕ) (command : Command) (result : Result Responded NoMemory) (stop : Stop) → early_stop before locality command ≡ Some stop → IsStopped stop result
+-- a rule that is asked before a command is carried out refuses it
+pub checked-response : (before : TableState) (number locality : ℕ) (command : Command) (result : Result Responded NoMemory) (stop : Stop) → checked_stop before locality command ≡ Some stop → IsStopped stop result
     → IfOk result (λ done. IsResponse before number command (answer_to_command before number locality command) (opened_by_command before locality command) before done)
-early-response before number locality command result stop is how =
-    let first = early-some before locality command stop is in
+checked-response before number locality command result stop is how =
+    let first = checked-first before locality command stop is in
     stop-response before number command result stop _ _
     (ap (λ s. answer_unless s (succeeding before number command)) first) (ap (λ s. opened_unless s (opening_of before command)) first)
-    (subst Fails is (early-fails before locality command)) how
-
-pub later-response : (before : TableState) (number locality : ℕ) (command : Command) (after : TableState) (result : Result Responded NoMemory) → early_stop before locality command ≡ None
-    → IfOk result (λ done. IsResponse before number command (own_answer before number command) (own_opened before command) after done)
-    → IfOk result (λ done. IsResponse before number command (answer_to_command before number locality command) (opened_by_command before locality command) after done)
-later-response before number locality command after result none h =
-    ok-map (λ done. IsResponse before number command (own_answer before number command) (own_opened before command) after done) _ result
-    (λ done. early-none before number locality command after done none) h
+    (subst Fails is (checked-fails before locality command)) how
 
 -- ---- the answer to bytes
 

@@ -1,5 +1,6 @@
 pub mod Answering
 pub mod Authorizing
+pub mod Carrying
 pub mod DeedsOf
 pub mod Fitting
 pub mod Headline

@@ -201,12 +201,6 @@ shown-state : (here : Bool) (state : SessionState) (fact : Fact) (counter : ℕ)
 shown-state true state fact counter = refl
 shown-state false state fact counter = refl
 
-served-state : (here : Bool) (state : SessionState) (fresh : Digest32)
-    → (if here then with_nonce state fresh else state)
-    ≡ record { start = state.start; nonce = if here then fresh else state.nonce; facts = if here then [] else state.facts; counter = if here then None else state.counter }
-served-state true state fresh = refl
-served-state false state fresh = refl
-
 -- ---- the tables after a deed
 
 after_deed-seen : (world : WorldState) (number : ℕ) (deed : Deed) (seen : ℕ → Seen)

@@ -1,12 +1,12 @@
 -- What is found in the views' tables at a handle.
-use Rattle.std.proofs.Common.{◌≡◌, ℕ, zero, suc, ◌-◌, ◌≤◌, ◌&&◌, Bool, true, false, List, [], ◌∷◌, set, Option, None, Some, is_some, nat_le, nat_lt, if◌then◌else◌, refl, ap, sym, ◌∙◌, arith}
+use Rattle.std.proofs.Common.{◌≡◌, ℕ, zero, suc, ◌-◌, ◌≤◌, ◌&&◌, Bool, true, false, List, Option, None, Some, is_some, nat_le, nat_lt, if◌then◌else◌, refl, ap, sym, ◌∙◌, arith}
 use Rattle.std.proofs.lemmas.Bool.{false≢true}
 use Rattle.std.proofs.lemmas.Bool.Decides.{nat_tests}
 use Rattle.std.proofs.lemmas.Option.{none-some, same_Some}
 use Rattle.tpol_name.specs.declared.setup.Setup.{Setup}
 use Rattle.tpm_bindings.specs.State.{SessionState}
 use Rattle.tpm_context.specs.Saved.{AreApart}
-use Rattle.tpm_session.specs.Slots.{content_at, first_handle, handle_of_slot, in_slot, slot_count, state_at, with_content}
+use Rattle.tpm_session.specs.Slots.{content_at, first_handle, handle_of_slot, in_slot, slot_count, state_at}
 use Rattle.tpm_engine.specs.declared.event.Event.{Event}
 use Rattle.tpm_engine.specs.Views.{is_held, live_at, live_slot, saved_at, saved_slot, sequence_of, session_state, table, view_of}
 
@@ -74,16 +74,3 @@ apart-view setup past session live =
     (ap is_some (sym (content-table (live_at setup past) session)) ∙ live)
 
 -- ---- writes that change nothing
-
-set-same : {A : Type 0} (slots : List (Option A)) (slot : ℕ) → set slots slot (in_slot slots slot) ≡ slots
-set-same [] slot = refl
-set-same (first ∷ rest) zero = refl
-set-same (first ∷ rest) (suc slot) = ap (λ slots. first ∷ slots) (set-same rest slot)
-
--- what is written where it already stands
-pub with_content-same : {A : Type 0} (slots : List (Option A)) (handle : ℕ) (content : Option A) → content_at slots handle ≡ content → with_content slots handle content ≡ slots
-with_content-same {A} slots handle content found = at (nat_le first_handle handle) found
-  where
-    at : (b : Bool) → (if b then in_slot slots (handle - first_handle) else None) ≡ content → (if b then set slots (handle - first_handle) content else slots) ≡ slots
-    at true h = ap (set slots (handle - first_handle)) (sym h) ∙ set-same slots (handle - first_handle)
-    at false h = refl

@@ -34,11 +34,11 @@ use Rattle.tpm_engine.specs.Authorization.{area_stop, authorization_stop, author
 use Rattle.tpm_engine.specs.Closings.{closing_of, closing_of_area, opened_by, opened_by_one, use_of_closing}
 use Rattle.tpm_engine.specs.Deeds.{after_deed, after_event, after_use, area_use, command_deed, deed_in, use_in, Idle}
 use Rattle.tpm_engine.specs.Events.{Answered, event_of, is_served, is_success}
-use Rattle.tpm_engine.specs.Responses.{IsResponse, after_command, after_success, checked_rule, own_answer, own_opened}
+use Rattle.tpm_engine.specs.Responses.{IsResponse, after_command, after_success, checked_rule, checked_stop, own_answer, own_opened}
 use Rattle.tpm_engine.specs.SessionCommands.{is_session_command}
 use Rattle.tpm_engine.specs.Stops.{apart_stop, authorizing_session, denies, handle_stop, handles_from, handles_stop, has_room, refuses, room_stop, session_of_area, session_stop}
 use Rattle.tpm_engine.specs.Tables.{TableState}
-use Rattle.tpm_engine.proofs.Stopping.{or_else-none, unless-none}
+use Rattle.tpm_engine.proofs.Stopping.{map-none, or_else-none, unless-none}
 
 -- ---- the own rules
 
@@ -248,8 +248,35 @@ early-none before number locality command after done none response =
     subst (λ (stop : Option Stop). IsResponse before number command (answer_unless stop (succeeding before number command)) (opened_unless stop (opening_of before command)) after done)
     (sym (ap (λ early. or_else early (option_map refuses (own_rule before command))) none)) response
 
-pub early-some : (before : TableState) (locality : ℕ) (command : Command) (stop : Stop) → early_stop before locality command ≡ Some stop → first_stop before locality command ≡ Some stop
-early-some before locality command stop is = ap (λ early. or_else early (option_map refuses (own_rule before command))) is
+-- where all rules hold that are asked before a command is carried out
+pub record AreKept (tables : TableState) (locality : ℕ) (command : Command) : Type 0 where
+  pub early : early_stop tables locality command ≡ None
+  pub session : session_stop tables command ≡ None
+  pub room : room_stop tables command ≡ None
+  pub checked : checked_rule tables command ≡ None
+
+pub checked-kept : (tables : TableState) (locality : ℕ) (command : Command) → checked_stop tables locality command ≡ None → AreKept tables locality command
+checked-kept tables locality command none =
+    let both = or_else-none (early_stop tables locality command) _ none in
+    let later = or_else-none (session_stop tables command) _ (or_else-none (handles_stop tables command) _ both.0).1 in
+    record {
+      early = both.0;
+      session = later.0;
+      room = (or_else-none (authorization_stop tables locality command) (room_stop tables command) later.1).1;
+      checked = map-none refuses (checked_rule tables command) both.1;
+    }
+
+-- the first of them that is broken is the first of all
+pub checked-first : (tables : TableState) (locality : ℕ) (command : Command) (stop : Stop) → checked_stop tables locality command ≡ Some stop → first_stop tables locality command ≡ Some stop
+checked-first tables locality command stop is = at (early_stop tables locality command) is
+  where
+    own : (o : Option ℕ) → checked_rule tables command ≡ o → option_map refuses o ≡ Some stop → option_map refuses (own_rule tables command) ≡ Some stop
+    own None e h = absurd (none-some stop h)
+    own (Some code) e h = ap (option_map refuses) (checked-own tables command code e) ∙ h
+
+    at : (o : Option Stop) → or_else o (option_map refuses (checked_rule tables command)) ≡ Some stop → or_else o (option_map refuses (own_rule tables command)) ≡ Some stop
+    at None h = own (checked_rule tables command) refl h
+    at (Some broken) h = h
 
 -- ---- stops are no success
 
@@ -324,6 +351,9 @@ early-fails tables locality command =
     or_else-fails (handles_stop tables command) _ (handles-fail tables 1 (handles_of command))
     (or_else-fails (session_stop tables command) _ (session-fails tables command)
     (or_else-fails (authorization_stop tables locality command) (room_stop tables command) (authorization-fails tables locality command) (room-fails tables command)))
+
+pub checked-fails : (tables : TableState) (locality : ℕ) (command : Command) → Fails (checked_stop tables locality command)
+checked-fails tables locality command = or_else-fails (early_stop tables locality command) _ (early-fails tables locality command) (refuses-fails (checked_rule tables command))
 
 pub first-fails : (tables : TableState) (locality : ℕ) (command : Command) → Fails (first_stop tables locality command)
 first-fails tables locality command = or_else-fails (early_stop tables locality command) _ (early-fails tables locality command) (refuses-fails (own_rule tables command))

@@ -1,9 +1,8 @@
 -- A policy command's fact, and what becomes of the tables by it.
-use Rattle.std.proofs.Common.{◌≡◌, ℕ, ◌==◌, ◌<◌, Bool, true, false, List, Option, None, Some, IfSome, Result, Ok, Err, OnOk, OnErr, is_some, cond, length, nat_lt, refl, ap, sym, ◌∙◌, arith}
+use Rattle.std.proofs.Common.{◌≡◌, ℕ, ◌==◌, Bool, true, false, List, Option, None, Some, IfSome, Result, Ok, Err, OnOk, OnErr, is_some, cond, refl, ap, sym, ◌∙◌}
 use Rattle.std.specs.Prelude.{pos}
-use Rattle.std.specs.Option.{option_and_then, option_map, option_map_or}
+use Rattle.std.specs.Option.{option_map, option_map_or}
 use Rattle.std.proofs.lemmas.Bool.{false≢true}
-use Rattle.std.proofs.lemmas.Bool.Decides.{nat_tests}
 use Rattle.std.proofs.lemmas.Option.{none-some, same_Some}
 use Rattle.tpol_base.specs.declared.digest.Digest32.{Digest32}
 use Rattle.tpol_base.specs.declared.name.Name.{Name}
@@ -24,7 +23,7 @@ use Rattle.tpm_policy.specs.Judgments.{is_auth_ticket}
 use Rattle.tpm_rules.specs.PolicyTicket.{policy_ticket_rule}
 use Rattle.tpm_rules.specs.Rule.{Obeys}
 use Rattle.tpm_session.specs.Kept.{SessionView, counter_after, with_fact}
-use Rattle.tpm_session.specs.Slots.{is_live, session_at, state_at, with_state}
+use Rattle.tpm_session.specs.Slots.{is_live, session_at, with_state}
 use Rattle.tpm_session.proofs.Slots.{found-state, put-back}
 use Rattle.tpm_world.specs.Handles.{is_policy_command, policy_session_of}
 use Rattle.tpm_world.specs.Hashes.{proof_of}
@@ -33,10 +32,8 @@ use Rattle.tpm_engine.specs.Deeds.{Shows, after_deed, command_deed, plain_deed, 
 use Rattle.tpm_engine.specs.Facts.{Moment, Shown, moment, shown_by}
 use Rattle.tpm_engine.specs.PolicyCommands.{ticket_rule}
 use Rattle.tpm_engine.specs.Responses.{kept_counter}
-use Rattle.tpm_engine.specs.Stops.{has_room}
 use Rattle.tpm_engine.specs.Tables.{TableState}
 use Rattle.tpm_engine.proofs.Slotted.{changed-live, content-same, tables_of}
-use Rattle.tpm_engine.proofs.Stopping.{unless-none}
 
 -- ---- the session of a policy command
 
@@ -83,15 +80,6 @@ same-counter world (commands.PolicyAuthorize session approved policy_ref key tic
 same-counter world (commands.PolicyOr session digests) counter now = other-counter counter _ 0 world.pcrs.counter refl
 same-counter world (commands.PolicyAuthorizeNv authority index session auth) counter now = other-counter counter _ 0 world.pcrs.counter refl
 same-counter world _ counter now = tt
-
--- ---- room
-
-pub room-left : (slots : List (Option SessionState)) (handle : ℕ) (session : SessionView)
-    → option_and_then has_room (state_at slots handle) ≡ None → Some session ≡ session_at slots handle → length session.state.facts < 512
-room-left slots handle session room found =
-    let there = (found-state slots handle session found).1 in
-    let test : nat_lt (length session.state.facts) 512 ≡ true = unless-none _ _ (sym (ap (option_and_then has_room) there) ∙ room) in
-    grind (arith, nat_tests, test)
 
 -- ---- the tables
 

@@ -8,7 +8,7 @@ use Rattle.tpm_context.specs.Saved.{AreApart, SavedState, is_saved}
 use Rattle.tpm_session.specs.Slots.{changed_at, content_at, first_handle, in_slot, is_live, session_at, session_of, state_at, with_content, with_state}
 use Rattle.tpm_session.proofs.Slots.{content-emptied, content-other}
 use Rattle.tpm_world.specs.World.{WorldState}
-use Rattle.tpm_engine.specs.Tables.{TableState, saved_changed, with_changed, without}
+use Rattle.tpm_engine.specs.Tables.{TableState, saved_changed, with_changed}
 
 set-get : {A : Type 0} (slots : List (Option A)) (slot : ℕ) → set slots slot (get_or slots slot None) ≡ slots
 set-get [] slot = refl
@@ -32,13 +32,6 @@ none-of (Some x) h = absurd (false≢true (sym h))
 pub unsaved : (live : List (Option SessionState)) (saved : List (Option SavedState)) (handle : ℕ) → AreApart live saved → is_live live handle ≡ true → content_at saved handle ≡ None
 unsaved live saved handle apart there = none-of (content_at saved handle) (apart handle there)
 
-pub not-live : (live : List (Option SessionState)) (saved : List (Option SavedState)) (handle : ℕ) → AreApart live saved → is_saved saved handle ≡ true → state_at live handle ≡ None
-not-live live saved handle apart there = at (state_at live handle) refl
-  where
-    at : (o : Option SessionState) → state_at live handle ≡ o → o ≡ None
-    at None e = refl
-    at (Some state) e = absurd (false≢true (sym (apart handle (ap is_some e)) ∙ there))
-
 -- ---- what keeps live and saved sessions apart
 
 pub apart-emptied : (live : List (Option SessionState)) (saved : List (Option SavedState)) (handle : ℕ) → AreApart live saved → AreApart (with_state live handle None) saved
@@ -56,13 +49,6 @@ apart-written live saved handle state apart none other there =
     (λ away. apart other (ap is_some (sym (content-other live handle other state away)) ∙ there))
     (cases_eq other handle)
 
-pub apart-flushed : (live : List (Option SessionState)) (saved : List (Option SavedState)) (handle : ℕ) → AreApart live saved → AreApart live (with_content saved handle None)
-apart-flushed live saved handle apart other there =
-    ⊎_elim
-    (λ same. ap (is_saved (with_content saved handle None)) same ∙ ap is_some (content-emptied saved handle))
-    (λ away. ap is_some (content-other saved handle other None away) ∙ apart other there)
-    (cases_eq other handle)
-
 -- ---- the tables after a change of a live session
 
 abbrev pub tables_of : WorldState → List (Option SessionState) → List (Option SavedState) → TableState
@@ -74,18 +60,6 @@ changed-live tables handle change apart live =
     let none = unsaved tables.sessions tables.saved handle apart live in
     ap (tables_of tables.world (changed_at tables.sessions handle change))
     (sym (ap (λ content. with_content tables.saved handle (option_map (saved_changed change) content)) none ∙ emptied-same tables.saved handle none))
-
-pub without-live : (tables : TableState) (handle : ℕ) → AreApart tables.sessions tables.saved → is_live tables.sessions handle ≡ true
-    → tables_of tables.world (with_state tables.sessions handle None) tables.saved ≡ without tables handle
-without-live tables handle apart live =
-    ap (tables_of tables.world (with_state tables.sessions handle None))
-    (sym (emptied-same tables.saved handle (unsaved tables.sessions tables.saved handle apart live)))
-
--- an emptied session that is not live changes nothing
-pub unchanged-dead : (live : List (Option SessionState)) (handle : ℕ) (change : SessionState → SessionState) → is_live live handle ≡ false → changed_at live handle change ≡ live
-unchanged-dead live handle change dead =
-    let none = none-of (state_at live handle) dead in
-    ap (λ state. with_state live handle (option_map change state)) none ∙ emptied-same live handle none
 
 -- slots that were all emptied have nothing
 get-empty : {A : Type 0} (count slot : ℕ) → ◌≡◌ {A = Option A} (get_or (replicate count None) slot None) None

@@ -62,10 +62,6 @@ free-unsaved live saved slot free =
 
 -- ---- the tables
 
-map-some : {A B : Type 0} (f : A → B) (o : Option A) (y : B) → option_map f o ≡ Some y → is_some o ≡ true
-map-some f None y h = absurd (none-some y h)
-map-some f (Some x) y h = refl
-
 pub start-tables : (tables : TableState) (number handle : ℕ) (sessions : List (Option SessionState))
     → option_map handle_of_slot (free_slot tables) ≡ Some handle
     → sessions ≡ with_state tables.sessions handle (Some (state_of tables.world.time (nonce_of_event tables.world.seed number) [] None))

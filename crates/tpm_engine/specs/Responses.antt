@@ -6,13 +6,15 @@ use Rattle.tpol_wire.specs.declared.command.Command.{Command}
 use Rattle.tpol_wire.specs.declared.command.Command.TheVariants as commands
 use Rattle.tpm_bindings.specs.Agreement.{Agree}
 use Rattle.tpm_bindings.specs.Facts.{moves_of}
+use Rattle.tpm_rules.specs.Rule.{or_else}
 use Rattle.tpm_world.specs.Handles.{area_of, is_policy_command}
 use Rattle.tpm_world.specs.Plain.{plain_rule}
 use Rattle.tpm_world.specs.World.{WorldState}
 use Rattle.tpm_engine.specs.declared.opened.Opened.{Opened}
 use Rattle.tpm_engine.specs.declared.prepared.Prepared.{Prepared}
 use Rattle.tpm_engine.specs.declared.responded.Responded.{Responded}
-use Rattle.tpm_engine.specs.Answers.{answer_unless, opened_unless, opening_of, own_rule, succeeding, success_of}
+use Rattle.tpm_engine.specs.declared.stop.Stop.{Stop}
+use Rattle.tpm_engine.specs.Answers.{answer_unless, early_stop, opened_unless, opening_of, own_rule, succeeding, success_of}
 use Rattle.tpm_engine.specs.Closings.{closing_of}
 use Rattle.tpm_engine.specs.Deeds.{after_deed, after_use, area_use, command_deed}
 use Rattle.tpm_engine.specs.Events.{Answered, is_success}
@@ -30,6 +32,11 @@ kept_counter world _ = 0
 abbrev pub checked_rule : TableState → Command → Option ℕ
 checked_rule tables command =
     if is_policy_command command then None else (if is_session_command command then None else plain_rule tables.world command)
+
+-- the first rule that is broken of all that are asked before a command is carried out
+abbrev pub checked_stop : TableState → ℕ → Command → Option Stop
+checked_stop tables locality command =
+    or_else (early_stop tables locality command) (option_map refuses (checked_rule tables command))
 
 -- the answer to a command whose earlier rules hold, and what it opens
 abbrev pub own_answer : TableState → ℕ → Command → Answered

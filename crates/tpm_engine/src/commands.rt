@@ -1,8 +1,9 @@
 //! The own rules of commands, their replies, and how they are carried out.
 
-ghost use Rattle.std.specs.Prelude.{◌≡◌, None, IfOk, OnErr, OnOk};
+ghost use Rattle.std.specs.Prelude.{◌≡◌, false, None, IfOk, OnErr, OnOk};
 ghost use Rattle.tpol_wire.specs.Commands.{FitsCommand};
 ghost use Rattle.tpm_rules.specs.Rule.{Obeys};
+ghost use Rattle.tpm_world.specs.Handles.{is_policy_command};
 ghost use Rattle.tpm_engine.specs.Answers.{own_rule, reply_to, succeeding};
 ghost use Rattle.tpm_engine.specs.Deeds.{after_deed, command_deed};
 ghost use Rattle.tpm_engine.specs.Responses.{checked_rule, first_facts};
@@ -67,10 +68,29 @@ impl Tables {
         if policy_session_of(&command).is_some() {
             return self.show(alloc, number, command);
         }
-        if is_session_command(&command) {
-            return self.carry_out_session(number, &command, facts);
+        let done = self.carry_out_other(number, &command, facts);
+        drop(command);
+        done
+    }
+
+    // The same for what is no policy command.
+    fn carry_out_other(
+        &mut self,
+        number: u32,
+        command: &Command,
+        facts: Option<Facts>,
+    ) -> Result<(), Rc>
+        requires other { is_policy_command command.now ≡ false }
+        requires checked { checked_rule self.old command.now ≡ None }
+        requires empty { facts ≡ first_facts command.now }
+        ensures rule { Obeys result (own_rule self.old command.now) }
+        ensures tables { OnOk result (self.new ≡ after_deed number (command_deed command.now (succeeding self.old number command.now).reply) self.old) }
+        ensures err { OnErr result (self.new ≡ self.old) }
+    {
+        if is_session_command(command) {
+            return self.carry_out_session(number, command, facts);
         }
-        self.world.carry_out(&command);
+        self.world.carry_out(command);
         Ok(())
     }
 }

@@ -52,6 +52,7 @@ impl Tables {
             unreachable!();
         };
         let Some(mut session) = self.sessions.take_out(handle) else {
+            drop(command);
             return Err(Rc { code: REFERENCE_H0 });
         };
         let shown = assert_command(alloc, &self.world, &mut session, number, command);
@@ -264,11 +265,12 @@ fn assert_command(
 }
 
 // What is no policy command shows no fact.
-fn assert_none(_command: Command) -> Result<(), Rc>
-    requires other { is_policy_command _command ≡ false }
+fn assert_none(command: Command) -> Result<(), Rc>
+    requires other { is_policy_command command ≡ false }
     ensures ok { IsOk result }
-    ensures rule { (world : WorldState) (state : SessionState) → spec.policy_rule world state _command ≡ None }
-    ensures none { shown_by _command ≡ None }
+    ensures rule { (world : WorldState) (state : SessionState) → spec.policy_rule world state command ≡ None }
+    ensures none { shown_by command ≡ None }
 {
+    drop(command);
     Ok(())
 }

@@ -1,6 +1,6 @@
 //! The response to a command buffer, over the tables of a machine.
 
-ghost use Rattle.std.specs.Prelude.{◌≡◌, ℕ, None, [], IfOk, IfSome, OnErr, OnOk};
+ghost use Rattle.std.specs.Prelude.{◌≡◌, ℕ, None, [], IfErr, IfOk, IfSome, OnErr, OnOk};
 ghost use Rattle.tpol_digest.specs.Sound.{IsSound};
 ghost use Rattle.tpol_wire.specs.Commands.{FitsCommand};
 ghost use Rattle.tpol_wire.specs.Replies.{spell_reply};
@@ -10,7 +10,7 @@ ghost use Rattle.tpm_engine.specs.Answers as spec;
 ghost use Rattle.tpm_engine.specs.Authorization.{reply_auth};
 ghost use Rattle.tpm_engine.specs.Deeds.{after_event};
 ghost use Rattle.tpm_engine.specs.Events.{event_of};
-ghost use Rattle.tpm_engine.specs.Responses.{IsPrepared, IsResponse, checked_rule, first_facts, own_answer, own_opened};
+ghost use Rattle.tpm_engine.specs.Responses.{IsPrepared, IsResponse, checked_rule, checked_stop, first_facts, own_answer, own_opened};
 ghost use Rattle.tpm_engine.specs.Stops.{room_stop, session_stop};
 
 use crate::closing::closing_of;
@@ -76,10 +76,54 @@ impl Tables {
             (spec.answer_to_command self.old number locality command) (spec.opened_by_command self.old locality command) self.new done) }
         ensures err { OnErr result (self.new ≡ self.old) }
     {
-        if let Some(stop) = self.early_stop(alloc, locality, &command)? {
-            return stopped(alloc, stop);
+        match self.ready(alloc, number, locality, &command) {
+            Ok(prepared) => Ok(self.finish(alloc, number, command, prepared)),
+            Err(answer) => {
+                drop(command);
+                answer
+            }
         }
-        self.serve(alloc, number, command)
+    }
+
+    // What is prepared for a command that may succeed, or else the answer to it.
+    fn ready(
+        &self,
+        alloc: Global,
+        number: u32,
+        locality: u8,
+        command: &Command,
+    ) -> Result<Prepared, Result<Responded, NoMemory>>
+        ensures checked { IfOk result (λ prepared. checked_stop self.now locality command.now ≡ None) }
+        ensures prepared { IfOk result (λ prepared. IsPrepared self.now number command.now prepared) }
+        ensures answer { IfErr result (λ answer. IfOk answer (λ done. IsResponse self.now number command.now
+            (spec.answer_to_command self.now number locality command.now) (spec.opened_by_command self.now locality command.now) self.now done)) }
+    {
+        match self.checked_stop(alloc, locality, command) {
+            Ok(None) => match self.prepare(alloc, number, command) {
+                Ok(prepared) => Ok(prepared),
+                Err(NoMemory) => Err(Err(NoMemory)),
+            },
+            Ok(Some(stop)) => Err(stopped(alloc, stop)),
+            Err(NoMemory) => Err(Err(NoMemory)),
+        }
+    }
+
+    // The first broken rule of those that are asked before a command is carried out.
+    fn checked_stop(
+        &self,
+        alloc: Global,
+        locality: u8,
+        command: &Command,
+    ) -> Result<Option<Stop>, NoMemory>
+        ensures { IfOk result (λ stop. stop ≡ checked_stop self.now locality command.now) }
+    {
+        if let Some(stop) = self.early_stop(alloc, locality, command)? {
+            return Ok(Some(stop));
+        }
+        match self.checked_rule(command) {
+            Ok(()) => Ok(None),
+            Err(rc) => Ok(Some(refuses(rc.code))),
+        }
     }
 
     // The first broken rule of those that stand before a command's own.
@@ -101,22 +145,6 @@ impl Tables {
             return Ok(Some(stop));
         }
         Ok(self.room_stop(command))
-    }
-
-    // The response to a command whose earlier rules hold.
-    fn serve(&mut self, alloc: Global, number: u32, command: Command) -> Result<Responded, NoMemory>
-        requires fits { FitsCommand command }
-        requires session { session_stop self.old command ≡ None }
-        requires room { room_stop self.old command ≡ None }
-        ensures response { IfOk result (λ done. IsResponse self.old number command
-            (own_answer self.old number command) (own_opened self.old command) self.new done) }
-        ensures err { OnErr result (self.new ≡ self.old) }
-    {
-        if let Err(rc) = self.checked_rule(&command) {
-            return stopped(alloc, refuses(rc.code));
-        }
-        let prepared = self.prepare(alloc, number, &command)?;
-        Ok(self.finish(alloc, number, command, prepared))
     }
 
     // All that takes memory in the response to a command.
@@ -187,8 +215,23 @@ impl Tables {
         ensures { IfOk result (λ bytes. bytes ≡ (spec.succeeding self.now number command.now).reply) }
     {
         let reply = self.reply_to(alloc, number, command)?;
-        let auth = self.reply_auth(alloc, number, command, &reply)?;
-        write_reply(alloc, &reply, auth.as_ref())
+        let bytes = self.spelled(alloc, number, command, &reply);
+        drop(reply);
+        bytes
+    }
+
+    // The bytes of a reply to a command, with its authorization area where the command has one.
+    fn spelled(
+        &self,
+        alloc: Global,
+        number: u32,
+        command: &Command,
+        reply: &Reply,
+    ) -> Result<Blob, NoMemory>
+        ensures { IfOk result (λ bytes. bytes ≡ spell_reply reply.now (reply_auth self.now number command.now reply.now)) }
+    {
+        let auth = self.reply_auth(alloc, number, command, reply)?;
+        write_reply(alloc, reply, auth.as_ref())
     }
 }
 
@@ -220,7 +263,10 @@ fn stopped(alloc: Global, stop: Stop) -> Result<Responded, NoMemory>
     ensures outcome { IfOk result (λ done. done.outcome ≡ stop.outcome) }
     ensures opened { IfOk result (λ done. done.opened ≡ None) }
 {
-    let reply = write_reply(alloc, &Reply::Refused(Rc { code: stop.code }), None)?;
+    let refused = Reply::Refused(Rc { code: stop.code });
+    let written = write_reply(alloc, &refused, None);
+    drop(refused);
+    let reply = written?;
     let kept = reply.clone()?;
     Ok(Responded {
         reply,

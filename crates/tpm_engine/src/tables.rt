@@ -1,7 +1,8 @@
 //! What a machine keeps.
 
-ghost use Rattle.std.specs.Prelude.{◌≡◌, ◌+◌, ◌≤◌, ◌^◌, IfOk};
+ghost use Rattle.std.specs.Prelude.{◌≡◌, ◌+◌, ◌≤◌, ◌^◌, None, IfOk, replicate};
 ghost use Rattle.tpol_name.specs.Setups.{IsSetup, IsSight};
+ghost use Rattle.tpm_session.specs.Slots.{slot_count};
 ghost use Rattle.tpm_engine.specs.Deeds.{Passes, Resets, Shifts, after_deed};
 ghost use Rattle.tpm_engine.specs.Sights.{sight_of_tables};
 ghost use Rattle.tpm_engine.specs.Tables.{first_tables};
@@ -39,11 +40,18 @@ impl Tables {
         requires setup { IsSetup setup.now }
         ensures tables { IfOk result (λ tables. tables ≡ first_tables setup.now) }
     {
-        Ok(Tables {
-            world: World::new(alloc, setup)?,
-            sessions: Sessions::new(alloc)?,
-            saved: Saved::new(alloc)?,
-        })
+        let world = World::new(alloc, setup)?;
+        match no_sessions(alloc) {
+            Ok((sessions, saved)) => Ok(Tables {
+                world,
+                sessions,
+                saved,
+            }),
+            Err(NoMemory) => {
+                drop(world);
+                Err(NoMemory)
+            }
+        }
     }
 
     /// The time in milliseconds.
@@ -85,5 +93,20 @@ impl Tables {
         self.world.reset();
         self.sessions.clear();
         self.saved.clear();
+    }
+}
+
+// No session that is live, and none that is saved.
+fn no_sessions(alloc: Global) -> Result<(Sessions, Saved), NoMemory>
+    ensures sessions { IfOk result (λ none. none.0 ≡ replicate slot_count None) }
+    ensures saved { IfOk result (λ none. none.1 ≡ replicate slot_count None) }
+{
+    let sessions = Sessions::new(alloc)?;
+    match Saved::new(alloc) {
+        Ok(saved) => Ok((sessions, saved)),
+        Err(NoMemory) => {
+            drop(sessions);
+            Err(NoMemory)
+        }
     }
 }

@@ -3,4 +3,4 @@ use Rattle.tpm_engine.proofs.policy_commands.assert_none.Goals as goal
 
 -- src/policy_commands.rt
 pub returns-clause-none : goal.returns-clause-none
-returns-clause-none c = shown-none c.args._command c.requires.other
+returns-clause-none c = shown-none c.args.command c.requires.other
