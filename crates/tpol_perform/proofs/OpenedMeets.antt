@@ -68,3 +68,9 @@ opened_meets setup entities opened has sound e = record {
   sound = sound;
   digest = met setup opened.entity (digest_of_moves (moves_of_facts opened.facts)) (policy_of_entity entities opened.entity) (has opened.entity) e;
 }
+
+-- the same of what a command opened, if anything
+pub any_opened_meets : (setup : Setup) (entities : List CompiledEntity) (opened : Option Opened) → HavePolicies setup entities → IfSome opened (λ o. IsSound (moves_of_facts o.facts))
+    → IfSome opened (λ o. option_map auth_policy_of (entity_at (world_of setup) o.entity) ≡ Some (digest_of_moves (moves_of_facts o.facts)).bytes) → IfSome opened (MeetsPolicy entities)
+any_opened_meets setup entities None has sound e = tt
+any_opened_meets setup entities (Some opened) has sound e = opened_meets setup entities opened has sound e

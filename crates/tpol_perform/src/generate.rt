@@ -1,17 +1,20 @@
 // The command `gen`.
 
-ghost use Rattle.std.specs.Prelude.{◌≡◌, [], ◌++◌, ◌<◌, ◌≤◌, ◌^◌, length, IfOk, OnOk};
+ghost use Rattle.std.specs.Prelude.{◌≡◌, [], ◌∷◌, ◌++◌, ◌<◌, ◌≤◌, ◌^◌, length, IfOk, OnOk};
 ghost use Rattle.tpol_digest.specs.Limits.{AreWithinLimits};
 ghost use Rattle.tpol_digest.specs.Paths.{paths_of};
 ghost use Rattle.tpol_digest.specs.WellFormed.{IsWellFormedPolicy};
+ghost use Rattle.tpol_lines.specs.Generated.{command_count_line, generated_line, path_count_line};
+ghost use Rattle.tpol_lines.specs.Lines.{line_of};
 ghost use Rattle.tpol_perform.specs.Generate.{generate_step, generated_answer, generated_head, generated_performance, generated_run_lines, generated_scenario};
+ghost use Rattle.tpol_prepare.specs.Lines.{digest_line};
 ghost use Rattle.tpol_prepare.specs.Steps.{Answers, IsInside};
 
 use crate::first_run::perform_run;
 use crate::generated::{generated_policy, generated_run, generated_setup};
 use crate::performance::Performance;
 use std::alloc::Global;
-use tpol_base::{NoMemory, Sequence, Text};
+use tpol_base::{Digest32, NoMemory, Sequence, Text};
 use tpol_digest::{count_paths, digest_of};
 use tpol_lines::{Lines, command_count_line, generated_line, path_count_line, push_line};
 use tpol_name::{Setup, directory};
@@ -43,8 +46,7 @@ fn generated_answer(alloc: Global, ors: u8, order: u32, closed: Closed) -> Resul
     ensures { IfOk result (λ answer. answer ≡ generated_answer ors order closed) }
 {
     let mut lines = generated_head(alloc, ors, order, &closed)?;
-    let performance = generated_performance(alloc, order, closed)?;
-    push_performance(alloc, &mut lines, &performance)?;
+    push_run(alloc, &mut lines, order, closed)?;
     let verdict = Verdict::Done;
     Ok(Answer { lines, verdict })
 }
@@ -57,13 +59,41 @@ fn generated_head(alloc: Global, ors: u8, order: u32, closed: &Closed) -> Result
 {
     let count = count_paths(closed, &Approvals::new(alloc)) as u32;
     let mut lines = Lines::new(alloc);
-    let made = generated_line(alloc, u32::from(ors), order)?;
-    push_line(alloc, &mut lines, made.as_str())?;
-    let paths = path_count_line(alloc, count)?;
-    push_line(alloc, &mut lines, paths.as_str())?;
-    let digest = digest_line(alloc, &digest_of(closed))?;
-    push_line(alloc, &mut lines, digest.as_str())?;
+    push_made(alloc, &mut lines, ors, order)?;
+    push_path_count(alloc, &mut lines, count)?;
+    push_digest(alloc, &mut lines, &digest_of(closed))?;
     Ok(lines)
+}
+
+fn push_made(alloc: Global, lines: &mut Lines, ors: u8, order: u32) -> Result<(), NoMemory>
+    ensures { OnOk result (lines.new ≡ lines.old ++ line_of (generated_line ors order) ∷ []) }
+{
+    let line = generated_line(alloc, u32::from(ors), order)?;
+    push_line(alloc, lines, line.as_str())
+}
+
+fn push_path_count(alloc: Global, lines: &mut Lines, count: u32) -> Result<(), NoMemory>
+    ensures { OnOk result (lines.new ≡ lines.old ++ line_of (path_count_line count) ∷ []) }
+{
+    let line = path_count_line(alloc, count)?;
+    push_line(alloc, lines, line.as_str())
+}
+
+fn push_digest(alloc: Global, lines: &mut Lines, digest: &Digest32) -> Result<(), NoMemory>
+    ensures { OnOk result (lines.new ≡ lines.old ++ line_of (digest_line digest.now) ∷ []) }
+{
+    let line = digest_line(alloc, digest)?;
+    push_line(alloc, lines, line.as_str())
+}
+
+// The lines of the run of the policy.
+fn push_run(alloc: Global, lines: &mut Lines, order: u32, closed: Closed) -> Result<(), NoMemory>
+    requires well_formed { IsWellFormedPolicy closed }
+    requires within { AreWithinLimits (paths_of closed []) }
+    ensures { OnOk result (lines.new ≡ lines.old ++ generated_run_lines (generated_performance order closed)) }
+{
+    let performance = generated_performance(alloc, order, closed)?;
+    push_performance(alloc, lines, &performance)
 }
 
 // The lines of the run: the first, how many commands were executed, and the last two.
@@ -78,8 +108,15 @@ fn push_performance(
     let told = performance.lines.as_slice();
     lines.extend_with_clones(&told[..told.len().min(1)])?;
     let count = performance.machine.journal().len() as u32;
-    push_line(alloc, lines, command_count_line(alloc, count)?.as_str())?;
+    push_command_count(alloc, lines, count)?;
     lines.extend_with_clones(&told[told.len() - told.len().min(2)..])
+}
+
+fn push_command_count(alloc: Global, lines: &mut Lines, count: u32) -> Result<(), NoMemory>
+    ensures { OnOk result (lines.new ≡ lines.old ++ line_of (command_count_line count) ∷ []) }
+{
+    let line = command_count_line(alloc, count)?;
+    push_line(alloc, lines, line.as_str())
 }
 
 // The run begins, and goes to its end.
@@ -101,18 +138,27 @@ fn generated_performance(alloc: Global, order: u32, closed: Closed) -> Result<Pe
 fn generated_scenario(alloc: Global, setup: &Setup, closed: Closed) -> Result<Scenario, NoMemory>
     ensures { IfOk result (λ scenario. scenario ≡ generated_scenario setup.now closed) }
 {
-    let mut begun = Sequence::new(alloc);
-    begun.push(FilledDocument {
-        name: Text::from_str(alloc, "gen")?,
-        closed,
-    })?;
+    let name = Text::from_str(alloc, "gen")?;
+    let begun = one_document(alloc, FilledDocument { name, closed })?;
+    let directory = directory(alloc, setup)?;
     Ok(Scenario {
         explains: false,
         seed: setup.seed,
-        directory: directory(alloc, setup)?,
+        directory,
         entities: Sequence::new(alloc),
         begun,
         approvals: Approvals::new(alloc),
         clients: Sequence::new(alloc),
     })
+}
+
+fn one_document(
+    alloc: Global,
+    document: FilledDocument,
+) -> Result<Sequence<FilledDocument>, NoMemory>
+    ensures { IfOk result (λ documents. documents ≡ document ∷ []) }
+{
+    let mut documents = Sequence::new(alloc);
+    documents.push(document)?;
+    Ok(documents)
 }

@@ -1,13 +1,14 @@
 //! The policy, the machine and the client of the command `gen`.
 
-ghost use Rattle.std.specs.Prelude.{◌≡◌, ◌+◌, ◌≤◌, [], IfOk};
+ghost use Rattle.std.specs.Prelude.{◌≡◌, ◌+◌, ◌≤◌, [], ◌∷◌, IfOk};
 ghost use Rattle.tpol_base.specs.Digest.{zero_digest};
 ghost use Rattle.tpol_name.specs.Setups.{IsSetup};
 ghost use Rattle.tpol_perform.specs.Generate.{before, generated_object, generated_or, generated_ors, generated_policy, generated_run, generated_seed, generated_setup, two_branches, zero_pcr, zero_pcrs};
+ghost use Rattle.tpol_tree.specs.declared.policy.Branches.TheVariants.{More' as MoreBranches'};
 ghost use Rattle.tpol_tree.specs.declared.policy.Element.TheVariants.{Or};
 ghost use Rattle.tpol_tree.specs.declared.policy.Elements.TheVariants.{End};
-ghost use Rattle.tpol_tree.specs.Elements.{EachElementWithin, HasBranchCount, HasBranchCounts};
-ghost use Rattle.tpol_tree.specs.Erased.{erased_element, erased_elements, erased_policy};
+ghost use Rattle.tpol_tree.specs.Elements.{EachElementOfBranches, EachElementWithin, HasBranchCount, HasBranchCounts, branch_count};
+ghost use Rattle.tpol_tree.specs.Erased.{erased_branches, erased_element, erased_elements, erased_policy, nowhere};
 
 use crate::new_run::NewRun;
 use std::alloc::Global;
@@ -24,9 +25,10 @@ pub fn generated_policy(alloc: Global, ors: u8, order: u32) -> Result<Policy, No
     ensures policy { IfOk result (λ policy. erased_policy policy ≡ generated_policy ors order) }
     ensures branches { IfOk result (λ policy. HasBranchCounts policy.elements) }
 {
+    let elements = generated_ors(alloc, ors, 0, order)?;
     Ok(Policy {
         description: Text::new(alloc),
-        elements: generated_ors(alloc, ors, 0, order)?,
+        elements,
         approvals: ApprovalWishes::new(alloc),
     })
 }
@@ -93,10 +95,11 @@ fn branch(alloc: Global, name: &str, element: Element) -> Result<Branch, NoMemor
     ensures elements { IfOk result (λ branch. erased_elements branch.elements ≡ before (erased_element element) End) }
     ensures branches { EachElementWithin HasBranchCount element → IfOk result (λ branch. HasBranchCounts branch.elements) }
 {
+    let elements = before(alloc, element, Elements::End)?;
     Ok(Branch {
         name: Text::from_str(alloc, name)?,
         description: Text::new(alloc),
-        elements: before(alloc, element, Elements::End)?,
+        elements,
     })
 }
 
@@ -105,11 +108,21 @@ fn two_branches(alloc: Global, first: Branch, second: Branch) -> Result<Element,
     ensures branches { HasBranchCounts first.elements → HasBranchCounts second.elements → IfOk result (EachElementWithin HasBranchCount) }
     ensures element { IfOk result (λ element. erased_element element ≡ Or (two_branches first.name (erased_elements first.elements) second.name (erased_elements second.elements))) }
 {
-    let end = Box::new(alloc, Branches::End)?;
-    let second = Box::new(alloc, second)?;
-    let behind = Box::new(alloc, Branches::More(second, end))?;
-    let first = Box::new(alloc, first)?;
-    Ok(Element::Or(Branches::More(first, behind)))
+    let behind = branch_before(alloc, second, Branches::End)?;
+    let branches = branch_before(alloc, first, behind)?;
+    Ok(Element::Or(branches))
+}
+
+// A branch and those behind it.
+fn branch_before(alloc: Global, branch: Branch, rest: Branches) -> Result<Branches, NoMemory>
+    ensures branches { IfOk result (λ branches. erased_branches branches
+        ≡ MoreBranches' nowhere branch.name branch.description (erased_elements branch.elements) nowhere (erased_branches rest)) }
+    ensures count { IfOk result (λ branches. branch_count branches ≡ branch_count rest + 1) }
+    ensures within { HasBranchCounts branch.elements → EachElementOfBranches HasBranchCount rest → IfOk result (EachElementOfBranches HasBranchCount) }
+{
+    let branch = Box::new(alloc, branch)?;
+    let rest = Box::new(alloc, rest)?;
+    Ok(Branches::More(branch, rest))
 }
 
 /// What the machine starts from: a sealed object with this authPolicy, and a seed that ends with the number.
@@ -126,9 +139,7 @@ fn setup_of_parts(alloc: Global, order: u32, digest: &Digest32) -> Result<Setup,
     ensures { IfOk result (λ setup. setup ≡ generated_setup order digest.now) }
 {
     let pcrs = zero_pcrs(alloc)?;
-    let object = generated_object(alloc, digest)?;
-    let mut objects = Objects::new(alloc);
-    objects.push(object)?;
+    let objects = generated_objects(alloc, digest)?;
     Ok(Setup {
         seed: generated_seed(order),
         owner: Blob::new(alloc),
@@ -144,6 +155,15 @@ fn setup_of_parts(alloc: Global, order: u32, digest: &Digest32) -> Result<Setup,
         safe: true,
         presence: false,
     })
+}
+
+fn generated_objects(alloc: Global, digest: &Digest32) -> Result<Objects, NoMemory>
+    ensures { IfOk result (λ objects. objects ≡ generated_object digest.now ∷ []) }
+{
+    let object = generated_object(alloc, digest)?;
+    let mut objects = Objects::new(alloc);
+    objects.push(object)?;
+    Ok(objects)
 }
 
 // 24 PCRs of 32 zero bytes.

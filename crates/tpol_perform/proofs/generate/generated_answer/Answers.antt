@@ -1,8 +1,7 @@
 use Rattle.std.proofs.Common.{◌∙◌, ap, ℕ, List, ◌++◌}
 use Rattle.tpol_prepare.specs.declared.answer.Answer.{Answer}
 use Rattle.tpol_prepare.specs.declared.answer.Verdict.TheVariants.{Done}
-use Rattle.tpol_perform.specs.Generate.{generated_answer, generated_head, generated_run_lines}
-use Rattle.tpol_perform.specs.Performance.{PerformanceState}
+use Rattle.tpol_perform.specs.Generate.{generated_answer, generated_performance, generated_run_lines}
 use Rattle.tpol_perform.proofs.generate.generated_answer.Goals as goal
 
 abbrev told : List (List ℕ) → Answer
@@ -11,6 +10,5 @@ told lines = record { lines = lines; verdict = Done }
 pub returns : goal.returns
 unfolding generated_answer
 returns c =
-    ap told (c.in_ok-push_performance.ensures
-    ∙ (ap (λ (head : List (List ℕ)). head ++ generated_run_lines c.in_ok-performance.performance) c.in_ok-lines.ensures
-    ∙ ap (λ (p : PerformanceState). generated_head c.args.ors c.args.order c.args.closed ++ generated_run_lines p) c.in_ok-performance.ensures.told))
+    ap told (c.in_ok-push_run.ensures
+    ∙ ap (λ (head : List (List ℕ)). head ++ generated_run_lines (generated_performance c.args.order c.args.closed)) c.in_ok-lines.ensures)
