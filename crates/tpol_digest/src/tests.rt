@@ -1,6 +1,6 @@
 //! Digests that a TPM 2.0 and a FAPI gave for the same policies, and lists of paths.
 
-ghost use Rattle.std.specs.Prelude.{◌≡◌, IfOk};
+ghost use Rattle.std.specs.Prelude.{◌≡◌, ◌≤◌, IfOk};
 ghost use Rattle.tpol_tree.specs.Closed.{HasBranchCounts, ElementHasBranchCounts};
 
 use crate::{
@@ -8,10 +8,8 @@ use crate::{
     run_facts,
 };
 use std::alloc::Global;
-use std::process::Abort;
-use std::test::Fail;
 use tpol_base::{Blob, Compare, Digest32, Digests, Name, NoMemory, Text};
-use tpol_hash::hash;
+use tpol_hash::{Inputs, hash};
 use tpol_tree::{
     Approvals, Assertion, Closed, ClosedBranch, ClosedBranches, ClosedElement, ClosedElements,
     Fact, Facts, Move,
@@ -140,56 +138,66 @@ fn timer(alloc: Global, operand: &[u8], offset: u16) -> Result<Assertion, NoMemo
     })
 }
 
-fn gives(rt: &impl Abort, assertion: Assertion, digest: &[u8; 32]) {
-    assert_eq!(rt; &extend(Digest32::ZERO, &assertion).bytes, digest);
+// Whether a policy of this assertion alone has this digest.
+fn gives(assertion: Assertion, digest: &[u8; 32]) -> bool {
+    extend(Digest32::ZERO, &assertion).bytes == *digest
 }
 
 #[test]
-fn assertions_of_plain_values(rt: HostRuntime) -> Result<(), Fail> {
-    gives(&rt, Assertion::AuthValue, AUTH_VALUE);
-    gives(&rt, Assertion::Password, AUTH_VALUE);
-    gives(&rt, Assertion::CommandCode(0x14b), CODE_DUPLICATE);
-    gives(&rt, Assertion::CommandCode(0x137), CODE_NV_WRITE);
-    gives(&rt, Assertion::Locality(0x01), LOCALITY_0);
-    gives(&rt, Assertion::Locality(0x09), LOCALITY_0_3);
-    gives(
-        &rt,
-        Assertion::CpHash(Digest32 { bytes: [0xab; 32] }),
-        CP_HASH,
+fn assertions_of_plain_values(rt: HostRuntime) {
+    assert!(rt; gives(Assertion::AuthValue, AUTH_VALUE));
+    assert!(rt; gives(Assertion::Password, AUTH_VALUE));
+    assert!(rt; gives(Assertion::CommandCode(0x14b), CODE_DUPLICATE));
+    assert!(rt; gives(Assertion::CommandCode(0x137), CODE_NV_WRITE));
+    assert!(rt; gives(Assertion::Locality(0x01), LOCALITY_0));
+    assert!(rt; gives(Assertion::Locality(0x09), LOCALITY_0_3));
+    assert!(rt; gives(Assertion::CpHash(Digest32 { bytes: [0xab; 32] }), CP_HASH));
+    assert!(rt;
+        gives(
+            Assertion::NameHash(Digest32 { bytes: [0xcd; 32] }),
+            NAME_HASH
+        )
     );
-    gives(
-        &rt,
-        Assertion::NameHash(Digest32 { bytes: [0xcd; 32] }),
-        NAME_HASH,
-    );
-    gives(&rt, Assertion::NvWritten(true), NV_WRITTEN);
-    gives(&rt, Assertion::NvWritten(false), NV_NOT_WRITTEN);
+    assert!(rt; gives(Assertion::NvWritten(true), NV_WRITTEN));
+    assert!(rt; gives(Assertion::NvWritten(false), NV_NOT_WRITTEN));
+}
+
+#[test]
+fn assertions_of_secrets(rt: HostRuntime) -> Result<(), NoMemory> {
+    let alloc = rt.alloc();
+    assert!(rt; gives(secret(alloc, ENDORSEMENT, &[])?, SECRET_ENDORSEMENT));
+    assert!(rt; gives(secret(alloc, OWNER, &[])?, SECRET_OWNER));
+    assert!(rt; gives(secret(alloc, ENDORSEMENT, &[0x5a; 64])?, SECRET_REF));
     Ok(())
 }
 
-#[test]
-fn assertions_of_secrets(rt: HostRuntime) -> Result<(), Fail> {
-    let alloc = rt.alloc();
-    gives(&rt, secret(alloc, ENDORSEMENT, &[])?, SECRET_ENDORSEMENT);
-    gives(&rt, secret(alloc, OWNER, &[])?, SECRET_OWNER);
-    gives(&rt, secret(alloc, ENDORSEMENT, &[0x5a; 64])?, SECRET_REF);
-    Ok(())
-}
-
-#[test]
-fn assertions_of_machine_values(rt: HostRuntime) -> Result<(), Fail> {
-    let alloc = rt.alloc();
-    gives(&rt, timer(alloc, &[0; 8], 8)?, COUNTER_TIMER);
-    gives(&rt, pcr(alloc, 0x01, &[0xff; 32]), PCR_0);
-    gives(&rt, pcr(alloc, 0x100, &[0; 32]), PCR_8);
-    let nv = Assertion::Nv {
+// The highest bit of an index's content is set.
+fn highest_bit(alloc: Global) -> Result<Assertion, NoMemory> {
+    Ok(Assertion::Nv {
         index: Name::Hash(Digest32 { bytes: *INDEX }),
         operand: Blob::from_slice(alloc, &[0x80])?,
         offset: 0,
         operation: Compare::BitSet,
-    };
-    gives(&rt, nv, NV);
+    })
+}
+
+#[test]
+fn assertions_of_machine_values(rt: HostRuntime) -> Result<(), NoMemory> {
+    let alloc = rt.alloc();
+    assert!(rt; gives(timer(alloc, &[0; 8], 8)?, COUNTER_TIMER));
+    assert!(rt; gives(pcr(alloc, 0x01, &[0xff; 32]), PCR_0));
+    assert!(rt; gives(pcr(alloc, 0x100, &[0; 32]), PCR_8));
+    assert!(rt; gives(highest_bit(alloc)?, NV));
     Ok(())
+}
+
+fn signed(alloc: Global) -> Result<Assertion, NoMemory> {
+    Ok(Assertion::Signed {
+        key: Name::Hash(Digest32 { bytes: *KEY }),
+        policy_ref: Blob::from_slice(alloc, &POLICY_REF)?,
+        cp_hash: None,
+        expiration: 0,
+    })
 }
 
 fn duplication(include: bool) -> Assertion {
@@ -201,17 +209,17 @@ fn duplication(include: bool) -> Assertion {
 }
 
 #[test]
-fn assertions_of_keys(rt: HostRuntime) -> Result<(), Fail> {
-    let signed = Assertion::Signed {
-        key: Name::Hash(Digest32 { bytes: *KEY }),
-        policy_ref: Blob::from_slice(rt.alloc(), &POLICY_REF)?,
-        cp_hash: None,
-        expiration: 0,
-    };
-    gives(&rt, signed, SIGNED);
-    gives(&rt, duplication(true), DUPLICATION_OF_OBJECT);
-    gives(&rt, duplication(false), DUPLICATION_TO_PARENT);
+fn assertions_of_keys(rt: HostRuntime) -> Result<(), NoMemory> {
+    assert!(rt; gives(signed(rt.alloc())?, SIGNED));
+    assert!(rt; gives(duplication(true), DUPLICATION_OF_OBJECT));
+    assert!(rt; gives(duplication(false), DUPLICATION_TO_PARENT));
     Ok(())
+}
+
+// Whether a policy of these elements has this digest.
+fn digest_is(elements: ClosedElements, digest: &[u8; 32]) -> bool {
+    let policy = Closed { elements };
+    digest_of(&policy).bytes == *digest
 }
 
 fn before(
@@ -261,76 +269,117 @@ fn either(
     Ok(ClosedElement::Or(branches))
 }
 
+// The assertions of a policy of nine, from its last to its first.
+fn assertion_from_last(alloc: Global, number: u8) -> Result<Assertion, NoMemory> {
+    match number {
+        0 => Ok(Assertion::AuthValue),
+        1 => Ok(Assertion::PhysicalPresence),
+        2 => Ok(Assertion::CommandCode(0x15e)),
+        3 => Ok(Assertion::NvWritten(true)),
+        4 => Ok(Assertion::CpHash(Digest32 { bytes: [0x11; 32] })),
+        5 => secret(alloc, ENDORSEMENT, &[]),
+        6 => timer(alloc, &[0], 0),
+        7 => Ok(pcr(alloc, 0x100, &[0; 32])),
+        _ => Ok(Assertion::Locality(31)),
+    }
+}
+
+fn nine(alloc: Global) -> Result<ClosedElements, NoMemory> {
+    let mut elements = ClosedElements::End;
+    for number in 0..9 {
+        let assertion = assertion_from_last(alloc, number)?;
+        elements = assert_before(alloc, assertion, elements)?;
+    }
+    Ok(elements)
+}
+
 #[test]
-fn nine_assertions(rt: HostRuntime) -> Result<(), Fail> {
-    let alloc = rt.alloc();
-    let mut nine = assert_before(alloc, Assertion::AuthValue, ClosedElements::End)?;
-    nine = assert_before(alloc, Assertion::PhysicalPresence, nine)?;
-    nine = assert_before(alloc, Assertion::CommandCode(0x15e), nine)?;
-    nine = assert_before(alloc, Assertion::NvWritten(true), nine)?;
-    nine = assert_before(
-        alloc,
-        Assertion::CpHash(Digest32 { bytes: [0x11; 32] }),
-        nine,
-    )?;
-    nine = assert_before(alloc, secret(alloc, ENDORSEMENT, &[])?, nine)?;
-    nine = assert_before(alloc, timer(alloc, &[0], 0)?, nine)?;
-    nine = assert_before(alloc, pcr(alloc, 0x100, &[0; 32]), nine)?;
-    nine = assert_before(alloc, Assertion::Locality(31), nine)?;
-    assert_eq!(rt; &digest_of(&Closed { elements: nine }).bytes, NINE);
+fn nine_assertions(rt: HostRuntime) -> Result<(), NoMemory> {
+    assert!(rt; digest_is(nine(rt.alloc())?, NINE));
     Ok(())
 }
 
 #[test]
-fn a_key_approves(rt: HostRuntime) -> Result<(), Fail> {
+fn a_key_approves(rt: HostRuntime) -> Result<(), NoMemory> {
     let alloc = rt.alloc();
     let unseal = assert_before(alloc, Assertion::CommandCode(0x15e), ClosedElements::End)?;
     let authorize = ClosedElement::Authorize {
         key: Name::Hash(Digest32 { bytes: *KEY }),
         policy_ref: Blob::new(alloc),
     };
-    let policy = Closed {
-        elements: before(alloc, authorize, unseal)?,
-    };
-    assert_eq!(rt; &digest_of(&policy).bytes, AUTHORIZE);
+    assert!(rt; digest_is(before(alloc, authorize, unseal)?, AUTHORIZE));
     Ok(())
+}
+
+fn value_or_locality(alloc: Global) -> Result<ClosedElement, NoMemory>
+    ensures { IfOk result (λ element. ElementHasBranchCounts element) }
+{
+    let value = assert_before(alloc, Assertion::AuthValue, ClosedElements::End)?;
+    let locality = assert_before(alloc, Assertion::Locality(1), ClosedElements::End)?;
+    either(alloc, value, locality)
+}
+
+fn or_behind_code(alloc: Global) -> Result<Closed, NoMemory>
+    ensures { IfOk result (λ policy. HasBranchCounts policy.elements) }
+{
+    let or = before(alloc, value_or_locality(alloc)?, ClosedElements::End)?;
+    Ok(Closed {
+        elements: assert_before(alloc, Assertion::CommandCode(0x15e), or)?,
+    })
+}
+
+// The number of ways through a policy where no document approves any.
+fn count_ways(alloc: Global, policy: &Closed) -> Result<u32, PathLimit>
+    requires { HasBranchCounts policy.now.elements }
+{
+    let none = Approvals::new(alloc);
+    check_paths(policy, &none)
 }
 
 // The branches of an OR start from the digest before it.
 #[test]
-fn branches_start_behind(rt: HostRuntime) -> Result<(), Fail> {
-    let alloc = rt.alloc();
-    let none = Approvals::new(alloc);
-    let value = assert_before(alloc, Assertion::AuthValue, ClosedElements::End)?;
-    let locality = assert_before(alloc, Assertion::Locality(1), ClosedElements::End)?;
-    let or = before(alloc, either(alloc, value, locality)?, ClosedElements::End)?;
-    let policy = Closed {
-        elements: assert_before(alloc, Assertion::CommandCode(0x15e), or)?,
-    };
-    assert_eq!(rt; &digest_of(&policy).bytes, OR_BEHIND);
-    assert_eq!(rt; check_paths(&policy, &none), Ok(2));
+fn branches_start_behind(rt: HostRuntime) -> Result<(), NoMemory> {
+    let policy = or_behind_code(rt.alloc())?;
+    assert!(rt; digest_of(&policy).bytes == *OR_BEHIND);
+    assert!(rt; count_ways(rt.alloc(), &policy) == Ok(2));
     Ok(())
 }
 
-// An AUTHORIZENV that no document meets has its outside path alone.
-#[test]
-fn an_index_approves(rt: HostRuntime) -> Result<(), Fail> {
-    let alloc = rt.alloc();
-    let none = Approvals::new(alloc);
-    let key = assert_before(alloc, secret(alloc, ENDORSEMENT, &[])?, ClosedElements::End)?;
+// An OR of a secret and of an index that approves.
+fn secret_or_index(alloc: Global) -> Result<Closed, NoMemory>
+    ensures { IfOk result (λ policy. HasBranchCounts policy.elements) }
+{
     let authorize = ClosedElement::AuthorizeNv {
         index: Name::Hash(Digest32 { bytes: *INDEX }),
     };
     let index = before(alloc, authorize, ClosedElements::End)?;
-    let policy = Closed {
+    let key = assert_before(alloc, secret(alloc, ENDORSEMENT, &[])?, ClosedElements::End)?;
+    Ok(Closed {
         elements: before(alloc, either(alloc, key, index)?, ClosedElements::End)?,
+    })
+}
+
+// Whether one of the two ways through a policy is an outside path; `None` where there are not two.
+fn is_outside(alloc: Global, policy: &Closed, position: u32) -> Result<Option<bool>, NoMemory>
+    requires branches { HasBranchCounts policy.now.elements }
+    requires from_one { 1 ≤ position }
+    requires to_two { position ≤ 2 }
+{
+    let none = Approvals::new(alloc);
+    let Ok(2) = check_paths(policy, &none) else {
+        return Ok(None);
     };
-    assert_eq!(rt; &digest_of(&policy).bytes, OR_OF_INDEX);
-    let Ok(2) = check_paths(&policy, &none) else {
-        return Ok(());
-    };
-    assert!(rt; !path_at(alloc, &policy, &none, 1)?.outside);
-    assert!(rt; path_at(alloc, &policy, &none, 2)?.outside);
+    let path = path_at(alloc, policy, &none, position)?;
+    Ok(Some(path.outside))
+}
+
+// An AUTHORIZENV that no document meets has its outside path alone.
+#[test]
+fn an_index_approves(rt: HostRuntime) -> Result<(), NoMemory> {
+    let policy = secret_or_index(rt.alloc())?;
+    assert!(rt; digest_of(&policy).bytes == *OR_OF_INDEX);
+    assert!(rt; is_outside(rt.alloc(), &policy, 1) == Ok(Some(false)));
+    assert!(rt; is_outside(rt.alloc(), &policy, 2) == Ok(Some(true)));
     Ok(())
 }
 
@@ -339,30 +388,28 @@ fn ors(alloc: Global, count: u8) -> Result<ClosedElements, NoMemory>
 {
     let mut elements = ClosedElements::End;
     for _ in 0..count {
-        let value = assert_before(alloc, Assertion::AuthValue, ClosedElements::End)?;
-        let locality = assert_before(alloc, Assertion::Locality(1), ClosedElements::End)?;
-        elements = before(alloc, either(alloc, value, locality)?, elements)?;
+        elements = before(alloc, value_or_locality(alloc)?, elements)?;
     }
     Ok(elements)
 }
 
-#[test]
-fn limits(rt: HostRuntime) -> Result<(), Fail> {
-    let alloc = rt.alloc();
+// The number of ways through so many ORs of two branches, and what walking them is answered.
+fn ways_of_ors(alloc: Global, count: u8) -> Result<(u64, Result<u32, PathLimit>), NoMemory> {
+    let policy = Closed {
+        elements: ors(alloc, count)?,
+    };
     let none = Approvals::new(alloc);
-    let sixteen = Closed {
-        elements: ors(alloc, 16)?,
-    };
-    assert_eq!(rt; count_paths(&sixteen, &none), 65_536);
-    assert_eq!(rt; check_paths(&sixteen, &none), Ok(65_536));
-    let seventeen = Closed {
-        elements: ors(alloc, 17)?,
-    };
-    assert_eq!(rt; count_paths(&seventeen, &none), 65_537);
-    assert_eq!(rt;
-        check_paths(&seventeen, &none),
-        Err(PathLimit::TooManyPaths)
-    );
+    Ok((count_paths(&policy, &none), check_paths(&policy, &none)))
+}
+
+#[test]
+fn limits(rt: HostRuntime) -> Result<(), NoMemory> {
+    let (ways, answer) = ways_of_ors(rt.alloc(), 16)?;
+    assert!(rt; ways == 65_536);
+    assert!(rt; answer == Ok(65_536));
+    let (ways, answer) = ways_of_ors(rt.alloc(), 17)?;
+    assert!(rt; ways == 65_537);
+    assert!(rt; answer == Err(PathLimit::TooManyPaths));
     Ok(())
 }
 
@@ -378,22 +425,53 @@ fn first_update() -> [u8; 40] {
     first
 }
 
-#[test]
-fn inputs_of_two_stages(rt: HostRuntime) -> Result<(), Fail> {
-    let alloc = rt.alloc();
-    let owner = assert_before(
-        alloc,
-        secret(alloc, OWNER, &POLICY_REF)?,
-        ClosedElements::End,
-    )?;
+// What it hashes then.
+fn second_update() -> [u8; 40] {
+    let mut second = [0; 40];
+    second[..32].copy_from_slice(OWNER_FIRST);
+    second[32..].copy_from_slice(&POLICY_REF);
+    second
+}
+
+// What the PolicyOR behind it hashes.
+fn or_update() -> [u8; 100] {
+    let mut string = [0; 100];
+    string[32..36].copy_from_slice(&[0x00, 0x00, 0x01, 0x71]);
+    string[36..68].copy_from_slice(OWNER_THEN_REF);
+    string[68..].copy_from_slice(AUTH_VALUE);
+    string
+}
+
+// An OR of a secret and of an authorization value.
+fn secret_or_value(alloc: Global) -> Result<Closed, NoMemory> {
     let value = assert_before(alloc, Assertion::AuthValue, ClosedElements::End)?;
-    let policy = Closed {
+    let owner = secret(alloc, OWNER, &POLICY_REF)?;
+    let owner = assert_before(alloc, owner, ClosedElements::End)?;
+    Ok(Closed {
         elements: before(alloc, either(alloc, owner, value)?, ClosedElements::End)?,
-    };
-    assert_eq!(rt; &digest_of(&policy).bytes, TWO_STAGES);
-    let inputs = inputs_of(alloc, &policy, &Approvals::new(alloc))?;
-    assert_eq!(rt; inputs.len(), 4);
-    assert_eq!(rt; inputs.as_slice()[0].as_slice(), first_update().as_slice());
+    })
+}
+
+fn inputs_without_approvals(alloc: Global, policy: &Closed) -> Result<Inputs, NoMemory> {
+    let none = Approvals::new(alloc);
+    inputs_of(alloc, policy, &none)
+}
+
+// Whether the input at this index is this one.
+fn is_input(inputs: &Inputs, index: usize, string: &[u8]) -> bool {
+    match inputs.get(index) {
+        Some(input) => input.as_slice() == string,
+        None => false,
+    }
+}
+
+#[test]
+fn inputs_of_two_stages(rt: HostRuntime) -> Result<(), NoMemory> {
+    let policy = secret_or_value(rt.alloc())?;
+    assert!(rt; digest_of(&policy).bytes == *TWO_STAGES);
+    let inputs = inputs_without_approvals(rt.alloc(), &policy)?;
+    assert!(rt; inputs.len() == 4);
+    assert!(rt; is_input(&inputs, 0, &first_update()));
     Ok(())
 }
 
@@ -406,36 +484,41 @@ fn fact(act: Move) -> Fact {
     }
 }
 
-// What a PolicyOR with these digests hashes.
-fn or_string(alloc: Global, first: &[u8; 32], second: &[u8; 32]) -> Result<Blob, NoMemory> {
-    let mut string = Blob::from_slice(alloc, &[0; 32])?;
-    string.extend_from_slice(&[0x00, 0x00, 0x01, 0x71])?;
-    string.extend_from_slice(first)?;
-    string.extend_from_slice(second)?;
-    Ok(string)
+fn or_fact(alloc: Global) -> Result<Fact, NoMemory> {
+    let digests = [
+        Digest32 {
+            bytes: *OWNER_THEN_REF,
+        },
+        Digest32 { bytes: *AUTH_VALUE },
+    ];
+    Ok(fact(Move::Or(Digests::from_slice(alloc, &digests)?)))
+}
+
+// What a session keeps of a PolicySecret and then a PolicyOR.
+fn two_facts(alloc: Global) -> Result<Facts, NoMemory> {
+    let mut facts = Facts::new(alloc)?;
+    let secret = secret(alloc, OWNER, &POLICY_REF)?;
+    facts.push(fact(Move::Assert(secret)));
+    facts.push(or_fact(alloc)?);
+    Ok(facts)
 }
 
 // A PolicySecret and then a PolicyOR hash three strings.
 #[test]
-fn inputs_of_a_session(rt: HostRuntime) -> Result<(), Fail> {
-    let alloc = rt.alloc();
-    let mut digests = Digests::new(alloc);
-    digests.push(Digest32 {
-        bytes: *OWNER_THEN_REF,
-    })?;
-    digests.push(Digest32 { bytes: *AUTH_VALUE })?;
-    let mut facts = Facts::new(alloc)?;
-    facts.push(fact(Move::Assert(secret(alloc, OWNER, &POLICY_REF)?)));
-    facts.push(fact(Move::Or(digests)));
-    let mut second = Blob::from_slice(alloc, OWNER_FIRST)?;
-    second.extend_from_slice(&POLICY_REF)?;
-    let third = or_string(alloc, OWNER_THEN_REF, AUTH_VALUE)?;
-    let inputs = inputs_of_facts(alloc, &facts)?;
-    assert_eq!(rt; inputs.len(), 3);
-    assert_eq!(rt; inputs.as_slice()[0].as_slice(), first_update().as_slice());
-    assert_eq!(rt; inputs.as_slice()[1].as_slice(), second.as_slice());
-    assert_eq!(rt; inputs.as_slice()[2].as_slice(), third.as_slice());
-    assert_eq!(rt; &run_facts(&facts).bytes, TWO_STAGES);
+fn inputs_of_a_session(rt: HostRuntime) -> Result<(), NoMemory> {
+    let facts = two_facts(rt.alloc())?;
+    assert!(rt; run_facts(&facts).bytes == *TWO_STAGES);
+    let inputs = inputs_of_facts(rt.alloc(), &facts)?;
+    assert!(rt; inputs.len() == 3);
+    assert!(rt; is_input(&inputs, 0, &first_update()));
+    assert!(rt; is_input(&inputs, 1, &second_update()));
+    assert!(rt; is_input(&inputs, 2, &or_update()));
+    Ok(())
+}
+
+#[test]
+fn a_session_without_facts(rt: HostRuntime) -> Result<(), NoMemory> {
+    let mut facts = two_facts(rt.alloc())?;
     facts.clear();
     assert!(rt; run_facts(&facts) == Digest32::ZERO);
     Ok(())
