@@ -2,7 +2,6 @@
 
 use crate::{FillFault, FillKind, fill};
 use std::alloc::Global;
-use std::test::Fail;
 use tpol_base::{Blob, Compare, Digest32, NoMemory, Sequence, Text};
 use tpol_digest::digest_of;
 use tpol_json::place_text;
@@ -52,18 +51,36 @@ fn one(alloc: Global, element: Element, rest: Elements) -> Result<Elements, NoMe
     Ok(Elements::More(first, Box::new(alloc, rest)?))
 }
 
+fn branch(alloc: Global) -> Result<Branch, NoMemory> {
+    let elements = one(alloc, Element::AuthValue, Elements::End)?;
+    Ok(Branch {
+        name: Text::from_str(alloc, "b")?,
+        description: Text::new(alloc),
+        elements,
+    })
+}
+
+fn more(alloc: Global, branch: Branch, rest: Branches) -> Result<Branches, NoMemory> {
+    let first = Box::new(alloc, branch)?;
+    Ok(Branches::More(first, Box::new(alloc, rest)?))
+}
+
 fn branches(alloc: Global, count: u8) -> Result<Branches, NoMemory> {
     let mut branches = Branches::End;
     for _ in 0..count {
-        let branch = Branch {
-            name: Text::from_str(alloc, "b")?,
-            description: Text::new(alloc),
-            elements: one(alloc, Element::AuthValue, Elements::End)?,
-        };
-        let first = Box::new(alloc, branch)?;
-        branches = Branches::More(first, Box::new(alloc, branches)?);
+        branches = more(alloc, branch(alloc)?, branches)?;
     }
     Ok(branches)
+}
+
+fn nv(alloc: Global, path: &str) -> Result<Element, NoMemory> {
+    let operand = Blob::from_slice(alloc, &[0x80])?;
+    Ok(Element::Nv {
+        index: IndexWish::Path(Text::from_str(alloc, path)?),
+        operand,
+        offset: 0,
+        operation: Compare::BitSet,
+    })
 }
 
 fn element(alloc: Global, part: &Part) -> Result<Element, NoMemory> {
@@ -78,12 +95,7 @@ fn element(alloc: Global, part: &Part) -> Result<Element, NoMemory> {
             key: KeyWish::Path(Text::from_str(alloc, path)?),
             policy_ref: Blob::new(alloc),
         }),
-        Part::NvPath(path) => Ok(Element::Nv {
-            index: IndexWish::Path(Text::from_str(alloc, path)?),
-            operand: Blob::from_slice(alloc, &[0x80])?,
-            offset: 0,
-            operation: Compare::BitSet,
-        }),
+        Part::NvPath(path) => nv(alloc, path),
         Part::Unseal => Ok(Element::CommandCode(0x15e)),
         Part::AuthValue => Ok(Element::AuthValue),
         Part::Current(mask) => Ok(Element::Pcr(PcrWish::Current(*mask))),
@@ -104,6 +116,7 @@ fn policy(alloc: Global, parts: &[Part]) -> Result<Policy, NoMemory> {
 }
 
 fn approver(alloc: Global) -> Result<ObjectEntry, NoMemory> {
+    let unique = Blob::from_slice(alloc, &[0x11; 32])?;
     Ok(ObjectEntry {
         path: Text::from_str(alloc, "/HS/SRK/approver")?,
         handle: 0x8000_0001,
@@ -111,7 +124,7 @@ fn approver(alloc: Global) -> Result<ObjectEntry, NoMemory> {
             attributes: 0x0004_0040,
             auth_policy: Blob::new(alloc),
             scheme: Scheme::HmacKey,
-            unique: Blob::from_slice(alloc, &[0x11; 32])?,
+            unique,
         },
         auth: Blob::new(alloc),
         secret: Blob::new(alloc),
@@ -119,12 +132,13 @@ fn approver(alloc: Global) -> Result<ObjectEntry, NoMemory> {
 }
 
 fn owner_index(alloc: Global) -> Result<IndexEntry, NoMemory> {
+    let auth_policy = Blob::from_slice(alloc, ENDORSEMENT_POLICY)?;
     Ok(IndexEntry {
         path: Text::from_str(alloc, "/nv/Owner/policy")?,
         public: NvPublic {
             index: 0x01c0_7f01,
             attributes: 0x020f_1008,
-            auth_policy: Blob::from_slice(alloc, ENDORSEMENT_POLICY)?,
+            auth_policy,
             size: 34,
         },
         auth: Blob::new(alloc),
@@ -132,18 +146,23 @@ fn owner_index(alloc: Global) -> Result<IndexEntry, NoMemory> {
     })
 }
 
+fn single<T: Drop>(alloc: Global, item: T) -> Result<Sequence<T>, NoMemory> {
+    let mut items = Sequence::new(alloc);
+    items.push(item)?;
+    Ok(items)
+}
+
 fn started(alloc: Global) -> Result<Sight, NoMemory> {
-    let mut objects = Sequence::new(alloc);
-    objects.push(approver(alloc)?)?;
-    let mut indices = Sequence::new(alloc);
-    indices.push(owner_index(alloc)?)?;
+    let pcrs = Sequence::from_slice(alloc, &[Digest32::ZERO; 24])?;
+    let objects = single(alloc, approver(alloc)?)?;
+    let indices = single(alloc, owner_index(alloc)?)?;
     Ok(Sight {
         objects,
         indices,
         owner: Blob::new(alloc),
         endorsement: Blob::new(alloc),
         lockout: Blob::new(alloc),
-        pcrs: Sequence::from_slice(alloc, &[Digest32::ZERO; 24])?,
+        pcrs,
         pcr_counter: 0,
         time: 0,
         reset_count: 0,
@@ -166,15 +185,24 @@ const FILLED: [(&[Part], &[u8; 32]); 5] = [
     (&[Part::OneOf(9)], ONE_OF_NINE),
 ];
 
+fn has_digest(
+    alloc: Global,
+    parts: &[Part],
+    sight: &Sight,
+    digest: &[u8; 32],
+) -> Result<bool, NoMemory> {
+    let policy = policy(alloc, parts)?;
+    match fill(alloc, &policy, Some(sight)) {
+        Ok(closed) => Ok(digest_of(&closed).bytes == *digest),
+        Err(_) => Ok(false),
+    }
+}
+
 #[test]
-fn digests_of_a_tpm(rt: HostRuntime) -> Result<(), Fail> {
-    let alloc = rt.alloc();
-    let sight = started(alloc)?;
+fn digests_of_a_tpm(rt: HostRuntime) -> Result<(), NoMemory> {
+    let sight = started(rt.alloc())?;
     for (parts, digest) in &FILLED {
-        match fill(alloc, &policy(alloc, parts)?, Some(&sight)) {
-            Ok(closed) => assert_eq!(rt; &digest_of(&closed).bytes, *digest),
-            Err(_) => return Err(Fail::new("not filled")),
-        }
+        assert!(rt; has_digest(rt.alloc(), parts, &sight, digest)?);
     }
     Ok(())
 }
@@ -203,17 +231,33 @@ const WITHOUT_A_VALUE: [(&[Part], FillKind, &str); 4] = [
     ),
 ];
 
-#[test]
-fn first_places_without_a_value(rt: HostRuntime) -> Result<(), Fail> {
-    let alloc = rt.alloc();
-    for (parts, wanted, at) in &WITHOUT_A_VALUE {
-        match fill(alloc, &policy(alloc, parts)?, None) {
-            Err(FillFault::Bad { kind, place }) => {
-                assert_eq!(rt; kind, *wanted);
-                assert_eq!(rt; place_text(alloc, &place)?.as_str(), *at);
-            }
-            _ => return Err(Fail::new("filled")),
+fn is_fault(
+    alloc: Global,
+    fault: &FillFault,
+    wanted: FillKind,
+    at: &str,
+) -> Result<bool, NoMemory> {
+    match fault {
+        FillFault::Bad { kind, place } => {
+            let place = place_text(alloc, place)?;
+            Ok(*kind == wanted && place.as_str() == at)
         }
+        _ => Ok(false),
+    }
+}
+
+fn is_refused(alloc: Global, parts: &[Part], wanted: FillKind, at: &str) -> Result<bool, NoMemory> {
+    let policy = policy(alloc, parts)?;
+    match fill(alloc, &policy, None) {
+        Ok(_) => Ok(false),
+        Err(fault) => is_fault(alloc, &fault, wanted, at),
+    }
+}
+
+#[test]
+fn first_places_without_a_value(rt: HostRuntime) -> Result<(), NoMemory> {
+    for (parts, wanted, at) in &WITHOUT_A_VALUE {
+        assert!(rt; is_refused(rt.alloc(), parts, *wanted, at)?, "{at}");
     }
     Ok(())
 }
