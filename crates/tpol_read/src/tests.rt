@@ -1,38 +1,50 @@
 use super::*;
 use std::alloc::Global;
-use std::test::Fail;
+use std::process::Abort;
 use tpol_base::{NoMemory, Text};
-use tpol_json::place_text;
+use tpol_json::{Place, place_text};
 
 // What reading a document answers: its notes, or the fault with its place.
 fn answer(alloc: Global, document: &str) -> Result<Text, NoMemory> {
     match read_policy(alloc, document.as_bytes()) {
         Ok((_policy, notes)) => text_of_notes(alloc, &notes),
-        Err(fault) => text_of_fault(alloc, fault),
+        Err(fault) => text_of_fault(alloc, &fault),
     }
 }
 
 fn text_of_notes(alloc: Global, notes: &Notes) -> Result<Text, NoMemory> {
     let mut text = Text::from_str(alloc, "ok")?;
     for note in notes.as_slice() {
-        let place = place_text(alloc, note)?;
-        text.push_str(" ")?;
-        text.push_str(place.as_str())?;
+        push_note(alloc, &mut text, note)?;
     }
     Ok(text)
 }
 
-fn text_of_fault(alloc: Global, fault: PolicyFault) -> Result<Text, NoMemory> {
+fn push_note(alloc: Global, text: &mut Text, note: &Place) -> Result<(), NoMemory> {
+    text.push_str(" ")?;
+    let place = place_text(alloc, note)?;
+    text.push_str(place.as_str())
+}
+
+fn text_of_fault(alloc: Global, fault: &PolicyFault) -> Result<Text, NoMemory> {
     match fault {
         PolicyFault::NotJson => Text::from_str(alloc, "NotJson"),
         PolicyFault::NoMemory => Err(NoMemory),
-        PolicyFault::Bad { kind, place } => {
-            let mut text = Text::from_string(format!(in alloc; "{kind:?} at ")?);
-            let place = place_text(alloc, &place)?;
-            text.push_str(place.as_str())?;
-            Ok(text)
-        }
+        PolicyFault::Bad { kind, place } => text_of_bad(alloc, *kind, place),
     }
+}
+
+fn text_of_bad(alloc: Global, kind: PolicyKind, place: &Place) -> Result<Text, NoMemory> {
+    let place = place_text(alloc, place)?;
+    let text = format!(in alloc; "{kind:?} at {}", place.as_str())?;
+    Ok(Text::from_string(text))
+}
+
+// Reading the document answers so.
+fn answers(rt: &impl Abort, alloc: Global, document: &str, expected: &str) -> Result<(), NoMemory> {
+    let found = answer(alloc, document)?;
+    assert_eq!(rt; found.as_str(), expected, "{document}");
+    Ok(())
 }
 
 // Each type of elements in two spellings, and other members of such an element. One that has no others has its
@@ -109,15 +121,17 @@ const TYPES: [(&str, &str, &str); 17] = [
     ),
 ];
 
+// A document of one element of this type is read.
+fn reads_type(rt: &impl Abort, alloc: Global, name: &str, members: &str) -> Result<(), NoMemory> {
+    let document = format!(in alloc; "{{\"policy\":[{{{members},\"type\":\"{name}\"}}]}}")?;
+    answers(rt, alloc, document.as_str(), "ok")
+}
+
 #[test]
-fn each_type_in_two_spellings(rt: HostRuntime) -> Result<(), Fail> {
-    let alloc = rt.alloc();
-    for (short, long, members) in TYPES {
-        for name in [short, long] {
-            let document = format!(in alloc; "{{\"policy\":[{{{members},\"type\":\"{name}\"}}]}}")?;
-            let found = answer(alloc, document.as_str())?;
-            assert_eq!(rt; found.as_str(), "ok", "{document}");
-        }
+fn each_type_in_two_spellings(rt: HostRuntime) -> Result<(), NoMemory> {
+    for (short, long, members) in &TYPES {
+        reads_type(&rt, rt.alloc(), short, members)?;
+        reads_type(&rt, rt.alloc(), long, members)?;
     }
     Ok(())
 }
@@ -152,10 +166,8 @@ const WHOLE: &str =
     "{\"description\":\"d\",\"policy\":[{\"type\":\"PCR\",\"pcrs\":[{\"pcr\":7,\"hashAlg\":\"SHA256\",\"digest\":\"1111111111111111111111111111111111111111111111111111111111111111\"},{\"pcr\":0,\"hashAlg\":11,\"digest\":\"2222222222222222222222222222222222222222222222222222222222222222\"},{\"pcr\":3,\"hashAlg\":\"0xb\",\"digest\":\"3333333333333333333333333333333333333333333333333333333333333333\"}]},{\"type\":\"AUTHORIZE\",\"keyPublic\":{\"type\":\"KEYEDHASH\",\"nameAlg\":\"SHA256\",\"objectAttributes\":262208,\"scheme\":\"HMAC\",\"unique\":\"4444444444444444444444444444444444444444444444444444444444444444\"},\"policyRef\":\"0102\"},{\"type\":\"NAMEHASH\",\"nameHash\":\"5555555555555555555555555555555555555555555555555555555555555555\"},{\"type\":\"NAMEHASH\",\"objectNames\":[\"40000001\",\"\"]}],\"policyAuthorizations\":[{\"type\":\"tpm\",\"keyPath\":\"k\",\"policyRef\":[3],\"signature\":\"6666666666666666666666666666666666666666666666666666666666666666\"}]}";
 
 #[test]
-fn a_whole_policy(rt: HostRuntime) -> Result<(), Fail> {
-    let found = answer(rt.alloc(), WHOLE)?;
-    assert_eq!(rt; found.as_str(), "ok");
-    Ok(())
+fn a_whole_policy(rt: HostRuntime) -> Result<(), NoMemory> {
+    answers(&rt, rt.alloc(), WHOLE, "ok")
 }
 
 // Documents, each with its first fault.
@@ -241,11 +253,9 @@ const FAULTS: [(&str, &str); 21] = [
 ];
 
 #[test]
-fn each_kind_at_a_nested_place(rt: HostRuntime) -> Result<(), Fail> {
-    let alloc = rt.alloc();
-    for (document, expected) in FAULTS {
-        let found = answer(alloc, document)?;
-        assert_eq!(rt; found.as_str(), expected, "{document}");
+fn each_kind_at_a_nested_place(rt: HostRuntime) -> Result<(), NoMemory> {
+    for (document, expected) in &FAULTS {
+        answers(&rt, rt.alloc(), document, expected)?;
     }
     Ok(())
 }
@@ -271,45 +281,60 @@ const NOTES: [(&str, &str); 4] = [
 ];
 
 #[test]
-fn unknown_members_are_noted_in_order(rt: HostRuntime) -> Result<(), Fail> {
-    let alloc = rt.alloc();
-    for (document, expected) in NOTES {
-        let found = answer(alloc, document)?;
-        assert_eq!(rt; found.as_str(), expected, "{document}");
+fn unknown_members_are_noted_in_order(rt: HostRuntime) -> Result<(), NoMemory> {
+    for (document, expected) in &NOTES {
+        answers(&rt, rt.alloc(), document, expected)?;
+    }
+    Ok(())
+}
+
+fn push_times(text: &mut String, more: &str, times: u32) -> Result<(), NoMemory> {
+    for _ in 0..times {
+        text.push_str(more)?;
     }
     Ok(())
 }
 
 // ORs inside one another, each with two branches, of which the second holds no OR.
-fn nested(alloc: Global, levels: u32) -> Result<String, Fail> {
+fn nested(alloc: Global, levels: u32) -> Result<String, NoMemory> {
     let mut text = String::from_str(alloc, "{\"policy\":[")?;
-    for _ in 0..levels {
-        text.push_str("{\"type\":\"OR\",\"branches\":[{\"policy\":[")?;
-    }
+    push_times(
+        &mut text,
+        "{\"type\":\"OR\",\"branches\":[{\"policy\":[",
+        levels,
+    )?;
     text.push_str("{\"type\":\"AUTHVALUE\"}")?;
-    for _ in 0..levels {
-        text.push_str("]},{\"policy\":[{\"type\":\"AUTHVALUE\"}]}]}")?;
-    }
+    push_times(
+        &mut text,
+        "]},{\"policy\":[{\"type\":\"AUTHVALUE\"}]}]}",
+        levels,
+    )?;
     text.push_str("]}")?;
     Ok(text)
 }
 
 #[test]
-fn sixteen_ors_inside_one_another(rt: HostRuntime) -> Result<(), Fail> {
-    let alloc = rt.alloc();
-    let most = answer(alloc, nested(alloc, 16)?.as_str())?;
-    assert_eq!(rt; most.as_str(), "ok");
-    let mut place = String::from_str(alloc, "TooDeep at policy[0]")?;
-    for _ in 0..16 {
-        place.push_str(".branches[0].policy[0]")?;
-    }
-    let more = answer(alloc, nested(alloc, 17)?.as_str())?;
-    assert_eq!(rt; more.as_str(), place.as_str());
-    Ok(())
+fn sixteen_ors_inside_one_another(rt: HostRuntime) -> Result<(), NoMemory> {
+    let document = nested(rt.alloc(), 16)?;
+    answers(&rt, rt.alloc(), document.as_str(), "ok")
+}
+
+// The answer where the first element inside sixteen ORs is too deep.
+fn too_deep(alloc: Global) -> Result<String, NoMemory> {
+    let mut answer = String::from_str(alloc, "TooDeep at policy[0]")?;
+    push_times(&mut answer, ".branches[0].policy[0]", 16)?;
+    Ok(answer)
+}
+
+#[test]
+fn seventeen_ors_inside_one_another(rt: HostRuntime) -> Result<(), NoMemory> {
+    let expected = too_deep(rt.alloc())?;
+    let document = nested(rt.alloc(), 17)?;
+    answers(&rt, rt.alloc(), document.as_str(), expected.as_str())
 }
 
 // An OR of so many branches.
-fn with_branches(alloc: Global, branches: u32) -> Result<String, Fail> {
+fn with_branches(alloc: Global, branches: u32) -> Result<String, NoMemory> {
     let mut text = String::from_str(alloc, "{\"policy\":[{\"type\":\"OR\",\"branches\":[")?;
     for _ in 1..branches {
         text.push_str("{\"policy\":[{\"type\":\"PASSWORD\"}]},")?;
@@ -318,9 +343,18 @@ fn with_branches(alloc: Global, branches: u32) -> Result<String, Fail> {
     Ok(text)
 }
 
+fn answers_branches(
+    rt: &impl Abort,
+    alloc: Global,
+    branches: u32,
+    expected: &str,
+) -> Result<(), NoMemory> {
+    let document = with_branches(alloc, branches)?;
+    answers(rt, alloc, document.as_str(), expected)
+}
+
 #[test]
-fn two_to_sixty_four_branches(rt: HostRuntime) -> Result<(), Fail> {
-    let alloc = rt.alloc();
+fn two_to_sixty_four_branches(rt: HostRuntime) -> Result<(), NoMemory> {
     let cases = [
         (1, "BranchCount at policy[0].branches"),
         (2, "ok"),
@@ -328,15 +362,14 @@ fn two_to_sixty_four_branches(rt: HostRuntime) -> Result<(), Fail> {
         (64, "ok"),
         (65, "BranchCount at policy[0].branches"),
     ];
-    for (branches, expected) in cases {
-        let found = answer(alloc, with_branches(alloc, branches)?.as_str())?;
-        assert_eq!(rt; found.as_str(), expected, "{branches}");
+    for (branches, expected) in &cases {
+        answers_branches(&rt, rt.alloc(), *branches, expected)?;
     }
     Ok(())
 }
 
 // A document with so many elements, the last of them in a branch.
-fn many(alloc: Global, elements: u32) -> Result<String, Fail> {
+fn many(alloc: Global, elements: u32) -> Result<String, NoMemory> {
     let mut text = String::from_str(alloc, "{\"policy\":[")?;
     for _ in 3..elements {
         text.push_str("{\"type\":\"AUTHVALUE\"},")?;
@@ -347,24 +380,32 @@ fn many(alloc: Global, elements: u32) -> Result<String, Fail> {
 }
 
 #[test]
-fn limits_of_a_document(rt: HostRuntime) -> Result<(), Fail> {
-    let alloc = rt.alloc();
-    let most = answer(alloc, many(alloc, 1024)?.as_str())?;
-    assert_eq!(rt; most.as_str(), "ok");
-    let more = answer(alloc, many(alloc, 1025)?.as_str())?;
-    assert_eq!(rt;
-        more.as_str(),
-        "TooMany at policy[1022].branches[1].policy[0]"
-    );
+fn as_many_elements_as_may_be(rt: HostRuntime) -> Result<(), NoMemory> {
+    let document = many(rt.alloc(), 1024)?;
+    answers(&rt, rt.alloc(), document.as_str(), "ok")
+}
+
+#[test]
+fn one_element_too_many(rt: HostRuntime) -> Result<(), NoMemory> {
+    let expected = "TooMany at policy[1022].branches[1].policy[0]";
+    let document = many(rt.alloc(), 1025)?;
+    answers(&rt, rt.alloc(), document.as_str(), expected)
+}
+
+// A policy with eight authorizations and a ninth.
+fn nine_authorizations(alloc: Global) -> Result<String, NoMemory> {
     let mut text = String::from_str(
         alloc,
         "{\"policy\":[{\"type\":\"AUTHVALUE\"}],\"policyAuthorizations\":[",
     )?;
-    for _ in 0..8 {
-        text.push_str("{\"type\":\"nv\",\"nvPath\":\"a\"},")?;
-    }
+    push_times(&mut text, "{\"type\":\"nv\",\"nvPath\":\"a\"},", 8)?;
     text.push_str("0]}")?;
-    let ninth = answer(alloc, text.as_str())?;
-    assert_eq!(rt; ninth.as_str(), "TooMany at policyAuthorizations[8]");
-    Ok(())
+    Ok(text)
+}
+
+#[test]
+fn one_authorization_too_many(rt: HostRuntime) -> Result<(), NoMemory> {
+    let document = nine_authorizations(rt.alloc())?;
+    let expected = "TooMany at policyAuthorizations[8]";
+    answers(&rt, rt.alloc(), document.as_str(), expected)
 }
