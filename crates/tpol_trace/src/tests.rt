@@ -10,7 +10,6 @@ ghost use Rattle.tpol_tree.specs.Closed.{ApprovalsLead, ApprovalsLeadElement, Ea
 
 use crate::{Opening, opening};
 use std::alloc::Global;
-use std::process::Abort;
 use std::test::Fail;
 use tpol_base::{Blob, Digest32, Digests, Name, NoMemory, Text};
 use tpol_digest::{check_paths, digest_after_move, digest_of, run_facts};
@@ -193,29 +192,29 @@ fn fact(event: u32, act: Move) -> Fact {
     }
 }
 
-// The facts open this path, with these event numbers.
+// Whether this path was found, with these event numbers.
+fn is_branch(found: Result<Opening, NoMemory>, number: u32, numbers: &[u32]) -> bool {
+    match found {
+        Ok(Opening::Branch { path, events }) => path == number && events.as_slice() == numbers,
+        _ => false,
+    }
+}
+
+// Whether the facts open this path, with these event numbers.
 fn open(
-    rt: &impl Abort,
     alloc: Global,
     policy: &Closed,
     approvals: &Approvals,
     facts: &Facts,
     number: u32,
     numbers: &[u32],
-) -> Result<(), NoMemory>
+) -> bool
     requires well_formed { IsWellFormed policy.now approvals.now }
 {
-    assert!(rt; check_paths(policy, approvals).is_ok());
-    assert!(rt; is_sound(facts));
-    assert!(rt; lead_to(facts, policy));
-    match opening(alloc, policy, approvals, facts)? {
-        Opening::Branch { path, events } => {
-            assert_eq!(rt; path, number);
-            assert_eq!(rt; events.as_slice(), numbers);
-        }
-        Opening::Clash { .. } | Opening::ZeroInput { .. } => assert!(rt; false),
-    }
-    Ok(())
+    check_paths(policy, approvals).is_ok()
+        && is_sound(facts)
+        && lead_to(facts, policy)
+        && is_branch(opening(alloc, policy, approvals, facts), number, numbers)
 }
 
 // An OR of two branches, as a policy.
@@ -261,25 +260,38 @@ fn two_digests(alloc: Global, first: Digest32, second: Digest32) -> Result<Diges
     Ok(digests)
 }
 
-// A PolicySecret whose policyRef is the bytes of a PolicyCommandCode update, and then the OR.
-#[test]
-fn policy_ref_like_a_command_code(rt: HostRuntime) -> Result<(), Fail> {
-    let alloc = rt.alloc();
+// A PolicySecret whose policyRef is the bytes of a PolicyCommandCode update, or the authorization value.
+fn reference(alloc: Global) -> Result<Closed, NoMemory>
+    ensures { IfOk result (λ policy. IsWellFormedPolicy policy) }
+{
     let first = one(alloc, secret(alloc, &POLICY_REF)?)?;
     let second = one(alloc, Assertion::AuthValue)?;
-    let policy = policy_of_two(alloc, ["a", "b"], first, second)?;
-    let approvals = Approvals::new(alloc);
-    let digests = two_digests(
-        alloc,
-        Digest32 {
-            bytes: *SECRET_OF_OWNER,
-        },
-        Digest32 { bytes: *AUTH_VALUE },
-    )?;
+    policy_of_two(alloc, ["a", "b"], first, second)
+}
+
+fn reference_digests(alloc: Global) -> Result<Digests, NoMemory> {
+    let secret_of_owner = Digest32 {
+        bytes: *SECRET_OF_OWNER,
+    };
+    two_digests(alloc, secret_of_owner, Digest32 { bytes: *AUTH_VALUE })
+}
+
+// That PolicySecret, and then the OR.
+fn reference_facts(alloc: Global) -> Result<Facts, NoMemory> {
+    let digests = reference_digests(alloc)?;
+    let secret = secret(alloc, &POLICY_REF)?;
     let mut facts = Facts::new(alloc)?;
-    facts.push(fact(2, Move::Assert(secret(alloc, &POLICY_REF)?)));
+    facts.push(fact(2, Move::Assert(secret)));
     facts.push(fact(3, Move::Or(digests)));
-    open(&rt, alloc, &policy, &approvals, &facts, 1, &[2, 3])?;
+    Ok(facts)
+}
+
+#[test]
+fn policy_ref_like_a_command_code(rt: HostRuntime) -> Result<(), Fail> {
+    let policy = reference(rt.alloc())?;
+    let facts = reference_facts(rt.alloc())?;
+    let approvals = Approvals::new(rt.alloc());
+    assert!(rt; open(rt.alloc(), &policy, &approvals, &facts, 1, &[2, 3]));
     Ok(())
 }
 
@@ -297,11 +309,9 @@ fn disk_digests(alloc: Global) -> Result<Digests, NoMemory> {
     two_digests(alloc, Digest32 { bytes: *BOOT }, Digest32 { bytes: *OWNER })
 }
 
-#[test]
-fn disk_by_its_first_branch(rt: HostRuntime) -> Result<(), Fail> {
-    let alloc = rt.alloc();
-    let policy = disk(alloc)?;
-    let approvals = Approvals::new(alloc);
+fn boot_facts(alloc: Global) -> Result<Facts, NoMemory> {
+    let digests = disk_digests(alloc)?;
+    let mut facts = Facts::new(alloc)?;
     let boot_pcrs = Assertion::Pcr {
         mask: BOOT_PCRS,
         pcr_digest: Digest32 {
@@ -309,24 +319,37 @@ fn disk_by_its_first_branch(rt: HostRuntime) -> Result<(), Fail> {
         },
         values: Digests::new(alloc),
     };
-    let mut facts = Facts::new(alloc)?;
     facts.push(fact(2, Move::Assert(boot_pcrs)));
     facts.push(fact(3, Move::Assert(Assertion::AuthValue)));
-    facts.push(fact(4, Move::Or(disk_digests(alloc)?)));
-    open(&rt, alloc, &policy, &approvals, &facts, 1, &[2, 3, 4])?;
+    facts.push(fact(4, Move::Or(digests)));
+    Ok(facts)
+}
+
+#[test]
+fn disk_by_its_first_branch(rt: HostRuntime) -> Result<(), Fail> {
+    let policy = disk(rt.alloc())?;
+    let facts = boot_facts(rt.alloc())?;
+    let approvals = Approvals::new(rt.alloc());
+    assert!(rt; open(rt.alloc(), &policy, &approvals, &facts, 1, &[2, 3, 4]));
     Ok(())
+}
+
+fn owner_facts(alloc: Global) -> Result<Facts, NoMemory> {
+    let digests = disk_digests(alloc)?;
+    let secret = secret(alloc, &[])?;
+    let mut facts = Facts::new(alloc)?;
+    facts.push(fact(3, Move::Assert(secret)));
+    facts.push(fact(4, Move::Assert(Assertion::CommandCode(UNSEAL))));
+    facts.push(fact(5, Move::Or(digests)));
+    Ok(facts)
 }
 
 #[test]
 fn disk_by_its_second_branch(rt: HostRuntime) -> Result<(), Fail> {
-    let alloc = rt.alloc();
-    let policy = disk(alloc)?;
-    let approvals = Approvals::new(alloc);
-    let mut facts = Facts::new(alloc)?;
-    facts.push(fact(3, Move::Assert(secret(alloc, &[])?)));
-    facts.push(fact(4, Move::Assert(Assertion::CommandCode(UNSEAL))));
-    facts.push(fact(5, Move::Or(disk_digests(alloc)?)));
-    open(&rt, alloc, &policy, &approvals, &facts, 2, &[3, 4, 5])?;
+    let policy = disk(rt.alloc())?;
+    let facts = owner_facts(rt.alloc())?;
+    let approvals = Approvals::new(rt.alloc());
+    assert!(rt; open(rt.alloc(), &policy, &approvals, &facts, 2, &[3, 4, 5]));
     Ok(())
 }
 
@@ -379,20 +402,25 @@ fn base(alloc: Global) -> Result<Closed, NoMemory>
     })
 }
 
-#[test]
-fn second_approved_document(rt: HostRuntime) -> Result<(), Fail> {
-    let alloc = rt.alloc();
-    let policy = base(alloc)?;
-    let approvals = versions(alloc)?;
+// The authorization value, and its approval by the key.
+fn approved_facts(alloc: Global) -> Result<Facts, NoMemory> {
+    let mut facts = Facts::new(alloc)?;
     let approve = Move::Approve {
         key: approver(),
         policy_ref: Blob::new(alloc),
         approved: Digest32 { bytes: *AUTH_VALUE },
         signature: Digest32::ZERO,
     };
-    let mut facts = Facts::new(alloc)?;
     facts.push(fact(2, Move::Assert(Assertion::AuthValue)));
     facts.push(fact(4, approve));
-    open(&rt, alloc, &policy, &approvals, &facts, 2, &[2, 4])?;
+    Ok(facts)
+}
+
+#[test]
+fn second_approved_document(rt: HostRuntime) -> Result<(), Fail> {
+    let policy = base(rt.alloc())?;
+    let approvals = versions(rt.alloc())?;
+    let facts = approved_facts(rt.alloc())?;
+    assert!(rt; open(rt.alloc(), &policy, &approvals, &facts, 2, &[2, 4]));
     Ok(())
 }
