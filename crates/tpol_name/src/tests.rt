@@ -5,7 +5,6 @@ use crate::{
     object_name, opening_sight, same_path, written,
 };
 use std::alloc::Global;
-use std::test::Fail;
 use tpol_base::{Blob, Digest32, Name, NoMemory, Sequence, Text};
 use tpol_hash::{Hasher, hash};
 
@@ -42,28 +41,47 @@ fn signing_key(alloc: Global) -> Result<ObjectPublic, NoMemory> {
     })
 }
 
-fn setup(alloc: Global) -> Result<Setup, NoMemory> {
-    let mut objects = Sequence::new(alloc);
-    objects.push(ObjectEntry {
-        path: Text::from_str(alloc, "/HS/SRK/approver")?,
+fn approver(alloc: Global) -> Result<ObjectEntry, NoMemory> {
+    let secret = Blob::from_slice(alloc, b"key")?;
+    let path = Text::from_str(alloc, "/HS/SRK/approver")?;
+    Ok(ObjectEntry {
+        path,
         handle: 0x8000_0001,
         public: signing_key(alloc)?,
         auth: Blob::new(alloc),
-        secret: Blob::from_slice(alloc, b"key")?,
-    })?;
-    let mut indices = Sequence::new(alloc);
-    indices.push(IndexEntry {
-        path: Text::from_str(alloc, "/nv/Owner/policy")?,
+        secret,
+    })
+}
+
+fn owner_index(alloc: Global) -> Result<IndexEntry, NoMemory> {
+    let auth = Blob::from_slice(alloc, b"pin")?;
+    let content = Blob::from_slice(alloc, &[0; 34])?;
+    let path = Text::from_str(alloc, "/nv/Owner/policy")?;
+    Ok(IndexEntry {
+        path,
         public: policy_index(alloc, 0x020f_1008)?,
-        auth: Blob::from_slice(alloc, b"pin")?,
-        content: Blob::from_slice(alloc, &[0; 34])?,
-    })?;
+        auth,
+        content,
+    })
+}
+
+fn single<T: Drop>(alloc: Global, item: T) -> Result<Sequence<T>, NoMemory> {
+    let mut items = Sequence::new(alloc);
+    items.push(item)?;
+    Ok(items)
+}
+
+fn setup(alloc: Global) -> Result<Setup, NoMemory> {
+    let owner = Blob::from_slice(alloc, b"owner")?;
+    let pcrs = Sequence::from_slice(alloc, &[Digest32::ZERO; 24])?;
+    let objects = single(alloc, approver(alloc)?)?;
+    let indices = single(alloc, owner_index(alloc)?)?;
     Ok(Setup {
         seed: Digest32::ZERO,
-        owner: Blob::from_slice(alloc, b"owner")?,
+        owner,
         endorsement: Blob::new(alloc),
         lockout: Blob::new(alloc),
-        pcrs: Sequence::from_slice(alloc, &[Digest32::ZERO; 24])?,
+        pcrs,
         pcr_counter: 7,
         objects,
         indices,
@@ -83,20 +101,31 @@ fn digest_in(name: &Name) -> [u8; 32] {
 }
 
 #[test]
-fn names_of_a_tpm(rt: HostRuntime) -> Result<(), Fail> {
+fn the_name_of_an_index(rt: HostRuntime) -> Result<(), NoMemory> {
     let index = policy_index(rt.alloc(), 0x220f_1008)?;
     assert!(rt; written(&index));
-    assert_eq!(rt; &digest_in(&nv_name(&index)), POLICY_INDEX_DIGEST);
-    let key = digest_in(&object_name(&signing_key(rt.alloc())?));
+    assert!(rt; digest_in(&nv_name(&index)) == *POLICY_INDEX_DIGEST);
+    Ok(())
+}
+
+// PolicyAuthorize by a key whose Name has this digest, then PolicyCommandCode of Unseal.
+fn approved_unseal(key: &[u8; 32]) -> Digest32 {
     let mut update = Hasher::new();
     update.put(&[0; 32]);
     update.put(&[0x00, 0x00, 0x01, 0x6a, 0x00, 0x0b]);
-    update.put(&key);
+    update.put(key);
     let approved = hash(&update.done().bytes);
     let mut unseal = Hasher::new();
     unseal.put(&approved.bytes);
     unseal.put(&[0x00, 0x00, 0x01, 0x6c, 0x00, 0x00, 0x01, 0x5e]);
-    assert_eq!(rt; &unseal.done().bytes, APPROVED_UNSEAL);
+    unseal.done()
+}
+
+#[test]
+fn the_name_of_a_key(rt: HostRuntime) -> Result<(), NoMemory> {
+    let key = signing_key(rt.alloc())?;
+    let digest = digest_in(&object_name(&key));
+    assert!(rt; approved_unseal(&digest).bytes == *APPROVED_UNSEAL);
     Ok(())
 }
 
@@ -111,27 +140,32 @@ fn paths_of_the_key_store(rt: HostRuntime) {
         ("/HS", "/hs", false),
         ("P_A", "", true),
     ];
-    for (a, b, same) in cases {
-        assert_eq!(rt; same_path(a, b), same, "{a} and {b}");
+    for (a, b, same) in &cases {
+        assert!(rt; same_path(a, b) == *same, "{a} and {b}");
     }
 }
 
 #[test]
-fn what_a_started_machine_shows(rt: HostRuntime) -> Result<(), Fail> {
+fn what_a_started_machine_shows(rt: HostRuntime) -> Result<(), NoMemory> {
     let setup = setup(rt.alloc())?;
     let sight = opening_sight(rt.alloc(), &setup)?;
-    assert_eq!(rt; sight.free_sessions, 64);
-    assert_eq!(rt; sight.owner.as_slice(), b"owner".as_slice());
-    assert_eq!(rt;
-        sight.objects.len() + sight.indices.len() + sight.pcrs.len(),
-        26
-    );
+    assert!(rt; sight.free_sessions == 64);
+    assert!(rt; sight.owner.as_slice() == b"owner".as_slice());
+    assert!(rt; sight.objects.len() == 1);
+    assert!(rt; sight.indices.len() == 1);
+    assert!(rt; sight.pcrs.len() == 24);
+    Ok(())
+}
+
+#[test]
+fn the_lines_of_a_started_machine(rt: HostRuntime) -> Result<(), NoMemory> {
+    let setup = setup(rt.alloc())?;
     let lines = directory(rt.alloc(), &setup)?;
-    let handles = [0x8000_0001, 0x01c0_7f01];
-    for (line, handle) in lines.as_slice().iter().zip(handles) {
-        assert_eq!(rt; line.handle, handle);
-    }
-    let last = lines.get(1).ok_or("two lines")?;
-    assert_eq!(rt; &digest_in(&last.name), POLICY_INDEX_DIGEST);
+    let [key, index] = lines.as_slice() else {
+        return Err(NoMemory);
+    };
+    assert!(rt; key.handle == 0x8000_0001);
+    assert!(rt; index.handle == 0x01c0_7f01);
+    assert!(rt; digest_in(&index.name) == *POLICY_INDEX_DIGEST);
     Ok(())
 }
