@@ -1,7 +1,13 @@
+//! Whole runs of the program over objects in memory: what they print and answer.
+//!
+//! The proof of a function proves the drop of each value that it holds, wherever it may end early, and is longest
+//! where it names long texts too. So functions that may end early are given what they fill, and the tests, which
+//! name the texts, hold nothing.
+
 use crate::{Status, policy_main};
 use std::alloc::{AllocError, Global};
 use std::test::Fail;
-use tpol_base::{Failing, MemoryShelf, MemorySink, MemorySource, Shelf};
+use tpol_base::{Failing, Lapse, MemoryShelf, MemorySink, MemorySource, NoMemory, Shelf};
 
 const SECRET: &str =
     r#"{"description":"ek","policy":[{"type":"POLICYSECRET","objectPath":"/HE"}]}"#;
@@ -37,46 +43,153 @@ const CURRENT_PCR: &str = r#"{"policy":[{"type":"POLICYPCR","currentPCRs":[23]}]
 const OR: &str =
     r#"{"type":"OR","branches":[{"policy":[{"type":"AUTHVALUE"}]},{"policy":[{"type":"PASSWORD"}]}]}"#;
 
-pub fn words_of(alloc: Global, words: &[&str]) -> Result<Vec<String>, AllocError> {
-    let mut list = Vec::new(alloc);
+// The calls of the source, of the sink and of the shelf that fail, counted from 1.
+#[derive(Clone, Copy)]
+struct Failures {
+    source: &'static [u64],
+    sink: &'static [u64],
+    shelf: &'static [u64],
+}
+
+const NO_FAILURES: Failures = Failures {
+    source: &[],
+    sink: &[],
+    shelf: &[],
+};
+
+fn push_words(list: &mut Vec<String>, alloc: Global, words: &[&str]) -> Result<(), NoMemory> {
     for word in words {
         list.push(String::from_str(alloc, word)?)?;
     }
+    Ok(())
+}
+
+fn words_of(alloc: Global, words: &[&str]) -> Result<Vec<String>, NoMemory> {
+    let mut list = Vec::new(alloc);
+    push_words(&mut list, alloc, words)?;
     Ok(list)
 }
 
-// What a run prints and answers, over objects in memory that never fail.
-pub fn run(
+fn put_scenes(shelf: &mut MemoryShelf) -> Result<(), Lapse> {
+    shelf.put("m.scene", b"{}")?;
+    shelf.put("bad.scene", b"{")
+}
+
+// A shelf with a scene, and with a document that is named as one and is none.
+fn scenes(alloc: Global) -> Result<MemoryShelf, Lapse> {
+    let mut shelf = MemoryShelf::new(alloc);
+    put_scenes(&mut shelf)?;
+    Ok(shelf)
+}
+
+fn calls(alloc: Global, failing: &[u64]) -> Result<Vec<u64>, NoMemory> {
+    Ok(failing.to_vec(alloc)?)
+}
+
+fn source(alloc: Global, input: &[u8], failing: &[u64]) -> Result<Failing<MemorySource>, NoMemory> {
+    let failing = calls(alloc, failing)?;
+    Ok(Failing::new(MemorySource::new(input.to_vec(alloc)?), failing))
+}
+
+fn sink(alloc: Global, failing: &[u64]) -> Result<Failing<MemorySink>, NoMemory> {
+    let failing = calls(alloc, failing)?;
+    Ok(Failing::new(MemorySink::new(alloc), failing))
+}
+
+fn shelf(alloc: Global, failing: &[u64]) -> Result<Failing<MemoryShelf>, Lapse> {
+    let failing = calls(alloc, failing)?;
+    Ok(Failing::new(scenes(alloc)?, failing))
+}
+
+// What a run answers that prints to this sink.
+fn answer(
+    alloc: Global,
+    words: &[&str],
+    input: &[u8],
+    failures: &Failures,
+    sink: &mut Failing<MemorySink>,
+) -> Result<Status, Lapse> {
+    let words = words_of(alloc, words)?;
+    let mut source = source(alloc, input, failures.source)?;
+    let mut shelf = shelf(alloc, failures.shelf)?;
+    Ok(policy_main(alloc, &words, &mut source, sink, &mut shelf))
+}
+
+// What a run answers, and the sink that it printed to.
+fn run(
+    alloc: Global,
+    words: &[&str],
+    input: &[u8],
+    failures: &Failures,
+) -> Result<(Status, Failing<MemorySink>), Lapse> {
+    let mut sink = sink(alloc, failures.sink)?;
+    let status = answer(alloc, words, input, failures, &mut sink)?;
+    Ok((status, sink))
+}
+
+// The text that was printed; none where it is not known.
+fn text_of(sink: &Failing<MemorySink>) -> Option<&str> {
+    str::from_utf8(sink.inner().written()?).ok()
+}
+
+fn has_printed(sink: &Failing<MemorySink>, text: &str) -> bool {
+    match text_of(sink) {
+        Some(printed) => printed == text,
+        None => false,
+    }
+}
+
+// Whether a run with these failures answers so, and prints this text.
+fn ends(
     alloc: Global,
     words: &[&str],
     input: &str,
-    shelf: &mut MemoryShelf,
-) -> Result<(Status, String), Fail> {
-    let words = words_of(alloc, words)?;
-    let mut source = MemorySource::new(input.as_bytes().to_vec(alloc)?);
-    let mut sink = MemorySink::new(alloc);
-    let status = policy_main(alloc, &words, &mut source, &mut sink, shelf);
-    let written = sink.written().ok_or("lost")?.to_vec(alloc)?;
-    Ok((status, String::from_utf8(written).map_err(|_| "no text")?))
+    failures: &Failures,
+    status: Status,
+    text: &str,
+) -> bool {
+    match run(alloc, words, input.as_bytes(), failures) {
+        Ok((answered, sink)) => answered == status && has_printed(&sink, text),
+        Err(_) => false,
+    }
 }
 
-// A policy of so many ORs of two branches.
-fn ors(alloc: Global, count: usize) -> Result<String, AllocError> {
-    let mut text = String::from_str(alloc, "{\"policy\":[")?;
+// Whether a run answers so, and prints this text.
+pub fn prints(alloc: Global, words: &[&str], input: &str, status: Status, text: &str) -> bool {
+    ends(alloc, words, input, &NO_FAILURES, status, text)
+}
+
+// Whether what `paths` prints of a document starts with the first text, and has the second one in it.
+fn lists(alloc: Global, input: &str, start: &str, part: &str) -> bool {
+    match run(alloc, &["paths"], input.as_bytes(), &NO_FAILURES) {
+        Ok((_, sink)) => match text_of(&sink) {
+            Some(text) => text.starts_with(start) && text.contains(part),
+            None => false,
+        },
+        Err(_) => false,
+    }
+}
+
+fn push_ors(text: &mut String, count: usize) -> Result<(), AllocError> {
+    text.push_str("{\"policy\":[")?;
     for place in 0..count {
         if place > 0 {
             text.push_str(",")?;
         }
         text.push_str(OR)?;
     }
-    text.push_str("]}")?;
+    text.push_str("]}")
+}
+
+// A policy of so many ORs of two branches.
+fn ors(alloc: Global, count: usize) -> Result<String, AllocError> {
+    let mut text = String::new(alloc);
+    push_ors(&mut text, count)?;
     Ok(text)
 }
 
 #[test]
-fn words_outside_the_grammar_are_usage(rt: HostRuntime) -> Result<(), Fail> {
-    let alloc = rt.alloc();
-    let mut shelf = MemoryShelf::new(alloc);
+fn words_outside_the_grammar_are_usage(rt: HostRuntime) {
     let table: [&[&str]; 7] = [
         &[],
         &["compile", "x"],
@@ -87,17 +200,12 @@ fn words_outside_the_grammar_are_usage(rt: HostRuntime) -> Result<(), Fail> {
         &["compile", "--scene", "m", "x"],
     ];
     for words in table {
-        let (status, text) = run(alloc, words, SECRET, &mut shelf)?;
-        assert_eq!(rt; status, Status::Usage);
-        assert_eq!(rt; text.as_str(), "error Usage\n");
+        assert!(rt; prints(rt.alloc(), words, SECRET, Status::Usage, "error Usage\n"));
     }
-    Ok(())
 }
 
 #[test]
-fn documents_compile(rt: HostRuntime) -> Result<(), Fail> {
-    let alloc = rt.alloc();
-    let mut shelf = MemoryShelf::new(alloc);
+fn documents_compile(rt: HostRuntime) {
     for (input, want) in [
         (SECRET, SECRET_DIGEST),
         (r#"{"policy":[{"type":"POLICYAUTHVALUE"}]}"#, VALUE_DIGEST),
@@ -110,25 +218,22 @@ fn documents_compile(rt: HostRuntime) -> Result<(), Fail> {
             SECOND_BRANCH,
             "digest 3767e2edd43ff45a3a7e1eaefcef78643dca964632e7aad82c673a30d8633fde\n",
         ),
+        (
+            r#"{"policy":[{"type":"authvalue","x":1}]}"#,
+            "note policy[0].x\n\
+            digest 8fcd2169ab92694e0c633f1ab772842b8241bbc20288981fc7ac1eddc1fddb0e\n",
+        ),
+        (PCR_23, PCR_23_DIGEST),
     ] {
-        let (status, text) = run(alloc, &["compile"], input, &mut shelf)?;
-        assert_eq!(rt; text.as_str(), want, "{input}");
-        assert_eq!(rt; status, Status::Done);
+        assert!(rt;
+            prints(rt.alloc(), &["compile"], input, Status::Done, want),
+            "{input}"
+        );
     }
-    let noted = r#"{"policy":[{"type":"authvalue","x":1}]}"#;
-    let (_, text) = run(alloc, &["compile"], noted, &mut shelf)?;
-    let digest = text
-        .as_str()
-        .strip_prefix("note policy[0].x\n")
-        .ok_or("no note")?;
-    assert_eq!(rt; digest, VALUE_DIGEST);
-    Ok(())
 }
 
 #[test]
-fn documents_are_refused_at_a_place(rt: HostRuntime) -> Result<(), Fail> {
-    let alloc = rt.alloc();
-    let mut shelf = MemoryShelf::new(alloc);
+fn documents_are_refused_at_a_place(rt: HostRuntime) {
     for (input, want) in [
         ("{", "error BadPolicy NotJson\n"),
         (
@@ -156,17 +261,15 @@ fn documents_are_refused_at_a_place(rt: HostRuntime) -> Result<(), Fail> {
             "error BadPolicy NoSuchPcr at policy[0].currentPCRs[0]\n",
         ),
     ] {
-        let (status, text) = run(alloc, &["compile"], input, &mut shelf)?;
-        assert_eq!(rt; text.as_str(), want, "{input}");
-        assert_eq!(rt; status, Status::BadPolicy);
+        assert!(rt;
+            prints(rt.alloc(), &["compile"], input, Status::BadPolicy, want),
+            "{input}"
+        );
     }
-    Ok(())
 }
 
 #[test]
-fn canonical_texts_are_printed(rt: HostRuntime) -> Result<(), Fail> {
-    let alloc = rt.alloc();
-    let mut shelf = MemoryShelf::new(alloc);
+fn canonical_texts_are_printed(rt: HostRuntime) {
     for (input, want) in [
         (
             r#"{"policy":[{"type":"authvalue","x":1}]}"#,
@@ -177,11 +280,11 @@ fn canonical_texts_are_printed(rt: HostRuntime) -> Result<(), Fail> {
             "{\"description\":\"\",\"policy\":[{\"code\":\"Unseal\",\"type\":\"POLICYCOMMANDCODE\"}]}\n",
         ),
     ] {
-        let (status, text) = run(alloc, &["canon"], input, &mut shelf)?;
-        assert_eq!(rt; text.as_str(), want);
-        assert_eq!(rt; status, Status::Done);
+        assert!(rt;
+            prints(rt.alloc(), &["canon"], input, Status::Done, want),
+            "{input}"
+        );
     }
-    Ok(())
 }
 
 // Nine branches stand in two groups, of which the second is the ninth branch.
@@ -189,151 +292,193 @@ const NINE_BRANCHES: &str =
     r#"{"policy":[{"type":"POLICYOR","branches":[{"name":"b1","policy":[{"type":"POLICYAUTHVALUE"}]},{"name":"b2","policy":[{"type":"POLICYAUTHVALUE"}]},{"name":"b3","policy":[{"type":"POLICYAUTHVALUE"}]},{"name":"b4","policy":[{"type":"POLICYAUTHVALUE"}]},{"name":"b5","policy":[{"type":"POLICYAUTHVALUE"}]},{"name":"b6","policy":[{"type":"POLICYAUTHVALUE"}]},{"name":"b7","policy":[{"type":"POLICYAUTHVALUE"}]},{"name":"b8","policy":[{"type":"POLICYAUTHVALUE"}]},{"name":"b9","policy":[{"type":"POLICYAUTHVALUE"}]}]}]}"#;
 
 #[test]
-fn paths_of_more_than_eight_branches(rt: HostRuntime) -> Result<(), Fail> {
-    let alloc = rt.alloc();
-    let mut shelf = MemoryShelf::new(alloc);
-    let (_, text) = run(alloc, &["paths"], NINE_BRANCHES, &mut shelf)?;
+fn paths_of_more_than_eight_branches(rt: HostRuntime) {
     let start = "path 1 \"#1\"/\"b1\" AuthValue,Or,Or\npath 2 \"#1\"/\"b2\" AuthValue,Or,Or\n";
-    assert!(rt; text.as_str().starts_with(start));
-    assert!(rt;
-        text.as_str()
-            .contains("\npath 9 \"b9\" AuthValue,Or\ndigest ")
-    );
-    Ok(())
+    let last = "\npath 9 \"b9\" AuthValue,Or\ndigest ";
+    assert!(rt; lists(rt.alloc(), NINE_BRANCHES, start, last));
 }
 
 #[test]
-fn paths_are_listed_in_document_order(rt: HostRuntime) -> Result<(), Fail> {
-    let alloc = rt.alloc();
-    let mut shelf = MemoryShelf::new(alloc);
-    let (status, text) = run(alloc, &["paths"], TWO_BRANCHES, &mut shelf)?;
-    assert_eq!(rt; status, Status::Done);
-    assert_eq!(rt;
-        text.as_str(),
-        "path 1 \"A\" Secret,Or\npath 2 \"C\"/@* ApproveNv,Or\n\
-        digest ca3d0a99a2b93906f7a3342414efcfb3a385d44cd1fd459089d19b5071c0b7a0\n"
-    );
-    let (_, text) = run(alloc, &["paths"], BEFORE_AN_OR, &mut shelf)?;
+fn paths_are_listed_in_document_order(rt: HostRuntime) {
+    let two = "path 1 \"A\" Secret,Or\npath 2 \"C\"/@* ApproveNv,Or\n\
+        digest ca3d0a99a2b93906f7a3342414efcfb3a385d44cd1fd459089d19b5071c0b7a0\n";
+    assert!(rt; prints(rt.alloc(), &["paths"], TWO_BRANCHES, Status::Done, two));
     let start =
         "path 1 \"a\" CommandCode,AuthValue,Or\npath 2 \"b\" CommandCode,Locality,Or\ndigest ";
-    assert!(rt; text.as_str().starts_with(start));
+    assert!(rt; lists(rt.alloc(), BEFORE_AN_OR, start, start));
+}
 
-    let many = ors(alloc, 17)?;
-    let (status, text) = run(alloc, &["paths"], many.as_str(), &mut shelf)?;
-    assert_eq!(rt; status, Status::PathLimit);
-    assert_eq!(rt; text.as_str(), "error PathLimit TooManyPaths\n");
+#[test]
+fn too_many_paths_are_refused(rt: HostRuntime) -> Result<(), Fail> {
+    let many = ors(rt.alloc(), 17)?;
+    let want = "error PathLimit TooManyPaths\n";
+    assert!(rt;
+        prints(
+            rt.alloc(),
+            &["paths"],
+            many.as_str(),
+            Status::PathLimit,
+            want
+        )
+    );
     Ok(())
 }
 
 #[test]
-fn scenes_give_current_values(rt: HostRuntime) -> Result<(), Fail> {
-    let alloc = rt.alloc();
-    let mut shelf = MemoryShelf::new(alloc);
-    shelf.put("m.scene", b"{}")?;
-    shelf.put("bad.scene", b"{")?;
-    let (status, text) = run(alloc, &["compile", "--scene", "m"], CURRENT_PCR, &mut shelf)?;
-    assert_eq!(rt; status, Status::Done);
-    assert_eq!(rt; text.as_str(), PCR_23_DIGEST);
-    let (_, text) = run(alloc, &["compile"], PCR_23, &mut shelf)?;
-    assert_eq!(rt; text.as_str(), PCR_23_DIGEST);
-    let words = ["compile", "--scene", "/policy/none"];
-    let (status, text) = run(alloc, &words, CURRENT_PCR, &mut shelf)?;
-    assert_eq!(rt; status, Status::BadScene);
-    assert_eq!(rt; text.as_str(), "error BadScene NoSuchScene\n");
-    let (_, text) = run(alloc, &["paths", "--scene", "bad"], CURRENT_PCR, &mut shelf)?;
-    assert_eq!(rt; text.as_str(), "error BadScene NotJson\n");
-    Ok(())
+fn scenes_give_current_values(rt: HostRuntime) {
+    let table: [(&[&str], Status, &str); 3] = [
+        (&["compile", "--scene", "m"], Status::Done, PCR_23_DIGEST),
+        (
+            &["compile", "--scene", "/policy/none"],
+            Status::BadScene,
+            "error BadScene NoSuchScene\n",
+        ),
+        (
+            &["paths", "--scene", "bad"],
+            Status::BadScene,
+            "error BadScene NotJson\n",
+        ),
+    ];
+    for (words, status, want) in table {
+        assert!(rt;
+            prints(rt.alloc(), words, CURRENT_PCR, status, want),
+            "{want}"
+        );
+    }
 }
 
 #[test]
-fn faults_of_the_outside_are_told(rt: HostRuntime) -> Result<(), Fail> {
-    let alloc = rt.alloc();
-    let words = words_of(alloc, &["compile"])?;
-    let document = SECRET.as_bytes().to_vec(alloc)?;
-    let mut source = Failing::new(MemorySource::new(document.clone()?), vec![in alloc; 2]?);
-    let mut sink = MemorySink::new(alloc);
-    let mut shelf = MemoryShelf::new(alloc);
-    let status = policy_main(alloc, &words, &mut source, &mut sink, &mut shelf);
-    assert_eq!(rt; status, Status::ReadFault);
-    assert_eq!(rt; sink.written().ok_or("lost")?.len(), 0);
+fn failures_of_the_source_are_told(rt: HostRuntime) {
+    let failures = Failures {
+        source: &[2],
+        ..NO_FAILURES
+    };
+    assert!(rt;
+        ends(
+            rt.alloc(),
+            &["compile"],
+            SECRET,
+            &failures,
+            Status::ReadFault,
+            ""
+        )
+    );
+}
 
-    let mut source = MemorySource::new(document);
-    let mut sink = Failing::new(MemorySink::new(alloc), vec![in alloc; 1]?);
-    let status = policy_main(alloc, &words, &mut source, &mut sink, &mut shelf);
-    assert_eq!(rt; status, Status::WriteFault);
-    assert_eq!(rt; sink.inner().written().ok_or("lost")?.len(), 0);
+#[test]
+fn failures_of_the_sink_are_told(rt: HostRuntime) {
+    let failures = Failures {
+        sink: &[1],
+        ..NO_FAILURES
+    };
+    assert!(rt;
+        ends(
+            rt.alloc(),
+            &["compile"],
+            SECRET,
+            &failures,
+            Status::WriteFault,
+            ""
+        )
+    );
+}
 
-    let words = words_of(alloc, &["compile", "--scene", "m"])?;
-    let mut source = MemorySource::new(SECRET.as_bytes().to_vec(alloc)?);
-    let mut sink = MemorySink::new(alloc);
-    let mut shelf = Failing::new(shelf, vec![in alloc; 1]?);
-    let status = policy_main(alloc, &words, &mut source, &mut sink, &mut shelf);
-    assert_eq!(rt; status, Status::ShelfFault);
-    assert_eq!(rt; sink.written().ok_or("lost")?.len(), 0);
-    Ok(())
+#[test]
+fn failures_of_the_shelf_are_told(rt: HostRuntime) {
+    let failures = Failures {
+        shelf: &[1],
+        ..NO_FAILURES
+    };
+    let words = ["compile", "--scene", "m"];
+    assert!(rt;
+        ends(
+            rt.alloc(),
+            &words,
+            SECRET,
+            &failures,
+            Status::ShelfFault,
+            ""
+        )
+    );
 }
 
 // The source is called until it answers that it is at its end, and the shelf for the scene and for the names of
 // its documents alone.
 #[test]
-fn nothing_is_called_again(rt: HostRuntime) -> Result<(), Fail> {
-    let alloc = rt.alloc();
-    let words = words_of(alloc, &["compile", "--scene", "m"])?;
-    let document = CURRENT_PCR.as_bytes().to_vec(alloc)?;
-    let mut source = Failing::new(MemorySource::new(document), vec![in alloc; 3]?);
-    let mut sink = MemorySink::new(alloc);
-    let mut scenes = MemoryShelf::new(alloc);
-    scenes.put("m.scene", b"{}")?;
-    let mut shelf = Failing::new(scenes, vec![in alloc; 3]?);
-    let status = policy_main(alloc, &words, &mut source, &mut sink, &mut shelf);
-    assert_eq!(rt; status, Status::Done);
-    assert_eq!(rt; sink.written().ok_or("lost")?, PCR_23_DIGEST.as_bytes());
-    Ok(())
+fn nothing_is_called_again(rt: HostRuntime) {
+    let failures = Failures {
+        source: &[3],
+        sink: &[],
+        shelf: &[3],
+    };
+    let words = ["compile", "--scene", "m"];
+    assert!(rt;
+        ends(
+            rt.alloc(),
+            &words,
+            CURRENT_PCR,
+            &failures,
+            Status::Done,
+            PCR_23_DIGEST
+        )
+    );
 }
 
 // `import` makes one call of the shelf, which puts the document: every other one fails here.
 #[test]
-fn import_neither_lists_nor_fetches(rt: HostRuntime) -> Result<(), Fail> {
-    let alloc = rt.alloc();
-    let words = words_of(alloc, &["import", "/policy/disk"])?;
-    let mut source = MemorySource::new(SECRET.as_bytes().to_vec(alloc)?);
-    let mut sink = MemorySink::new(alloc);
-    let mut shelf = Failing::new(MemoryShelf::new(alloc), vec![in alloc; 2, 3, 4]?);
-    let status = policy_main(alloc, &words, &mut source, &mut sink, &mut shelf);
-    assert_eq!(rt; status, Status::Done);
-    assert_eq!(rt; sink.written().ok_or("lost")?, "imported disk\n".as_bytes());
-    Ok(())
+fn import_neither_lists_nor_fetches(rt: HostRuntime) {
+    let failures = Failures {
+        shelf: &[2, 3, 4],
+        ..NO_FAILURES
+    };
+    let words = ["import", "/policy/disk"];
+    assert!(rt;
+        ends(
+            rt.alloc(),
+            &words,
+            SECRET,
+            &failures,
+            Status::Done,
+            "imported disk\n"
+        )
+    );
 }
 
 #[test]
-fn each_line_is_one_write(rt: HostRuntime) -> Result<(), Fail> {
-    let alloc = rt.alloc();
-    let words = words_of(alloc, &["paths"])?;
-    let mut source = MemorySource::new(BEFORE_AN_OR.as_bytes().to_vec(alloc)?);
-    let mut sink = Failing::new(MemorySink::new(alloc), vec![in alloc; 3]?);
-    let mut shelf = MemoryShelf::new(alloc);
-    let status = policy_main(alloc, &words, &mut source, &mut sink, &mut shelf);
-    assert_eq!(rt; status, Status::WriteFault);
-    assert_eq!(rt;
-        sink.inner().written().ok_or("lost")?,
-        "path 1 \"a\" CommandCode,AuthValue,Or\npath 2 \"b\" CommandCode,Locality,Or\n".as_bytes()
+fn each_line_is_one_write(rt: HostRuntime) {
+    let failures = Failures {
+        sink: &[3],
+        ..NO_FAILURES
+    };
+    let want = "path 1 \"a\" CommandCode,AuthValue,Or\npath 2 \"b\" CommandCode,Locality,Or\n";
+    assert!(rt;
+        ends(
+            rt.alloc(),
+            &["paths"],
+            BEFORE_AN_OR,
+            &failures,
+            Status::WriteFault,
+            want
+        )
     );
-    Ok(())
+}
+
+// Whether `compile` answers so.
+fn answers(alloc: Global, input: &[u8], status: Status) -> bool {
+    match run(alloc, &["compile"], input, &NO_FAILURES) {
+        Ok((answered, _)) => answered == status,
+        Err(_) => false,
+    }
 }
 
 #[test]
 fn a_source_is_read_to_its_limit(rt: HostRuntime) -> Result<(), Fail> {
-    let alloc = rt.alloc();
-    let words = words_of(alloc, &["compile"])?;
     for (length, want) in [
         (16_777_216, Status::BadPolicy),
         (16_777_217, Status::TooLarge),
     ] {
-        let mut source = MemorySource::new(vec![in alloc; b' '; length]?);
-        let mut sink = MemorySink::new(alloc);
-        let mut shelf = MemoryShelf::new(alloc);
-        let status = policy_main(alloc, &words, &mut source, &mut sink, &mut shelf);
-        assert_eq!(rt; status, want);
+        let blanks = vec![in rt.alloc(); b' '; length]?;
+        assert!(rt; answers(rt.alloc(), blanks.as_slice(), want));
     }
     Ok(())
 }
