@@ -4,7 +4,6 @@
 
 use crate::{Asserting, Closing, End, Next, Plan, Planned, Ready, Stage};
 use std::alloc::{AllocError, Global};
-use std::test::*;
 use tpol_base::{Blob, Compare, Digest32, Digests, Name, NoMemory, Sequence, Text};
 use tpol_goal::{Goal, Grants, Secrets};
 use tpol_name::{DirEntry, Directory};
@@ -27,8 +26,8 @@ struct Failing {
     stage: Stage,
 }
 
-/// The run of `disk`.
-const DISK: [Step; 5] = [
+/// The commands and replies of the disk's run.
+const DISK_STEPS: [Step; 5] = [
     Step {
         command: b"\x80\x01\x00\x00\x00\x3b\x00\x00\x01\x76\x40\x00\x00\x07\x40\x00\x00\x07\x00\x20\
           \x01\xdb\x4b\xaa\x43\xff\xba\x54\x51\xe6\x42\x7b\x4b\x6a\x4e\x56\xeb\x70\x5b\x08\
@@ -69,8 +68,8 @@ const DISK: [Step; 5] = [
     },
 ];
 
-/// The run of `device`.
-const DEVICE: [Step; 10] = [
+/// The commands and replies of the device's run.
+const DEVICE_STEPS: [Step; 10] = [
     Step {
         command: b"\x80\x01\x00\x00\x00\x3b\x00\x00\x01\x76\x40\x00\x00\x07\x40\x00\x00\x07\x00\x20\
           \x18\x99\x9f\x7e\x07\xdd\x6b\xa2\x49\xea\xe3\x9d\x45\x4d\x2f\x46\x00\xf5\xa0\x7c\
@@ -277,10 +276,9 @@ const OWNER: Digest32 = Digest32 {
 };
 
 /// The nonce seed of run 1.
-const NONCE_SEED: Digest32 = Digest32 {
-    bytes: *b"\x3e\x09\x99\x91\xde\x67\x52\x16\x4a\xe4\x78\xd6\xa4\xe5\x11\x61\x56\xda\xb8\xba\
-      \xe5\x2e\x11\xa5\xc8\x2b\xf4\xc1\x80\xe1\x70\x01",
-};
+const NONCE_SEED: [u8; 32] =
+    *b"\x3e\x09\x99\x91\xde\x67\x52\x16\x4a\xe4\x78\xd6\xa4\xe5\x11\x61\x56\xda\xb8\xba\
+      \xe5\x2e\x11\xa5\xc8\x2b\xf4\xc1\x80\xe1\x70\x01";
 
 /// The digest of the PCRs 0, 2, 4 and 7 at zero.
 const ZERO_PCRS: Digest32 = Digest32 {
@@ -289,191 +287,259 @@ const ZERO_PCRS: Digest32 = Digest32 {
 };
 
 /// The digest in the Name of the disk key.
-const DISK_KEY: Digest32 = Digest32 {
-    bytes: *b"\x01\x17\x0c\x0c\xcc\xc3\x8e\xa2\xeb\x61\x29\xdc\x09\xe9\x7f\x4e\xe7\x13\x35\x1d\
-      \x16\x71\x81\xe9\x7c\x8c\x8b\x9f\x32\xc7\x39\x5e",
-};
+const DISK_KEY: [u8; 32] =
+    *b"\x01\x17\x0c\x0c\xcc\xc3\x8e\xa2\xeb\x61\x29\xdc\x09\xe9\x7f\x4e\xe7\x13\x35\x1d\
+      \x16\x71\x81\xe9\x7c\x8c\x8b\x9f\x32\xc7\x39\x5e";
 
-const KEY: Name = Name::Hash(Digest32 { bytes: [0x11; 32] });
+// The digests in other Names.
 
-const COUNTER: Name = Name::Hash(Digest32 { bytes: [0x22; 32] });
+const KEY: [u8; 32] = [0x11; 32];
 
-const APPROVALS: Name = Name::Hash(Digest32 { bytes: [0x33; 32] });
+const COUNTER: [u8; 32] = [0x22; 32];
+
+const APPROVALS: [u8; 32] = [0x33; 32];
 
 const APPROVED: Digest32 = Digest32 { bytes: [0x88; 32] };
 
-fn secrets(alloc: Global, values: &[(u32, &[u8])]) -> Result<Secrets, NoMemory> {
-    let mut secrets = Sequence::new(alloc);
-    for (handle, value) in values {
-        secrets.push((*handle, Blob::from_slice(alloc, value)?))?;
-    }
-    Ok(secrets)
+/// The move of a path.
+#[derive(Clone, Copy)]
+enum Act {
+    Pcrs,
+    AuthValue,
+    Branches,
+    Signed,
+    Secret,
+    Counter,
+    Approval,
+    ApprovalByIndex,
+    Timer,
+    Password,
 }
 
-fn directory(alloc: Global, lines: &[(u32, Name, u32)]) -> Result<Directory, NoMemory> {
-    let mut directory = Sequence::new(alloc);
-    for (handle, name, attributes) in lines {
-        directory.push(DirEntry {
-            path: Text::from_str(alloc, "/x")?,
-            handle: *handle,
-            name: *name,
-            attributes: *attributes,
-        })?;
-    }
-    Ok(directory)
+/// What a client uses its session for.
+#[derive(Clone, Copy)]
+enum Use {
+    Unseal { object: u32 },
+    NvRead { index: u32, size: u16, offset: u16 },
 }
 
-fn path(alloc: Global, moves: Moves) -> Path {
-    Path {
-        steps: Sequence::new(alloc),
-        moves,
-        outside: false,
-    }
-}
-
-fn disk_move(alloc: Global, place: u32) -> Result<Move, NoMemory> {
-    match place {
-        0 => Ok(Move::Assert(Assertion::Pcr {
-            mask: 0x95,
-            pcr_digest: ZERO_PCRS,
-            values: Digests::new(alloc),
-        })),
-        1 => Ok(Move::Assert(Assertion::AuthValue)),
-        _ => Ok(Move::Or(Digests::from_slice(alloc, &[BOOT, OWNER])?)),
-    }
-}
-
-fn disk_path(alloc: Global) -> Result<Path, NoMemory> {
-    let mut moves = Sequence::new(alloc);
-    for place in 0..3 {
-        moves.push(disk_move(alloc, place)?)?;
-    }
-    Ok(path(alloc, moves))
-}
-
-fn disk_grants(alloc: Global) -> Result<Grants, NoMemory> {
-    Ok(Grants {
-        secrets: secrets(alloc, &[(0x8000_0000, b"pin")])?,
-        keys: Sequence::new(alloc),
-    })
+/// What a run is to do, the steps by which it is served, and FlushContext of its session.
+struct Run {
+    path: &'static [Act],
+    goal: Use,
+    secrets: &'static [(u32, &'static [u8])],
+    keys: &'static [(u32, &'static [u8])],
+    directory: &'static [(u32, [u8; 32], u32)],
+    nonce_seed: [u8; 32],
+    steps: &'static [Step],
+    flush: &'static [u8],
 }
 
 /// The branch `boot` of the policy of a disk key: PCRs and the value of the key.
-fn disk(alloc: Global) -> Result<Plan, NoMemory> {
-    let path = disk_path(alloc)?;
-    let grants = disk_grants(alloc)?;
-    let directory = directory(alloc, &[(0x8000_0000, Name::Hash(DISK_KEY), 0x40)])?;
-    Ok(Plan {
-        path,
-        goal: Goal::Unseal {
-            object: 0x8000_0000,
-        },
-        grants,
-        directory,
-        nonce_seed: NONCE_SEED,
-    })
+const DISK: Run = Run {
+    path: &[Act::Pcrs, Act::AuthValue, Act::Branches],
+    goal: Use::Unseal {
+        object: 0x8000_0000,
+    },
+    secrets: &[(0x8000_0000, b"pin")],
+    keys: &[],
+    directory: &[(0x8000_0000, DISK_KEY, 0x40)],
+    nonce_seed: NONCE_SEED,
+    steps: &DISK_STEPS,
+    flush: DISK_FLUSH,
+};
+
+/// A path with each command that takes a handle, a value or a key, and a goal by password.
+const DEVICE: Run = Run {
+    path: &[
+        Act::Signed,
+        Act::Secret,
+        Act::Counter,
+        Act::Approval,
+        Act::ApprovalByIndex,
+        Act::Timer,
+        Act::Password,
+    ],
+    goal: Use::NvRead {
+        index: 0x01c0_7f01,
+        size: 4,
+        offset: 2,
+    },
+    secrets: &[(0x4000_0001, b"owner"), (0x01c0_7f01, b"idx")],
+    keys: &[(0x8000_0001, b"hmackey")],
+    directory: &[
+        (0x8000_0001, KEY, 0x4_0040),
+        (0x01c0_7f01, COUNTER, 0x2004_0004),
+        (0x0100_0002, APPROVALS, 0x2004_0004),
+    ],
+    nonce_seed: [0x66; 32],
+    steps: &DEVICE_STEPS,
+    flush: DEVICE_FLUSH,
+};
+
+fn name(digest: [u8; 32]) -> Name {
+    Name::Hash(Digest32 { bytes: digest })
 }
 
-fn signed(alloc: Global) -> Result<Assertion, NoMemory> {
-    Ok(Assertion::Signed {
-        key: KEY,
+fn signed(alloc: Global) -> Result<Move, NoMemory> {
+    Ok(Move::Assert(Assertion::Signed {
+        key: name(KEY),
         policy_ref: Blob::from_slice(alloc, b"ref")?,
         cp_hash: Some(Digest32 { bytes: [0x77; 32] }),
         expiration: -2,
-    })
+    }))
 }
 
-fn secret(alloc: Global) -> Assertion {
-    Assertion::Secret {
+fn secret(alloc: Global) -> Move {
+    Move::Assert(Assertion::Secret {
         entity: Name::Handle(0x4000_000b),
         policy_ref: Blob::new(alloc),
         cp_hash: None,
         expiration: 0,
-    }
+    })
 }
 
-fn counter(alloc: Global) -> Result<Assertion, NoMemory> {
-    Ok(Assertion::Nv {
-        index: COUNTER,
+fn counter(alloc: Global) -> Result<Move, NoMemory> {
+    Ok(Move::Assert(Assertion::Nv {
+        index: name(COUNTER),
         operand: Blob::from_slice(alloc, b"\x05\x06")?,
         offset: 1,
         operation: Compare::UnsignedLe,
-    })
+    }))
 }
 
 fn approval(alloc: Global) -> Result<Move, NoMemory> {
     Ok(Move::Approve {
-        key: KEY,
+        key: name(KEY),
         policy_ref: Blob::from_slice(alloc, b"app")?,
         approved: APPROVED,
         signature: Digest32 { bytes: [0x99; 32] },
     })
 }
 
-fn timer(alloc: Global) -> Result<Assertion, NoMemory> {
-    Ok(Assertion::CounterTimer {
+fn timer(alloc: Global) -> Result<Move, NoMemory> {
+    Ok(Move::Assert(Assertion::CounterTimer {
         operand: Blob::from_slice(alloc, b"\x07")?,
         offset: 8,
         operation: Compare::SignedGt,
+    }))
+}
+
+fn pcrs(alloc: Global) -> Move {
+    Move::Assert(Assertion::Pcr {
+        mask: 0x95,
+        pcr_digest: ZERO_PCRS,
+        values: Digests::new(alloc),
     })
 }
 
-fn device_move(alloc: Global, place: u32) -> Result<Move, NoMemory> {
-    match place {
-        0 => Ok(Move::Assert(signed(alloc)?)),
-        1 => Ok(Move::Assert(secret(alloc))),
-        2 => Ok(Move::Assert(counter(alloc)?)),
-        3 => approval(alloc),
-        4 => Ok(Move::ApproveNv {
-            index: APPROVALS,
+fn move_of(alloc: Global, act: Act) -> Result<Move, NoMemory> {
+    match act {
+        Act::Pcrs => Ok(pcrs(alloc)),
+        Act::AuthValue => Ok(Move::Assert(Assertion::AuthValue)),
+        Act::Branches => Ok(Move::Or(Digests::from_slice(alloc, &[BOOT, OWNER])?)),
+        Act::Signed => signed(alloc),
+        Act::Secret => Ok(secret(alloc)),
+        Act::Counter => counter(alloc),
+        Act::Approval => approval(alloc),
+        Act::ApprovalByIndex => Ok(Move::ApproveNv {
+            index: name(APPROVALS),
             approved: APPROVED,
         }),
-        5 => Ok(Move::Assert(timer(alloc)?)),
-        _ => Ok(Move::Assert(Assertion::Password)),
+        Act::Timer => timer(alloc),
+        Act::Password => Ok(Move::Assert(Assertion::Password)),
     }
 }
 
-fn device_path(alloc: Global) -> Result<Path, NoMemory> {
-    let mut moves = Sequence::new(alloc);
-    for place in 0..7 {
-        moves.push(device_move(alloc, place)?)?;
+fn push_moves(moves: &mut Moves, alloc: Global, path: &[Act]) -> Result<(), NoMemory> {
+    for act in path {
+        moves.push(move_of(alloc, *act)?)?;
     }
-    Ok(path(alloc, moves))
+    Ok(())
 }
 
-fn device_grants(alloc: Global) -> Result<Grants, NoMemory> {
-    let secrets_of_it = secrets(alloc, &[(0x4000_0001, b"owner"), (0x01c0_7f01, b"idx")])?;
-    let keys = secrets(alloc, &[(0x8000_0001, b"hmackey")])?;
-    Ok(Grants {
-        secrets: secrets_of_it,
-        keys,
+fn path(alloc: Global, acts: &[Act]) -> Result<Path, NoMemory> {
+    let mut moves = Moves::new(alloc);
+    push_moves(&mut moves, alloc, acts)?;
+    Ok(Path {
+        steps: Sequence::new(alloc),
+        moves,
+        outside: false,
     })
 }
 
-fn device_directory(alloc: Global) -> Result<Directory, NoMemory> {
-    let lines = [
-        (0x8000_0001, KEY, 0x4_0040),
-        (0x01c0_7f01, COUNTER, 0x2004_0004),
-        (0x0100_0002, APPROVALS, 0x2004_0004),
-    ];
-    directory(alloc, &lines)
+fn push_secrets(
+    secrets: &mut Secrets,
+    alloc: Global,
+    values: &[(u32, &[u8])],
+) -> Result<(), NoMemory> {
+    for (handle, value) in values {
+        secrets.push((*handle, Blob::from_slice(alloc, value)?))?;
+    }
+    Ok(())
 }
 
-/// A path with each command that takes a handle, a value or a key, and a goal by password.
-fn device(alloc: Global) -> Result<Plan, NoMemory> {
-    let path = device_path(alloc)?;
-    let grants = device_grants(alloc)?;
-    let directory = device_directory(alloc)?;
+fn secrets(alloc: Global, values: &[(u32, &[u8])]) -> Result<Secrets, NoMemory> {
+    let mut secrets = Secrets::new(alloc);
+    push_secrets(&mut secrets, alloc, values)?;
+    Ok(secrets)
+}
+
+fn grants(alloc: Global, run: &Run) -> Result<Grants, NoMemory> {
+    let keys = secrets(alloc, run.keys)?;
+    let secrets = secrets(alloc, run.secrets)?;
+    Ok(Grants { secrets, keys })
+}
+
+fn push_entries(
+    directory: &mut Directory,
+    alloc: Global,
+    lines: &[(u32, [u8; 32], u32)],
+) -> Result<(), NoMemory> {
+    for (handle, digest, attributes) in lines {
+        directory.push(DirEntry {
+            path: Text::from_str(alloc, "/x")?,
+            handle: *handle,
+            name: name(*digest),
+            attributes: *attributes,
+        })?;
+    }
+    Ok(())
+}
+
+fn directory(alloc: Global, lines: &[(u32, [u8; 32], u32)]) -> Result<Directory, NoMemory> {
+    let mut directory = Directory::new(alloc);
+    push_entries(&mut directory, alloc, lines)?;
+    Ok(directory)
+}
+
+fn goal(run: &Run) -> Goal {
+    match run.goal {
+        Use::Unseal { object } => Goal::Unseal { object },
+        Use::NvRead {
+            index,
+            size,
+            offset,
+        } => Goal::NvRead {
+            index,
+            size,
+            offset,
+        },
+    }
+}
+
+fn plan(alloc: Global, run: &Run) -> Result<Plan, NoMemory> {
+    let directory = directory(alloc, run.directory)?;
+    let grants = grants(alloc, run)?;
+    let path = path(alloc, run.path)?;
     Ok(Plan {
         path,
-        goal: Goal::NvRead {
-            index: 0x01c0_7f01,
-            size: 4,
-            offset: 2,
-        },
+        goal: goal(run),
         grants,
         directory,
-        nonce_seed: Digest32 { bytes: [0x66; 32] },
+        nonce_seed: Digest32 {
+            bytes: run.nonce_seed,
+        },
     })
 }
 
@@ -487,131 +553,153 @@ fn is_made(made: Result<Blob, NoMemory>, command: &[u8]) -> bool {
 
 // One command and its reply in each state: the state after them, nothing where the command is another one.
 
-fn at_start(alloc: Global, plan: Plan, command: &[u8], reply: &[u8]) -> Option<Next> {
+fn at_start(alloc: Global, plan: Plan, step: &Step) -> Option<Next> {
     if !plan.complete() || plan.path.moves.len() > 512 {
         return None;
     }
     let state = Planned::new(plan);
-    if is_made(state.next(alloc), command) {
-        state.take(alloc, reply).ok()
+    if is_made(state.next(alloc), step.command) {
+        state.take(alloc, step.reply).ok()
     } else {
         None
     }
 }
 
-fn on_path(alloc: Global, state: Asserting, command: &[u8], reply: &[u8]) -> Option<Next> {
-    if is_made(state.next(alloc), command) {
-        state.take(alloc, reply).ok()
+fn on_path(alloc: Global, state: Asserting, step: &Step) -> Option<Next> {
+    if is_made(state.next(alloc), step.command) {
+        state.take(alloc, step.reply).ok()
     } else {
         None
     }
 }
 
-fn at_goal(alloc: Global, state: Ready, command: &[u8], reply: &[u8]) -> Option<Next> {
-    if is_made(state.next(alloc), command) {
-        state.take(alloc, reply).ok()
+fn at_goal(alloc: Global, state: Ready, step: &Step) -> Option<Next> {
+    if is_made(state.next(alloc), step.command) {
+        state.take(alloc, step.reply).ok()
     } else {
         None
     }
 }
 
-fn at_end(alloc: Global, state: Closing, command: &[u8], reply: &[u8]) -> Option<Next> {
-    if is_made(state.next(alloc), command) {
-        state.take(alloc, reply).ok()
+fn at_end(alloc: Global, state: Closing, step: &Step) -> Option<Next> {
+    if is_made(state.next(alloc), step.command) {
+        state.take(alloc, step.reply).ok()
     } else {
         None
     }
 }
 
-fn turn(alloc: Global, state: Next, command: &[u8], reply: &[u8]) -> Option<Next> {
+fn turn(alloc: Global, state: Next, step: &Step) -> Option<Next> {
     match state {
-        Next::Asserting(state) => on_path(alloc, state, command, reply),
-        Next::Ready(state) => at_goal(alloc, state, command, reply),
-        Next::Closing(state) => at_end(alloc, state, command, reply),
+        Next::Asserting(state) => on_path(alloc, state, step),
+        Next::Ready(state) => at_goal(alloc, state, step),
+        Next::Closing(state) => at_end(alloc, state, step),
         Next::Over(_) => None,
     }
 }
 
-/// The end of a run by these steps.
-fn end_of(alloc: Global, plan: Plan, steps: &[Step]) -> Option<End> {
-    let Some((first, rest)) = steps.split_first() else {
-        return None;
-    };
-    let mut state = at_start(alloc, plan, first.command, first.reply)?;
+fn begun(alloc: Global, run: &Run, step: &Step) -> Option<Next> {
+    match plan(alloc, run) {
+        Ok(plan) => at_start(alloc, plan, step),
+        Err(_) => None,
+    }
+}
+
+/// The state of a run behind these steps.
+fn state_after(alloc: Global, run: &Run, steps: &[Step]) -> Option<Next> {
+    let (first, rest) = steps.split_first()?;
+    let mut state = begun(alloc, run, first)?;
     for step in rest {
-        state = turn(alloc, state, step.command, step.reply)?;
+        state = turn(alloc, state, step)?;
     }
-    match state {
-        Next::Over(over) => Some(over.end),
-        _ => None,
-    }
+    Some(state)
 }
 
 /// The steps up to the one that fails, that one with its reply, and the flush of the session, which no reply
 /// answers.
-fn failing_steps(
-    alloc: Global,
-    steps: &[Step],
-    failing: &Failing,
-    flush: &'static [u8],
-) -> Result<Vec<Step>, AllocError> {
-    let mut out = Vec::new(alloc);
-    for (place, step) in steps.iter().enumerate() {
+fn push_failing(steps: &mut Vec<Step>, run: &Run, failing: &Failing) -> Result<(), AllocError> {
+    for (place, step) in run.steps.iter().enumerate() {
         if place < failing.place {
-            out.push(*step)?;
+            steps.push(*step)?;
         } else if place == failing.place {
-            out.push(Step {
+            steps.push(Step {
                 command: step.command,
                 reply: failing.reply,
             })?;
         }
     }
     if failing.place > 0 {
-        out.push(Step {
-            command: flush,
+        steps.push(Step {
+            command: run.flush,
             reply: b"",
         })?;
     }
-    Ok(out)
-}
-
-/// Whether a run was served these bytes.
-fn served(end: &Option<End>, wanted: &[u8]) -> bool {
-    match end {
-        Some(End::Served(bytes)) => bytes.as_slice() == wanted,
-        _ => false,
-    }
-}
-
-/// Whether a run was denied by this code at this stage, or heard a bad reply there where the code is 0.
-fn failed(end: &Option<End>, code: u32, stage: Stage) -> bool {
-    match end {
-        Some(End::Denied { at, rc }) => rc.code == code && *at == stage,
-        Some(End::BadReply(at)) => code == 0 && *at == stage,
-        _ => false,
-    }
-}
-
-#[test]
-fn runs_that_are_served(rt: HostRuntime) -> Result<(), Fail> {
-    let end = end_of(rt.alloc(), disk(rt.alloc())?, &DISK);
-    assert!(rt; served(&end, b"key"));
-    let end = end_of(rt.alloc(), device(rt.alloc())?, &DEVICE);
-    assert!(rt; served(&end, b"data"));
     Ok(())
 }
 
+fn failing_steps(alloc: Global, run: &Run, failing: &Failing) -> Result<Vec<Step>, AllocError> {
+    let mut steps = Vec::new(alloc);
+    push_failing(&mut steps, run, failing)?;
+    Ok(steps)
+}
+
+/// Whether a run ended, and was served these bytes.
+fn served(state: &Option<Next>, wanted: &[u8]) -> bool {
+    match state {
+        Some(Next::Over(over)) => match &over.end {
+            End::Served(bytes) => bytes.as_slice() == wanted,
+            _ => false,
+        },
+        _ => false,
+    }
+}
+
+/// Whether a run ended, and was denied by this code at this stage, or heard a bad reply there where the code
+/// is 0.
+fn failed(state: &Option<Next>, code: u32, stage: Stage) -> bool {
+    match state {
+        Some(Next::Over(over)) => match &over.end {
+            End::Denied { at, rc } => rc.code == code && *at == stage,
+            End::BadReply(at) => code == 0 && *at == stage,
+            End::Served(_) => false,
+        },
+        _ => false,
+    }
+}
+
+// The tests name the tables above, and leave the states to these functions: a proof about both at once is long.
+
+fn serves(alloc: Global, run: &Run, wanted: &[u8]) -> bool {
+    served(&state_after(alloc, run, run.steps), wanted)
+}
+
+fn fails_by(alloc: Global, run: &Run, steps: &[Step], failing: &Failing) -> bool {
+    failed(&state_after(alloc, run, steps), failing.code, failing.stage)
+}
+
+fn fails(alloc: Global, run: &Run, failing: &Failing) -> bool {
+    match failing_steps(alloc, run, failing) {
+        Ok(steps) => fails_by(alloc, run, steps.as_slice(), failing),
+        Err(_) => false,
+    }
+}
+
 #[test]
-fn runs_that_fail(rt: HostRuntime) -> Result<(), Fail> {
+fn runs_that_are_served(rt: HostRuntime) {
+    assert!(rt; serves(rt.alloc(), &DISK, b"key"));
+    assert!(rt; serves(rt.alloc(), &DEVICE, b"data"));
+}
+
+#[test]
+fn runs_that_fail_at_the_disk(rt: HostRuntime) {
     for failing in &DISK_FAILURES {
-        let steps = failing_steps(rt.alloc(), &DISK, failing, DISK_FLUSH)?;
-        let end = end_of(rt.alloc(), disk(rt.alloc())?, steps.as_slice());
-        assert!(rt; failed(&end, failing.code, failing.stage));
+        assert!(rt; fails(rt.alloc(), &DISK, failing));
     }
+}
+
+#[test]
+fn runs_that_fail_at_the_device(rt: HostRuntime) {
     for failing in &DEVICE_FAILURES {
-        let steps = failing_steps(rt.alloc(), &DEVICE, failing, DEVICE_FLUSH)?;
-        let end = end_of(rt.alloc(), device(rt.alloc())?, steps.as_slice());
-        assert!(rt; failed(&end, failing.code, failing.stage));
+        assert!(rt; fails(rt.alloc(), &DEVICE, failing));
     }
-    Ok(())
 }
