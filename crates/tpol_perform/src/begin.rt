@@ -3,11 +3,12 @@
 ghost use Rattle.std.specs.Prelude.{◌≡◌, ◌+◌, ◌-◌, ◌≤◌, ◌<◌, [], None, Some, All, IfOk, IfSome, OnOk, drop, length, slice_get};
 ghost use Rattle.tpol_choose.specs.Blocks.{first_block};
 ghost use Rattle.tpol_digest.specs.Paths.{paths_of};
-ghost use Rattle.tpol_lines.specs.Runs.{nobranch_line};
+ghost use Rattle.tpol_lines.specs.Runs.{chosen_line, nobranch_line};
 ghost use Rattle.tpol_name.specs.Setups.{IsSight};
 ghost use Rattle.tpol_perform.specs.Begin.{begun_along, begun_nowhere, begun_on, plan_along, run_begun, run_seed, with_block, with_blocks, with_new_run};
 ghost use Rattle.tpol_perform.specs.Performance.{with_line};
 ghost use Rattle.tpol_prepare.specs.Scenario.{IsScenarioOf, IsWalkable};
+ghost use Rattle.tpol_runs.specs.Courses.{begun};
 
 use crate::new_run::NewRun;
 use crate::performance::Performance;
@@ -112,11 +113,32 @@ impl Performance {
         ensures past { OnOk result (self.new.past ≡ self.old.past) }
         ensures setup { OnOk result (self.new.setup ≡ self.old.setup) }
     {
-        let (number, client, locality) = (run.number, run.client, run.locality);
+        self.print_chosen(alloc, run.number, position, &path)?;
+        self.begin_plan(scenario, path, run)
+    }
+
+    fn print_chosen(
+        &mut self,
+        alloc: Global,
+        number: u16,
+        position: u32,
+        path: &Path,
+    ) -> Result<(), NoMemory>
+        ensures { OnOk result (self.new ≡ with_line (chosen_line number position path.now.steps) self.old) }
+    {
         let line = chosen_line(alloc, number, position, path.steps.as_slice())?;
-        let plan = plan_along(scenario, path, run)?;
-        self.runs.begin(number, client, locality, plan)?;
         self.print(alloc, line.as_str())
+    }
+
+    // One more run, along this path.
+    fn begin_plan(&mut self, scenario: &Scenario, path: Path, run: NewRun) -> Result<(), NoMemory>
+        requires moves { length path.moves ≤ 512 }
+        requires locality { run.locality ≤ 4 }
+        ensures { OnOk result (self.new ≡ with_new_run run.number (Some (begun run.client run.locality (plan_along scenario.now path run))) self.old) }
+    {
+        let (number, client, locality) = (run.number, run.client, run.locality);
+        let plan = plan_along(scenario, path, run)?;
+        self.runs.begin(number, client, locality, plan)
     }
 
     // The run begins on no path: a line for each path tells what stands in its way.
@@ -191,10 +213,27 @@ impl Performance {
         ensures past { OnOk result (self.new.past ≡ self.old.past) }
         ensures setup { OnOk result (self.new.setup ≡ self.old.setup) }
     {
-        let closed = &document.closed;
-        let path = path_at(alloc, closed, approvals, position)?;
+        let path = path_at(alloc, &document.closed, approvals, position)?;
+        self.print_block_of(alloc, sight, &path, run, position)
+    }
+
+    // The line of what stands in the way of this path, which is at this position.
+    fn print_block_of(
+        &mut self,
+        alloc: Global,
+        sight: &Sight,
+        path: &Path,
+        run: &NewRun,
+        position: u32,
+    ) -> Result<(), NoMemory>
+        requires sight { IsSight sight.now }
+        requires moves { length path.now.moves ≤ 512 }
+        ensures told { OnOk result (self.new ≡ with_block position path.now.steps (first_block path.now sight.now run.now.grants run.now.goal run.now.locality) self.old) }
+        ensures past { OnOk result (self.new.past ≡ self.old.past) }
+        ensures setup { OnOk result (self.new.setup ≡ self.old.setup) }
+    {
         let steps = path.steps.as_slice();
-        match can(&path, sight, &run.grants, &run.goal, run.locality) {
+        match can(path, sight, &run.grants, &run.goal, run.locality) {
             Ok(()) => Ok(()),
             Err(block) => {
                 let line = block_line(alloc, position, steps, &block)?;

@@ -66,7 +66,7 @@ impl Performance {
     }
 
     // The line of facts that opened an entity with this policy.
-    #[tactic(auto, using(crate::proofs::Chosen::opening_listed), unfolding(crate::specs::CommandsTold::policy_opened))]
+    #[tactic(auto, unfolding(crate::specs::CommandsTold::policy_opened))]
     fn print_policy_opening(
         &mut self,
         alloc: Global,
