@@ -1,5 +1,7 @@
 -- A scene whose policies are filled and can be walked is staged.
-use Rattle.std.proofs.Common.{◌≡◌, ℕ, Bool, List, [], All, map, refl, subst, sym, Ok}
+use Rattle.std.proofs.Common.{◌≡◌, ℕ, Bool, List, [], All, map, refl, subst, sym, Option, Some, None, Ok}
+use Rattle.std.specs.Prelude.{Result, IfSome}
+use Rattle.tpol_base.specs.declared.document.Document.{Document}
 use Rattle.tpol_digest.specs.Digest.{policy_digest}
 use Rattle.tpol_goal.specs.declared.grants.Grants.{Grants}
 use Rattle.tpol_name.specs.declared.setup.Setup.{Setup}
@@ -7,18 +9,23 @@ use Rattle.tpol_name.specs.Setups.{IsSetup}
 use Rattle.tpol_scene.specs.Conditions.{AreClients, AreEventsBehind, HasClients}
 use Rattle.tpol_scene.specs.declared.scene.Scene.{Scene}
 use Rattle.tpol_scene.specs.declared.script.ScriptEvent.{ScriptEvent}
-use Rattle.tpol_store.specs.Approvals.{HasApprovedBounds}
+use Rattle.tpol_store.specs.Approvals.{HasApprovedBounds, approved_documents}
 use Rattle.tpol_store.specs.Stores.{NamedPolicy}
 use Rattle.tpol_prepare.specs.declared.documents.FilledDocument.{FilledDocument}
 use Rattle.tpol_prepare.specs.declared.prepared.PreparedScene.{PreparedScene}
 use Rattle.tpol_prepare.specs.declared.scenario.StagedScene.{StagedScene}
+use Rattle.tpol_prepare.specs.declared.halt.Halt.{Halt}
+use Rattle.tpol_prepare.specs.declared.halt.Halt.TheVariants.{Refused, ReadFailed, ShelfFailed, NoMemory}
 use Rattle.tpol_prepare.specs.FilledDocuments.{IsReadyDocument}
-use Rattle.tpol_prepare.specs.Prepared.{prepared_step}
-use Rattle.tpol_prepare.specs.Scenario.{CanHappen, IsScenarioOf, scenario_with}
+use Rattle.tpol_prepare.specs.Prepared.{erased_prepared, prepared_step}
+use Rattle.tpol_prepare.specs.Scenario.{CanHappen, IsScenarioOf, erased_staged, limited_step, scenario_with, staged_by, staged_from, staged_with}
 use Rattle.tpol_prepare.specs.Staged.{IsScriptOf, IsStaged}
+use Rattle.tpol_prepare.specs.Steps.{Answers, Halts, Step, ◌>>=◌}
+use Rattle.tpol_prepare.specs.StoreStep.{store_step}
 use Rattle.tpol_prepare.proofs.EntitiesKept.{prepared_keeps}
 use Rattle.tpol_prepare.proofs.SetupsKept.{HasHandlesOf, handles_stay}
 use Rattle.tpol_prepare.proofs.Walkable.{all_can_happen}
+use Rattle.tpol_tree.specs.ClosedErased.{erased_document}
 use Rattle.tpol_tree.specs.declared.path.ApprovedDoc.{ApprovedDoc}
 
 -- ---- the script
@@ -42,6 +49,40 @@ script_over before setup clients script same is =
 pub script_kept : (store : List NamedPolicy) (scene : Scene) (result : PreparedScene) → prepared_step store scene ≡ Ok result → IsScriptOf scene.setup scene.clients scene.script
     → IsScriptOf result.setup scene.clients scene.script
 script_kept store scene result e is = script_over scene.setup result.setup scene.clients scene.script (handles_kept store scene result e) is
+
+-- ---- the steps to it
+
+-- a scene whose policies are filled and within the limits is staged, whichever memory they lie in
+pub staged_as : (explains : Bool) (store : List NamedPolicy) (scene : Scene) (prepared : PreparedScene) (approvals : List ApprovedDoc)
+    → prepared_step store scene ≡ Ok (erased_prepared prepared)
+    → limited_step (erased_prepared prepared) (approved_documents store (Some prepared.sight)) ≡ Ok tt
+    → map erased_document approvals ≡ approved_documents store (Some prepared.sight)
+    → staged_with explains scene store ≡ Ok (erased_staged (scenario_with explains scene prepared approvals))
+unfolding staged_with staged_by
+staged_as explains store scene prepared approvals fills within same = rw (fills, within, ← same) refl
+
+-- what ends a step ends all behind it
+halts_then : {A B : Type 0} (halt : Halt) (step : Step A) (next : A → Step B) → Halts halt step → Halts halt (step >>= next)
+halts_then (Refused answer) step next h = rw h refl
+halts_then ReadFailed step next h = tt
+halts_then ShelfFailed step next h = tt
+halts_then NoMemory step next h = tt
+
+-- and one whose policies are not within the limits is refused
+pub staged_halts : (explains : Bool) (store : List NamedPolicy) (scene : Scene) (prepared : PreparedScene) (halt : Halt)
+    → prepared_step store scene ≡ Ok (erased_prepared prepared)
+    → Halts halt (limited_step (erased_prepared prepared) (approved_documents store (Some prepared.sight)))
+    → Halts halt (staged_with explains scene store)
+unfolding staged_with staged_by
+staged_halts explains store scene prepared halt fills refused =
+    rw fills (halts_then halt (limited_step (erased_prepared prepared) (approved_documents store (Some prepared.sight))) _ refused)
+
+-- with the policies of the shelf, if its documents are known
+pub on_shelf : {A : Type 0} (explains : Bool) (scene : Scene) (view : A → StagedScene) (all : Option (List Document)) (store : List NamedPolicy) (result : Result A Halt)
+    → IfSome all (λ documents. store_step documents ≡ Ok store) → Answers view (staged_with explains scene store) result
+    → IfSome all (λ documents. Answers view (staged_from explains scene documents) result)
+on_shelf explains scene view None store result loads answers = tt
+on_shelf explains scene view (Some documents) store result loads answers = rw loads answers
 
 -- ---- all of it
 

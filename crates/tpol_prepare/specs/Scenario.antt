@@ -101,6 +101,10 @@ staged_with explains scene store =
     prepared_step store scene >>= λ prepared.
     staged_by explains scene prepared (approved_documents store (Some prepared.sight))
 
+-- the scene with the policies of the shelf
+abbrev pub staged_from : Bool → Scene → List Document → Step StagedScene
+staged_from explains scene all = store_step all >>= λ store. staged_with explains scene store
+
 -- the scene that the bytes are the document of, with the policies of the shelf
 unfoldable pub staged_step : Bool → List ℕ → List Document → Step StagedScene
 staged_step explains input all = do
@@ -154,3 +158,7 @@ erased_scenario scenario = record scenario {
 
 abbrev pub erased_staged : StagedScene → StagedScene
 erased_staged staged = record staged { scenario = erased_scenario staged.scenario }
+
+-- what is staged of a scene with its policies, filled, and what is approved, beside something else
+abbrev pub staged_of : {A : Type 0} → Bool → Scene → PreparedScene × (List ApprovedDoc × A) → StagedScene
+staged_of explains scene policies = erased_staged (scenario_with explains scene policies.0 policies.1.0)

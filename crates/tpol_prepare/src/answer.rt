@@ -6,7 +6,7 @@ use tpol_base::NoMemory;
 use tpol_lines::{Lines, push_line};
 
 /// The whole ends of a run: neither the outside nor memory failed.
-#[derive(Clone, Copy, Debug, PartialEq, Eq)]
+#[derive(Clone, Copy)]
 pub enum Verdict {
     Done,
     Usage,

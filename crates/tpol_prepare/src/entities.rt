@@ -52,7 +52,10 @@ pub fn compile_entities(
         entities: Sequence::new(alloc),
     };
     for policy in policies {
-        compile_entity(alloc, store, &mut compiled, policy)?;
+        if let Err(halt) = compile_entity(alloc, store, &mut compiled, policy) {
+            drop(compiled);
+            return Err(halt);
+        }
     }
     Ok(compiled)
 }
@@ -91,16 +94,20 @@ fn entity_policy(
 {
     let written = policy_at(alloc, store, &policy.name, &policy.place)?;
     let sight = sight_before(alloc, policy, setup)?;
-    fill_document(alloc, Some(&policy.name), written, Some(&sight))
+    let closed = fill_document(alloc, Some(&policy.name), written, Some(&sight));
+    drop(sight);
+    closed
 }
 
 // What a machine with the entities before this one shows when it starts.
 fn sight_before(alloc: Global, policy: &EntityPolicy, setup: &Setup) -> Result<Sight, NoMemory>
     ensures { IfOk result (λ sight. sight ≡ sight_before policy.now setup.now) }
 {
+    let objects = first_objects(alloc, setup.objects.as_slice(), policy.objects_before)?;
+    let indices = first_indices(alloc, setup.indices.as_slice(), policy.indices_before)?;
     let mut sight = opening_sight(alloc, setup)?;
-    sight.objects = first_objects(alloc, setup.objects.as_slice(), policy.objects_before)?;
-    sight.indices = first_indices(alloc, setup.indices.as_slice(), policy.indices_before)?;
+    sight.objects = objects;
+    sight.indices = indices;
     Ok(sight)
 }
 
@@ -180,10 +187,12 @@ fn object_with_policy(
 ) -> Result<ObjectEntry, NoMemory>
     ensures { IfOk result (λ entry. entry ≡ object_with_policy handle digest.now object.now) }
 {
-    let mut entry = object.exact_clone()?;
-    if entry.handle == handle {
-        entry.public.auth_policy = Blob::from_slice(alloc, &digest.bytes)?;
+    if object.handle != handle {
+        return Ok(object.exact_clone()?);
     }
+    let auth_policy = Blob::from_slice(alloc, &digest.bytes)?;
+    let mut entry = object.exact_clone()?;
+    entry.public.auth_policy = auth_policy;
     Ok(entry)
 }
 
@@ -211,9 +220,11 @@ fn index_with_policy(
 ) -> Result<IndexEntry, NoMemory>
     ensures { IfOk result (λ entry. entry ≡ index_with_policy handle digest.now index.now) }
 {
-    let mut entry = index.exact_clone()?;
-    if entry.public.index == handle {
-        entry.public.auth_policy = Blob::from_slice(alloc, &digest.bytes)?;
+    if index.public.index != handle {
+        return Ok(index.exact_clone()?);
     }
+    let auth_policy = Blob::from_slice(alloc, &digest.bytes)?;
+    let mut entry = index.exact_clone()?;
+    entry.public.auth_policy = auth_policy;
     Ok(entry)
 }

@@ -1,5 +1,5 @@
 ghost use Rattle.std.specs.Prelude.{◌≡◌, true, is_some, All, IfSome, IfOk, ⊤};
-ghost use Rattle.tpol_name.specs.Setups.{IsSetup, IsSight, first_sight};
+ghost use Rattle.tpol_name.specs.Setups.{IsSetup};
 ghost use Rattle.tpol_store.specs.Stores.{IsReadable, policies_of, stored};
 ghost use Rattle.tpol_prepare.specs.Entities.{IsReadyEntity, erased_compiled};
 ghost use Rattle.tpol_prepare.specs.FilledDocuments.{IsReadyDocument};
@@ -13,7 +13,7 @@ use crate::references::{Reference, check_entities, check_references, script_refe
 use crate::scene_step::scene_of_shelf;
 use crate::store_step::load_store;
 use std::alloc::Global;
-use tpol_base::{ExactClone, Sequence, Shelf, Text};
+use tpol_base::{ExactClone, NoMemory, Sequence, Shelf, Text};
 use tpol_name::{Setup, Sight, opening_sight};
 use tpol_scene::Scene;
 use tpol_store::Store;
@@ -37,8 +37,6 @@ pub fn prepare(alloc: Global, store: &Store, scene: &Scene) -> Result<PreparedSc
     ensures entities { All IsReadable (stored store.now) → IfOk result (λ prepared. All IsReadyEntity prepared.entities) }
     ensures begun { All IsReadable (stored store.now) → IfOk result (λ prepared. All IsReadyDocument prepared.begun) }
     ensures setup { IsSetup scene.now.setup → IfOk result (λ prepared. IsSetup prepared.setup) }
-    ensures sight { IfOk result (λ prepared. prepared.sight ≡ first_sight prepared.setup) }
-    ensures condition { IsSetup scene.now.setup → IfOk result (λ prepared. IsSight prepared.sight) }
 {
     let references = script_references(alloc, scene)?;
     check_entities(alloc, store, scene.policies.as_slice())?;
@@ -60,8 +58,6 @@ fn fill_scene(
     ensures entities { All IsReadable (stored store.now) → IfOk result (λ prepared. All IsReadyEntity prepared.entities) }
     ensures begun { All IsReadable (stored store.now) → IfOk result (λ prepared. All IsReadyDocument prepared.begun) }
     ensures setup { IsSetup scene.now.setup → IfOk result (λ prepared. IsSetup prepared.setup) }
-    ensures sight { IfOk result (λ prepared. prepared.sight ≡ first_sight prepared.setup) }
-    ensures condition { IsSetup scene.now.setup → IfOk result (λ prepared. IsSight prepared.sight) }
 {
     let setup = scene.setup.exact_clone()?;
     let compiled = compile_entities(alloc, store, setup, scene.policies.as_slice())?;
@@ -82,18 +78,30 @@ fn fill_begun(
     ensures entities { All IsReadyEntity compiled.entities → IfOk result (λ prepared. All IsReadyEntity prepared.entities) }
     ensures begun { All IsReadable (stored store.now) → IfOk result (λ prepared. All IsReadyDocument prepared.begun) }
     ensures setup { IfOk result (λ prepared. prepared.setup ≡ compiled.setup) }
-    ensures sight { IfOk result (λ prepared. prepared.sight ≡ first_sight prepared.setup) }
-    ensures condition { IsSetup compiled.setup → IfOk result (λ prepared. IsSight prepared.sight) }
 {
-    let sight = opening_sight(alloc, &compiled.setup)?;
-    let begun = fill_references(alloc, store, Some(&sight), references)?;
-    let CompiledSetup { setup, entities } = compiled;
-    Ok(PreparedScene {
-        setup,
-        sight,
-        entities,
-        begun,
-    })
+    let sight = match opening_sight(alloc, &compiled.setup) {
+        Ok(sight) => sight,
+        Err(NoMemory) => {
+            drop(compiled);
+            return Err(Halt::NoMemory);
+        }
+    };
+    match fill_references(alloc, store, Some(&sight), references) {
+        Ok(begun) => {
+            let CompiledSetup { setup, entities } = compiled;
+            Ok(PreparedScene {
+                setup,
+                sight,
+                entities,
+                begun,
+            })
+        }
+        Err(halt) => {
+            drop(sight);
+            drop(compiled);
+            Err(halt)
+        }
+    }
 }
 
 /// What the machine of a scene shows when it starts, if there is a scene.
@@ -110,7 +118,9 @@ pub fn opening_of(
         None => Ok(None),
         Some(scene) => {
             let prepared = prepare(alloc, store, scene)?;
-            Ok(Some(prepared.sight))
+            let PreparedScene { setup, sight, .. } = prepared;
+            drop(setup);
+            Ok(Some(sight))
         }
     }
 }
@@ -160,6 +170,16 @@ fn sight_of_name<H: Shelf>(alloc: Global, name: &Text, shelf: &mut H) -> Result<
     ensures asks { AsksShelf true ⊤ shelf.old shelf.new (H.faults shelf.old) (H.faults shelf.new) result }
 {
     let scene = scene_of_shelf(alloc, name, shelf)?;
-    let store = load_store(alloc, shelf)?;
-    opening_of(alloc, &store, &Some(scene))
+    match load_store(alloc, shelf) {
+        Ok(store) => {
+            let scene = Some(scene);
+            let sight = opening_of(alloc, &store, &scene);
+            drop(scene);
+            sight
+        }
+        Err(halt) => {
+            drop(scene);
+            Err(halt)
+        }
+    }
 }

@@ -80,12 +80,18 @@ fn at_place(alloc: Global, what: &str, kind: &str, place: &Place) -> Result<Text
     ensures { IfOk result (λ line. line ≡ at_place what.now kind.now place.now) }
 {
     let mut line = Text::from_str(alloc, "error ")?;
+    push_words(&mut line, what, kind)?;
+    line.push_str(place_text(alloc, place)?.as_str())?;
+    Ok(line)
+}
+
+fn push_words(line: &mut Text, what: &str, kind: &str) -> Result<(), NoMemory>
+    ensures { OnOk result (line.new ≡ line.old ++ (what.now ++ (codes " " ++ (kind.now ++ codes " at ")))) }
+{
     line.push_str(what)?;
     line.push_str(" ")?;
     line.push_str(kind)?;
-    line.push_str(" at ")?;
-    line.push_str(place_text(alloc, place)?.as_str())?;
-    Ok(line)
+    line.push_str(" at ")
 }
 
 /// The word that is printed for a filling fault.

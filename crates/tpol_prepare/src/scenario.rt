@@ -1,19 +1,20 @@
 //! Scenes that can be carried out.
 
 ghost use Rattle.std.specs.Option.{option_copied};
-ghost use Rattle.std.specs.Prelude.{◌≡◌, ◌≤◌, true, All, IfSome, IfOk, IsOk, find, length, map, reverse};
+ghost use Rattle.std.specs.Prelude.{◌≡◌, ◌≤◌, Bool, Some, true, All, IfSome, IfOk, IsOk, ⊤, find, length, map, reverse};
+ghost use Rattle.tpol_name.specs.Directories.{directory_of};
 ghost use Rattle.tpol_name.specs.Setups.{IsSetup};
 ghost use Rattle.tpol_scene.specs.Conditions.{HasClients, HasScript};
-ghost use Rattle.tpol_store.specs.Approvals.{HasApprovedBounds};
+ghost use Rattle.tpol_store.specs.Approvals.{HasApprovedBounds, approved_documents};
 ghost use Rattle.tpol_store.specs.Stores.{IsReadable, policies_of, stored};
 ghost use Rattle.tpol_digest.specs.WellFormed.{IsWellFormedDocument};
 ghost use Rattle.tpol_prepare.specs.Entities.{IsReadyEntity, erased_entity};
 ghost use Rattle.tpol_prepare.specs.FilledDocuments.{IsReadyDocument};
 ghost use Rattle.tpol_prepare.specs.Limits.{limits_step};
 ghost use Rattle.tpol_prepare.specs.Prepared.{erased_prepared};
-ghost use Rattle.tpol_prepare.specs.Scenario.{CanHappen, HavePolicies, IsScenarioOf, IsWalkable, entity_document, erased_staged, grants_of, is_client, is_document, is_entity, limited_step, policy_of_entity, scenario_with, staged_by, staged_step, staged_with};
+ghost use Rattle.tpol_prepare.specs.Scenario.{CanHappen, IsScenarioOf, IsWalkable, entity_document, erased_staged, grants_of, is_client, is_document, is_entity, limited_step, policy_of_entity, scenario_with, staged_from, staged_of, staged_step, staged_with};
 ghost use Rattle.tpol_prepare.specs.SceneStep.{scene_of_bytes};
-ghost use Rattle.tpol_prepare.specs.Staged.{IsScriptOf, IsStaged};
+ghost use Rattle.tpol_prepare.specs.Staged.{IsStaged};
 ghost use Rattle.tpol_prepare.specs.Steps.{Answers, AsksShelf, IsInside};
 ghost use Rattle.tpol_tree.specs.ClosedErased.{erased_document};
 
@@ -77,74 +78,125 @@ pub fn stage<H: Shelf>(
     ensures few { IfOk result (λ staged. length staged.script ≤ 4096) }
 {
     let scene = scene_of_bytes(alloc, input)?;
-    let store = load_store(alloc, shelf)?;
-    stage_with(alloc, explains, scene, &store)
+    stage_scene(alloc, explains, scene, shelf)
 }
 
-// The same of a scene, with the policies of a store.
-#[tactic(auto, unfolding(crate::specs::Scenario::staged_with))]
-fn stage_with(
+// The same of a scene, with the policies of the shelf.
+fn stage_scene<H: Shelf>(
     alloc: Global,
     explains: bool,
     scene: Scene,
-    store: &Store,
+    shelf: &mut H,
 ) -> Result<StagedScene, Halt>
-    requires readable { All IsReadable (stored store.now) }
     requires setup { IsSetup scene.setup }
     requires clients { HasClients scene }
     requires script { HasScript scene }
     requires few { length scene.script ≤ 4096 }
-    ensures answer { Answers erased_staged (staged_with explains scene (policies_of store.now)) result }
-    ensures inside { IsInside result }
+    ensures answer { IfSome (H.documents shelf.old) (λ all. Answers erased_staged (staged_from explains scene all) result) }
+    ensures keeps { H.documents shelf.new ≡ H.documents shelf.old }
+    ensures asks { AsksShelf true ⊤ shelf.old shelf.new (H.faults shelf.old) (H.faults shelf.new) result }
     ensures staged { IfOk result IsStaged }
     ensures few { IfOk result (λ staged. length staged.script ≤ 4096) }
 {
-    let prepared = prepare(alloc, store, &scene)?;
-    let approvals = store.approvals(alloc, Some(&prepared.sight))?;
-    stage_prepared(alloc, explains, scene, prepared, approvals)
+    match policies_on_shelf(alloc, &scene, shelf) {
+        Ok(policies) => Ok(staged(explains, scene, policies)),
+        Err(halt) => {
+            drop(scene);
+            Err(halt)
+        }
+    }
 }
 
-// The same of a scene whose policies are filled.
-#[tactic(auto, unfolding(crate::specs::Scenario::staged_by))]
-fn stage_prepared(
+// The policies of a scene, filled and within the limits, what is approved, and the directory of the machine.
+type ScenePolicies = (PreparedScene, (Approvals, Directory));
+
+// The policies of a scene, looked up on the shelf.
+fn policies_on_shelf<H: Shelf>(
     alloc: Global,
-    explains: bool,
-    scene: Scene,
-    prepared: PreparedScene,
-    approvals: Approvals,
-) -> Result<StagedScene, Halt>
-    requires setup { IsSetup prepared.setup }
-    requires entities { All IsReadyEntity prepared.entities }
-    requires begun { All IsReadyDocument prepared.begun }
-    requires policies { HavePolicies prepared.setup prepared.entities }
-    requires approvals { All IsWellFormedDocument approvals }
-    requires bounded { All HasApprovedBounds approvals }
-    requires clients { HasClients scene }
-    requires script { IsScriptOf prepared.setup scene.clients scene.script }
-    requires few { length scene.script ≤ 4096 }
-    ensures answer { Answers erased_staged
-        (staged_by explains scene (erased_prepared prepared) (map erased_document approvals)) result }
-    ensures inside { IsInside result }
-    ensures staged { IfOk result IsStaged }
-    ensures few { IfOk result (λ staged. length staged.script ≤ 4096) }
+    scene: &Scene,
+    shelf: &mut H,
+) -> Result<ScenePolicies, Halt>
+    requires setup { IsSetup scene.now.setup }
+    requires clients { HasClients scene.now }
+    requires script { HasScript scene.now }
+    ensures answer { (explains : Bool) → IfSome (H.documents shelf.old) (λ all.
+        Answers (staged_of explains scene.now) (staged_from explains scene.now all) result) }
+    ensures keeps { H.documents shelf.new ≡ H.documents shelf.old }
+    ensures asks { AsksShelf true ⊤ shelf.old shelf.new (H.faults shelf.old) (H.faults shelf.new) result }
+    ensures directory { IfOk result (λ found. found.1.1 ≡ directory_of found.0.setup) }
+    ensures staged { (explains : Bool) → IfOk result (λ found. IsStaged (scenario_with explains scene.now found.0 found.1.0)) }
 {
-    check_scene(alloc, &prepared, &approvals)?;
-    Ok(staged(alloc, explains, scene, prepared, approvals)?)
+    let store = load_store(alloc, shelf)?;
+    policies_of_scene(alloc, &store, scene)
 }
 
-// Ends the run at the first policy of a scene that has too many paths, or one that is too long.
+// The policies of a scene, looked up in a store.
+#[tactic(auto, unfolding(crate::specs::Scenario::staged_with, crate::specs::Scenario::staged_by))]
+fn policies_of_scene(alloc: Global, store: &Store, scene: &Scene) -> Result<ScenePolicies, Halt>
+    requires readable { All IsReadable (stored store.now) }
+    requires setup { IsSetup scene.now.setup }
+    requires clients { HasClients scene.now }
+    requires script { HasScript scene.now }
+    ensures answer { (explains : Bool) →
+        Answers (staged_of explains scene.now) (staged_with explains scene.now (policies_of store.now)) result }
+    ensures inside { IsInside result }
+    ensures directory { IfOk result (λ found. found.1.1 ≡ directory_of found.0.setup) }
+    ensures staged { (explains : Bool) → IfOk result (λ found. IsStaged (scenario_with explains scene.now found.0 found.1.0)) }
+{
+    let prepared = prepare(alloc, store, scene)?;
+    match approve_scene(alloc, store, &prepared) {
+        Ok(approved) => Ok((prepared, approved)),
+        Err(halt) => {
+            drop(prepared);
+            Err(halt)
+        }
+    }
+}
+
+// What is approved to the policies of a scene, all of which are within the limits, and the directory of the machine.
+fn approve_scene(
+    alloc: Global,
+    store: &Store,
+    prepared: &PreparedScene,
+) -> Result<(Approvals, Directory), Halt>
+    requires readable { All IsReadable (stored store.now) }
+    requires entities { All IsReadyEntity prepared.now.entities }
+    requires begun { All IsReadyDocument prepared.now.begun }
+    ensures answer { Answers (λ _. tt) (limited_step (erased_prepared prepared.now)
+        (approved_documents (policies_of store.now) (Some prepared.now.sight))) result }
+    ensures inside { IsInside result }
+    ensures approvals { IfOk result (λ found. map erased_document found.0
+        ≡ approved_documents (policies_of store.now) (Some prepared.now.sight)) }
+    ensures bounded { IfOk result (λ found. All HasApprovedBounds found.0) }
+    ensures directory { IfOk result (λ found. found.1 ≡ directory_of prepared.now.setup) }
+    ensures entities { IfOk result (λ found. All (λ entity. IsWalkable found.0 entity.document.closed) prepared.now.entities) }
+    ensures begun { IfOk result (λ found. All (λ document. IsWalkable found.0 document.closed) prepared.now.begun) }
+{
+    let approvals = store.approvals(alloc, Some(&prepared.sight))?;
+    let directory = check_scene(alloc, prepared, &approvals)?;
+    Ok((approvals, directory))
+}
+
+// The directory of a scene's machine, or the end of the run at the first policy of the scene that has too many
+// paths, or one that is too long.
 #[tactic(auto, using(crate::proofs::Walkable::all_walkable, crate::proofs::Walkable::documents_have_counts), unfolding(crate::specs::Scenario::limited_step))]
-fn check_scene(alloc: Global, prepared: &PreparedScene, approvals: &Approvals) -> Result<(), Halt>
+fn check_scene(
+    alloc: Global,
+    prepared: &PreparedScene,
+    approvals: &Approvals,
+) -> Result<Directory, Halt>
     requires entities { All IsReadyEntity prepared.now.entities }
     requires begun { All IsReadyDocument prepared.now.begun }
     requires approvals { All IsWellFormedDocument approvals.now }
     ensures answer { Answers (λ _. tt) (limited_step (erased_prepared prepared.now) (map erased_document approvals.now)) result }
     ensures inside { IsInside result }
+    ensures directory { IfOk result (λ directory. directory ≡ directory_of prepared.now.setup) }
     ensures entities { IfOk result (λ _. All (λ entity. IsWalkable approvals.now entity.document.closed) prepared.now.entities) }
     ensures begun { IfOk result (λ _. All (λ document. IsWalkable approvals.now document.closed) prepared.now.begun) }
 {
     check_entities(alloc, prepared.entities.as_slice(), approvals)?;
-    check_documents(alloc, prepared.begun.as_slice(), approvals)
+    check_documents(alloc, prepared.begun.as_slice(), approvals)?;
+    Ok(directory(alloc, &prepared.setup)?)
 }
 
 // The same of the policies of entities.
@@ -169,27 +221,25 @@ fn check_entities(
 }
 
 // The parts of a scene that can be carried out, put together.
-fn staged(
-    alloc: Global,
-    explains: bool,
-    scene: Scene,
-    prepared: PreparedScene,
-    approvals: Approvals,
-) -> Result<StagedScene, NoMemory>
-    ensures { IfOk result (λ staged. staged ≡ scenario_with explains scene prepared approvals) }
+fn staged(explains: bool, scene: Scene, policies: ScenePolicies) -> StagedScene
+    requires { policies.1.1 ≡ directory_of policies.0.setup }
+    ensures { result ≡ scenario_with explains scene policies.0 policies.1.0 }
 {
     let Scene {
+        setup: bare,
         clients,
         script,
         ..
     } = scene;
-    let directory = directory(alloc, &prepared.setup)?;
+    let (prepared, (approvals, directory)) = policies;
     let PreparedScene {
         setup,
+        sight,
         entities,
         begun,
-        ..
     } = prepared;
+    drop(bare);
+    drop(sight);
     let scenario = Scenario {
         explains,
         seed: setup.seed,
@@ -199,11 +249,11 @@ fn staged(
         approvals,
         clients,
     };
-    Ok(StagedScene {
+    StagedScene {
         setup,
         scenario,
         script,
-    })
+    }
 }
 
 impl Scenario {

@@ -1,7 +1,7 @@
 ghost use Rattle.std.specs.Prelude.{◌≡◌, ◌++◌, true, IfSome, IfOk, ⊤, codes};
 ghost use Rattle.tpol_base.specs.Documents.{most_handed_out};
 ghost use Rattle.tpol_name.specs.Setups.{IsSetup};
-ghost use Rattle.tpol_scene.specs.Conditions.{HasClients, HasLimits, HasPlaces, HasScript};
+ghost use Rattle.tpol_scene.specs.Conditions.{HasClients, HasLimits, HasScript};
 ghost use Rattle.tpol_prepare.specs.SceneStep.{scene_file, scene_of_bytes, scene_of_found, scene_step};
 ghost use Rattle.tpol_prepare.specs.Steps.{Answers, AsksShelf, IsInside};
 
@@ -18,11 +18,6 @@ pub fn scene_of_shelf<H: Shelf>(alloc: Global, name: &Text, shelf: &mut H) -> Re
     ensures answer { IfSome (H.documents shelf.old) (λ all. Answers (λ scene. scene) (scene_step name.now all) result) }
     ensures keeps { H.documents shelf.new ≡ H.documents shelf.old }
     ensures asks { AsksShelf true ⊤ shelf.old shelf.new (H.faults shelf.old) (H.faults shelf.new) result }
-    ensures setup { IfOk result (λ scene. IsSetup scene.setup) }
-    ensures places { IfOk result HasPlaces }
-    ensures limits { IfOk result HasLimits }
-    ensures clients { IfOk result HasClients }
-    ensures script { IfOk result HasScript }
 {
     let file = scene_file(alloc, name)?;
     let found = shelf.fetch(file.as_str())?;
@@ -41,11 +36,6 @@ fn scene_file(alloc: Global, name: &Text) -> Result<Text, NoMemory>
 fn scene_of_found(alloc: Global, name: &Text, found: Option<Blob>) -> Result<Scene, Halt>
     ensures answer { Answers (λ scene. scene) (scene_of_found name.now found) result }
     ensures inside { IsInside result }
-    ensures setup { IfOk result (λ scene. IsSetup scene.setup) }
-    ensures places { IfOk result HasPlaces }
-    ensures limits { IfOk result HasLimits }
-    ensures clients { IfOk result HasClients }
-    ensures script { IfOk result HasScript }
 {
     let Some(bytes) = found else {
         let line = "error BadScene NoSuchScene";
@@ -63,7 +53,6 @@ pub fn scene_of_bytes(alloc: Global, bytes: &[u8]) -> Result<Scene, Halt>
     ensures answer { Answers (λ scene. scene) (scene_of_bytes bytes.now) result }
     ensures inside { IsInside result }
     ensures setup { IfOk result (λ scene. IsSetup scene.setup) }
-    ensures places { IfOk result HasPlaces }
     ensures limits { IfOk result HasLimits }
     ensures clients { IfOk result HasClients }
     ensures script { IfOk result HasScript }
