@@ -32,6 +32,7 @@ ghost use Rattle.tpol_perform.specs.Performance.{PerformanceState};
 ghost use Rattle.tpol_perform.specs.Script.{performed, turn_told};
 ghost use Rattle.tpol_prepare.specs.declared.scenario.Scenario.{Scenario};
 ghost use Rattle.tpol_prepare.specs.declared.scenario.StagedScene.{StagedScene};
+ghost use Rattle.tpol_prepare.specs.Scenario.{erased_staged};
 ghost use Rattle.tpol_prepare.specs.Staged.{IsStaged};
 ghost use Rattle.tpol_runs.specs.Runs.{run_at};
 
@@ -115,7 +116,8 @@ pub fn session_digest_is_compiled()
 /// run begins on the first path of its policy that nothing blocks, whose line is printed, or on none: then what
 /// blocks each path is printed, in their order. Where only the run's own turns make events behind its begin, and
 /// they are enough, the report tells that the run is served exactly where it begins on a path; those to its end are
-/// enough. A run that begins on none is over, and its turns print that.
+/// enough. A run that begins on none is over, and its turns print that. The report of `policy_main` is made of the
+/// scene without the places in memory of its documents' parts, which is carried out with the same lines.
 pub fn runs_are_served_as_told()
     ensures begins_on { (staged : StagedScene) (run : RunOf staged.script) (position : ℕ)
         → IsStaged staged → chosen_for staged run ≡ Some position → BeginsOn staged run position }
@@ -134,4 +136,5 @@ pub fn runs_are_served_as_told()
         → IsStaged staged → BeginsNowhere staged run → run_at (behind_own staged run).runs run.number ≡ None }
     ensures tells_over { (scenario : Scenario) (number : ℕ) (times : Option ℕ) (p : PerformanceState)
         → run_at p.runs number ≡ None → turn_told scenario number times p ≡ with_over number times p }
+    ensures as_printed { (staged : StagedScene) → performed (erased_staged staged) ≡ performed staged }
 {}

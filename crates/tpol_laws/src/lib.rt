@@ -44,6 +44,8 @@
 //!
 //! `runs_are_served_as_told`, whose lines are those of `performed` of tpol_perform, which `perform` ensures
 //! - `IsStaged`: the clause `staged` of `stage`, which gives the scene that the commands `run` and `explain` carry out.
+//!   The clause `report` of `policy_main` speaks of it without the places in memory of its parts: `as_printed` says
+//!   that its lines are the same.
 //! - `IsAlone`: only the run's own turns make events behind its begin, up to where it is looked at.
 //! - `HasTurns`: these turns are enough for the path that the run begins on.
 //!

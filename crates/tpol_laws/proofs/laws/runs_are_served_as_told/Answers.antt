@@ -1,3 +1,4 @@
+use Rattle.tpol_perform.proofs.PerformanceErased.{performed_erased}
 use Rattle.tpol_laws.proofs.Begun.{begins-nowhere, begins-on}
 use Rattle.tpol_laws.proofs.Told.{over-turns, served-exactly, served-on, stays-over, to-end-enough}
 use Rattle.tpol_laws.proofs.laws.runs_are_served_as_told.Goals as goal
@@ -11,4 +12,5 @@ returns c = record {
   exactly = λ staged run is alone turns. served-exactly staged run is alone turns;
   stays_over = λ staged run is nowhere. stays-over staged run is nowhere;
   tells_over = over-turns;
+  as_printed = performed_erased;
 }
