@@ -4,28 +4,45 @@ use std::io::Write;
 use std::test::Fail;
 use std::{fs, io};
 
-fn blob_of(found: Option<Blob>) -> Option<Vec<u8>> {
-    found.map(|blob| blob.into_vec())
+/// Whether the shelf hands out these bytes under this name.
+fn holds<S: Shelf>(shelf: &mut S, name: &str, bytes: &[u8]) -> Result<bool, Fail> {
+    let found = shelf.fetch(name)?;
+    Ok(found.is_some_and(|blob| blob.as_slice() == bytes))
+}
+
+/// The length of what the shelf hands out under this name, and 0 where it has no such document.
+fn length_of<S: Shelf>(shelf: &mut S, name: &str) -> Result<usize, Fail> {
+    let found = shelf.fetch(name)?;
+    Ok(found.map_or(0, |blob| blob.len()))
+}
+
+/// Whether the shelf lists so many names.
+fn lists<S: Shelf>(shelf: &mut S, count: usize) -> Result<bool, Fail> {
+    let names = shelf.names()?;
+    Ok(names.len() == count)
+}
+
+/// Whether the second name that the shelf lists is this one.
+fn lists_second<S: Shelf>(shelf: &mut S, name: &str) -> Result<bool, Fail> {
+    let names = shelf.names()?;
+    Ok(names.get(1).is_some_and(|second| second.as_str() == name))
 }
 
 #[test]
 fn memory_gives_what_was_put(rt: HostRuntime) -> Result<(), Fail> {
-    let alloc = rt.alloc();
-    let mut shelf = MemoryShelf::new(alloc);
+    let mut shelf = MemoryShelf::new(rt.alloc());
     shelf.put("a.json", b"one")?;
     shelf.put("b.scene", b"two")?;
     shelf.put("a.json", b"three")?;
-    let found = blob_of(shelf.fetch("a.json")?).ok_or("a.json")?;
-    assert_eq!(rt; found.as_slice(), b"three".as_slice());
-    assert!(rt; shelf.fetch("c.json")?.is_none());
-    let names = shelf.names()?;
-    assert_eq!(rt; names.len(), 2);
-    assert_eq!(rt; names.get(1).ok_or("names")?.as_str(), "b.scene");
+    assert!(rt; holds(&mut shelf, "a.json", b"three")?);
+    assert_eq!(rt; length_of(&mut shelf, "c.json")?, 0);
+    assert!(rt; lists(&mut shelf, 2)?);
+    assert!(rt; lists_second(&mut shelf, "b.scene")?);
     Ok(())
 }
 
 #[test]
-fn calls_of_the_list_fail(rt: HostRuntime) -> Result<(), Fail> {
+fn a_source_fails_at_the_call_of_the_list(rt: HostRuntime) -> Result<(), Fail> {
     let alloc = rt.alloc();
     let mut source = Failing::new(MemorySource::new(b"abc".to_vec(alloc)?), vec![in alloc; 2]?);
     let mut piece = [0; 2];
@@ -33,20 +50,34 @@ fn calls_of_the_list_fail(rt: HostRuntime) -> Result<(), Fail> {
     assert_eq!(rt; source.read(&mut piece), Err(Failed));
     assert_eq!(rt; source.read(&mut piece), Ok(1));
     assert_eq!(rt; source.read(&mut piece), Ok(0));
+    Ok(())
+}
 
+#[test]
+fn a_sink_fails_at_the_call_of_the_list(rt: HostRuntime) -> Result<(), Fail> {
+    let alloc = rt.alloc();
     let mut sink = Failing::new(MemorySink::new(alloc), vec![in alloc; 2]?);
     assert_eq!(rt; sink.write(b"x"), Ok(()));
     assert_eq!(rt; sink.write(b"y"), Err(Failed));
     assert_eq!(rt; sink.write(b"z"), Ok(()));
-    assert_eq!(rt; sink.inner().written().ok_or("lost")?, b"xz".as_slice());
+    assert!(rt;
+        sink.inner()
+            .written()
+            .is_some_and(|bytes| bytes == b"xz".as_slice())
+    );
+    Ok(())
+}
 
+#[test]
+fn a_shelf_fails_at_the_calls_of_the_list(rt: HostRuntime) -> Result<(), Fail> {
+    let alloc = rt.alloc();
     let mut shelf = Failing::new(MemoryShelf::new(alloc), vec![in alloc; 1, 3, 5]?);
     assert_eq!(rt; shelf.put("a.json", b"one"), Err(Lapse::Failed));
-    assert!(rt; shelf.fetch("a.json")?.is_none());
+    assert_eq!(rt; length_of(&mut shelf, "a.json")?, 0);
     assert!(rt; shelf.fetch("a.json").is_err());
     shelf.put("a.json", b"one")?;
     assert!(rt; shelf.names().is_err());
-    assert_eq!(rt; shelf.names()?.len(), 1);
+    assert!(rt; lists(&mut shelf, 1)?);
     Ok(())
 }
 
@@ -99,41 +130,57 @@ fn a_line_is_written_in_pieces(rt: HostRuntime) -> Result<(), Fail> {
     Ok(())
 }
 
+/// A shelf over a folder of this name, which is not there yet.
+fn folder_of(rt: &HostRuntime, name: &str) -> Result<FolderShelf<HostRuntime>, Fail> {
+    let folder = String::from_str(rt.alloc(), name)?;
+    Ok(FolderShelf::new(rt.clone()?, folder))
+}
+
 #[test]
 fn a_folder_keeps_documents(rt: HostRuntime) -> Result<(), Fail> {
-    let alloc = rt.alloc();
-    let folder = String::from_str(alloc, "policies")?;
-    let mut shelf = FolderShelf::new(rt.clone()?, folder);
-    assert_eq!(rt; shelf.names()?.len(), 0);
-    assert!(rt; shelf.fetch("a.json")?.is_none());
+    let mut shelf = folder_of(&rt, "policies")?;
+    assert!(rt; lists(&mut shelf, 0)?);
+    assert_eq!(rt; length_of(&mut shelf, "a.json")?, 0);
     shelf.put("a.json", b"first, and longer")?;
     shelf.put("a.json", b"second")?;
-    fs::write(&rt, "policies/notes.txt", "not listed")?;
-    fs::write(&rt, "policies/.json", "not listed")?;
-    let found = blob_of(shelf.fetch("a.json")?).ok_or("a.json")?;
-    assert_eq!(rt; found.as_slice(), b"second".as_slice());
-    assert_eq!(rt; shelf.names()?.len(), 1);
-    shelf.put("a.scene", b"{}")?;
-    assert_eq!(rt; shelf.names()?.len(), 2);
-    // A folder in the place of a document is a fault, and is not listed.
-    fs::create_dir(&rt, "policies/b.json")?;
-    assert!(rt; shelf.fetch("b.json").is_err());
-    assert_eq!(rt; shelf.names()?.len(), 2);
+    assert!(rt; holds(&mut shelf, "a.json", b"second")?);
     Ok(())
 }
 
 #[test]
-fn a_shelf_hands_out_one_byte_more_than_a_document_may_have(rt: HostRuntime) -> Result<(), Fail> {
-    let alloc = rt.alloc();
-    let long = vec![in alloc; 0u8; 1_048_578]?;
-    let mut shelf = MemoryShelf::new(alloc);
+fn a_folder_lists_documents_alone(rt: HostRuntime) -> Result<(), Fail> {
+    let mut shelf = folder_of(&rt, "listed")?;
+    shelf.put("a.json", b"first")?;
+    fs::write(&rt, "listed/notes.txt", "not listed")?;
+    fs::write(&rt, "listed/.json", "not listed")?;
+    assert!(rt; lists(&mut shelf, 1)?);
+    shelf.put("a.scene", b"{}")?;
+    assert!(rt; lists(&mut shelf, 2)?);
+    // A folder in the place of a document is a fault, and is not listed.
+    fs::create_dir(&rt, "listed/b.json")?;
+    assert!(rt; shelf.fetch("b.json").is_err());
+    assert!(rt; lists(&mut shelf, 2)?);
+    Ok(())
+}
+
+/// Puts a document of two bytes more than one may have, and tells how many of them are handed out.
+fn handed_out<S: Shelf>(rt: &HostRuntime, shelf: &mut S) -> Result<usize, Fail> {
+    let long = vec![in rt.alloc(); 0u8; 1_048_578]?;
     shelf.put("long.json", long.as_slice())?;
-    let found = blob_of(shelf.fetch("long.json")?).ok_or("long.json")?;
-    assert_eq!(rt; found.len(), 1_048_577);
-    let mut shelf = FolderShelf::new(rt.clone()?, String::from_str(alloc, "long")?);
-    shelf.put("long.json", long.as_slice())?;
-    let found = blob_of(shelf.fetch("long.json")?).ok_or("long.json")?;
-    assert_eq!(rt; found.len(), 1_048_577);
+    length_of(shelf, "long.json")
+}
+
+#[test]
+fn memory_hands_out_one_byte_more_than_a_document_may_have(rt: HostRuntime) -> Result<(), Fail> {
+    let mut shelf = MemoryShelf::new(rt.alloc());
+    assert_eq!(rt; handed_out(&rt, &mut shelf)?, 1_048_577);
+    Ok(())
+}
+
+#[test]
+fn a_folder_hands_out_one_byte_more_than_a_document_may_have(rt: HostRuntime) -> Result<(), Fail> {
+    let mut shelf = folder_of(&rt, "long")?;
+    assert_eq!(rt; handed_out(&rt, &mut shelf)?, 1_048_577);
     Ok(())
 }
 
