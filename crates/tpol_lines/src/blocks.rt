@@ -12,7 +12,8 @@ use tpol_base::{NoMemory, Text};
 use tpol_choose::{Block, Why};
 use tpol_tree::PathStep;
 
-/// The line of the path at a position, from 1, with its choices, and the first thing that stands in its way.
+/// The line of the path at a position, from 1, with its choices, and the first thing that stands in its way. It
+/// fails only where memory ran out.
 pub fn block_line(
     alloc: Global,
     position: u32,

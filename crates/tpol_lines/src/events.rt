@@ -13,7 +13,7 @@ use tpol_base::{Check, NoMemory, Text};
 const ROOM_BESIDE_REPLY: usize = 96;
 
 /// The line of a command: the number of its event, the client that sent it and from which locality, the
-/// codes of the command and of the reply, what became of it, and the reply.
+/// codes of the command and of the reply, what became of it, and the reply. It fails only where memory ran out.
 ///
 /// A code has eight hexadecimal digits, those of bytes 7 to 10 of the command or of the reply, whatever they
 /// say; where there are fewer than 10 bytes, dashes stand in its place.
@@ -104,14 +104,14 @@ pub(crate) fn check_word(check: &Check) -> &'static str
     }
 }
 
-/// The line of time that passed, in milliseconds.
+/// The line of time that passed, in milliseconds. It fails only where memory ran out.
 pub fn time_line(alloc: Global, event: u32, milliseconds: u32) -> Result<Text, NoMemory>
     ensures { IfOk result (λ line. line ≡ time_line event milliseconds) }
 {
     Ok(Text::from_string(format!(in alloc; "{event} time {milliseconds}")?))
 }
 
-/// The line of physical presence that was asserted (`on`) or taken back.
+/// The line of physical presence that was asserted (`on`) or taken back. It fails only where memory ran out.
 pub fn presence_line(alloc: Global, event: u32, on: bool) -> Result<Text, NoMemory>
     ensures { IfOk result (λ line. line ≡ presence_line event on) }
 {
@@ -125,7 +125,7 @@ fn switch_word(on: bool) -> &'static str
     if on { "on" } else { "off" }
 }
 
-/// The line of a TPM Reset.
+/// The line of a TPM Reset. It fails only where memory ran out.
 pub fn reset_line(alloc: Global, event: u32) -> Result<Text, NoMemory>
     ensures { IfOk result (λ line. line ≡ reset_line event) }
 {

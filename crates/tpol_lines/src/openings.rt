@@ -15,7 +15,7 @@ use tpol_tree::{Approvals, Closed, PathStep};
 
 /// The line of the opening behind an event: by which path, with its choices, a session's facts led to the
 /// policy's digest, and the events of the facts; or the two strings of one digest, or the string whose digest
-/// is zero, in hexadecimal.
+/// is zero, in hexadecimal. It fails only where memory ran out.
 pub fn opening_line(
     alloc: Global,
     event: u32,

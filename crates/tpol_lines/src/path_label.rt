@@ -6,7 +6,7 @@ use tpol_base::{NoMemory, Text};
 use tpol_json::quoted;
 use tpol_tree::PathStep;
 
-/// The choices of a path, with `/` between, or `-` where there is none.
+/// The choices of a path, with `/` between, or `-` where there is none. It fails only where memory ran out.
 pub fn label(alloc: Global, steps: &[PathStep]) -> Result<Text, NoMemory>
     ensures { IfOk result (λ text. text ≡ label steps.now) }
 {

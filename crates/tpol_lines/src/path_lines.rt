@@ -34,7 +34,7 @@ enum Ahead<'a> {
 }
 
 /// A line for each path of a policy, in the order of the paths: its position from 1, its choices, and the
-/// kinds of its policy commands.
+/// kinds of its policy commands. It fails only where memory ran out.
 pub fn write_paths(alloc: Global, policy: &Closed, approvals: &Approvals) -> Result<Lines, NoMemory>
     ensures { IfOk result (λ lines. lines ≡ path_lines 1 (paths_of policy.now approvals.now)) }
 {

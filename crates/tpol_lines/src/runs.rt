@@ -11,7 +11,8 @@ use tpol_base::{NoMemory, Text};
 use tpol_driver::{End, Stage};
 use tpol_tree::PathStep;
 
-/// The line of a run that begins on the path at a position, from 1, with the path's choices.
+/// The line of a run that begins on the path at a position, from 1, with the path's choices. It fails only where
+/// memory ran out.
 pub fn chosen_line(
     alloc: Global,
     run: u16,
@@ -25,7 +26,7 @@ pub fn chosen_line(
     Ok(Text::from_string(format!(in alloc; "run {run} path {position} {label}")?))
 }
 
-/// The line of a run that has no path to go.
+/// The line of a run that has no path to go. It fails only where memory ran out.
 pub fn nobranch_line(alloc: Global, run: u16) -> Result<Text, NoMemory>
     ensures { IfOk result (λ line. line ≡ nobranch_line run) }
 {
@@ -33,7 +34,7 @@ pub fn nobranch_line(alloc: Global, run: u16) -> Result<Text, NoMemory>
 }
 
 /// The line of a run's end: the bytes that the goal gave (`-` for none), or at which command it failed, with
-/// the code of a refusal.
+/// the code of a refusal. It fails only where memory ran out.
 pub fn end_line(alloc: Global, run: u16, end: &End) -> Result<Text, NoMemory>
     ensures { IfOk result (λ line. line ≡ end_line run end.now) }
 {
@@ -72,7 +73,7 @@ fn stage_text(alloc: Global, stage: &Stage) -> Result<String, NoMemory>
     }
 }
 
-/// The line of a turn of a run that was over.
+/// The line of a turn of a run that was over. It fails only where memory ran out.
 pub fn over_line(alloc: Global, run: u16) -> Result<Text, NoMemory>
     ensures { IfOk result (λ line. line ≡ over_line run) }
 {
