@@ -18,8 +18,9 @@ IsScriptOf setup clients script =
     (map (λ client. client.0) clients) [] script
 
 -- A scene that can be carried out: its machine starts from the setup of a scene, the scenario is one of this setup
--- and has its directory, the policies and approvals are within the bounds of the wire, each client has grants
--- whose values fit into commands, and the script begins each run once, for a goal on the scene's entities.
+-- and has its directory, the policies that its script begins and the approvals are within the bounds of the wire,
+-- each client has grants whose values fit into commands, and the script begins each run once, for a goal on the
+-- scene's entities.
 pub record IsStaged (staged : StagedScene) : Type 0 where
   pub setup : IsSetup staged.setup
   pub scenario : IsScenarioOf staged.setup staged.scenario

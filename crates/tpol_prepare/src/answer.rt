@@ -24,7 +24,7 @@ pub struct Answer {
 }
 
 impl Answer {
-    /// The answer of one line, whose line end is added here.
+    /// The answer of one line, whose line end is added here. It fails only where memory ran out.
     pub fn of_line(alloc: Global, line: &str, verdict: Verdict) -> Result<Answer, NoMemory>
         ensures { IfOk result (λ answer. answer
             ≡ record { lines = line_of line.now ∷ []; verdict = verdict }) }

@@ -21,6 +21,9 @@ pub struct FilledDocument {
 }
 
 /// Fills the documents that are named, each once, in the order of their first references.
+///
+/// `Refused` tells what is wrong with the first one that is not filled: the store does not have it, or a place in
+/// it has no value. `NoMemory` comes where memory ran out, and nothing else comes.
 #[tactic(auto, unfolding(crate::specs::FilledDocuments::documents_from))]
 pub fn fill_references(
     alloc: Global,

@@ -34,6 +34,9 @@ pub struct CompiledSetup {
 }
 
 /// Compiles the policies of entities in order, each with what the entities before it show.
+///
+/// `Refused` tells what is wrong with the first one that is not filled: the store does not have it, or a place in
+/// it has no value. `NoMemory` comes where memory ran out, and nothing else comes.
 #[tactic(auto, unfolding(crate::specs::Entities::entities_from))]
 pub fn compile_entities(
     alloc: Global,

@@ -3,9 +3,11 @@
 //!
 //! Each step gives a value, or ends the command by a `Halt`: with an answer that tells the refusal, or because the
 //! shelf failed or memory ran out. The layers above take `read_document` for the document in the source,
-//! `sight_of_scene` for what the machine of a scene shows, `load_store`, `fill_document` and `check_limits`, and
-//! `stage`, which goes through all of them: it gives a scene that can be carried out. What a step gives is a
-//! definition in `specs/`, a `Step`; a refusal is the first fault in the order of these definitions.
+//! `sight_of_scene` for what the machine of a scene shows, `named_scene` and `opening_of` for the same where they
+//! want the store besides, `load_store`, `fill_document` and `check_limits`, and `stage`, which reads the scene in
+//! the source and goes through these three for the policies that it names: it gives a scene that can be carried
+//! out. What a step gives is a definition in `specs/`, a `Step`; a refusal is the first fault in the order of
+//! these definitions.
 #![tactic(auto)]
 
 mod answer;

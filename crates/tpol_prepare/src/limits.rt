@@ -45,6 +45,9 @@ pub fn check_limits(
 }
 
 /// Ends the run at the first of these documents that has too many paths, or one that is too long.
+///
+/// `Refused` tells its name and which of the two it is, the number first; `NoMemory` comes where memory for that
+/// line ran out, and nothing else comes.
 #[tactic(auto, unfolding(crate::specs::Limits::limits_step))]
 pub fn check_documents(
     alloc: Global,

@@ -30,6 +30,9 @@ pub struct PreparedScene {
 
 /// Looks up all policies that a scene names, and fills them: those of its entities, and then those that its
 /// script begins.
+///
+/// `Refused` tells the first name that no policy of the store has, or else the first place of these policies that
+/// has no value; `NoMemory` comes where memory ran out, and nothing else comes.
 #[tactic(auto, unfolding(crate::specs::Prepared::prepared_step))]
 pub fn prepare(alloc: Global, store: &Store, scene: &Scene) -> Result<PreparedScene, Halt>
     ensures answer { Answers erased_prepared (prepared_step (policies_of store.now) scene.now) result }
@@ -105,6 +108,9 @@ fn fill_begun(
 }
 
 /// What the machine of a scene shows when it starts, if there is a scene.
+///
+/// `Refused` tells the first name in the scene that no policy of the store has, or else the first place without a
+/// value in the policies that it names; `NoMemory` comes where memory ran out, and nothing else comes.
 #[tactic(auto, unfolding(crate::specs::Prepared::opening_step))]
 pub fn opening_of(
     alloc: Global,
@@ -126,6 +132,10 @@ pub fn opening_of(
 }
 
 /// The scene of this name on the shelf, if one is named.
+///
+/// `Refused` tells that the shelf has no such scene, that it has more than 1,048,576 bytes or is no JSON text, or
+/// its first fault. `ShelfFailed` comes only where the shelf failed, and `NoMemory` where memory ran out. Where no
+/// scene is named, the shelf is left alone.
 #[tactic(auto, unfolding(crate::specs::Prepared::named_scene_step))]
 pub fn named_scene<H: Shelf>(
     alloc: Global,
@@ -147,6 +157,10 @@ pub fn named_scene<H: Shelf>(
 
 /// What the machine of a scene of the shelf shows when it starts, if one is named; the policies that the scene
 /// names are documents of the shelf.
+///
+/// `Refused` tells the first refusal: of the scene, of the shelf's documents, of a name without a policy, or of a
+/// policy that is not filled. `ShelfFailed` comes only where the shelf failed, and `NoMemory` where memory ran
+/// out. Where no scene is named, the shelf is left alone.
 #[tactic(auto, unfolding(crate::specs::Prepared::sight_step))]
 pub fn sight_of_scene<H: Shelf>(
     alloc: Global,

@@ -23,7 +23,7 @@ pub struct Reference {
     pub place: Place,
 }
 
-/// The policies that the script of a scene begins, in order.
+/// The policies that the script of a scene begins, in order. It fails only where memory ran out.
 pub fn script_references(alloc: Global, scene: &Scene) -> Result<Sequence<Reference>, NoMemory>
     ensures { IfOk result (λ references. references ≡ script_references scene.now) }
 {
@@ -59,6 +59,9 @@ fn add_reference(
 }
 
 /// Ends the run at the first entity that names a policy which the store has not.
+///
+/// `Refused` tells where that name stands; `NoMemory` comes where memory for that line ran out, and nothing else
+/// comes.
 #[tactic(auto, unfolding(crate::specs::References::references_step))]
 pub fn check_entities(alloc: Global, store: &Store, policies: &[EntityPolicy]) -> Result<(), Halt>
     ensures answer { Answers (λ _. tt) (references_step (policies_of store.now) (map entity_reference policies.now)) result }
@@ -71,6 +74,8 @@ pub fn check_entities(alloc: Global, store: &Store, policies: &[EntityPolicy]) -
 }
 
 /// Ends the run at the first reference to a policy which the store has not.
+///
+/// `Refused` tells where it stands; `NoMemory` comes where memory for that line ran out, and nothing else comes.
 #[tactic(auto, unfolding(crate::specs::References::references_step))]
 pub fn check_references(alloc: Global, store: &Store, references: &[Reference]) -> Result<(), Halt>
     ensures answer { Answers (λ _. tt) (references_step (policies_of store.now) references.now) result }
@@ -83,6 +88,8 @@ pub fn check_references(alloc: Global, store: &Store, references: &[Reference]) 
 }
 
 /// The policy of this name, which a scene names at this place, or the end of the run where the store has none.
+///
+/// `Refused` tells this place; `NoMemory` comes where memory for that line ran out, and nothing else comes.
 #[tactic(auto, unfolding(crate::specs::References::policy_at), using(crate::proofs::Stored::policy_called_erased))]
 pub fn policy_at<'a>(
     alloc: Global,

@@ -10,7 +10,8 @@ use tpol_json::{Place, place_text};
 use tpol_read::PolicyKind;
 use tpol_scene::SceneKind;
 
-/// The answer of a policy document that is refused: of the shelf where one is named, else the source's.
+/// The answer of a policy document that is refused: of the shelf where one is named, else the source's. It fails
+/// only where memory ran out.
 pub fn bad_policy(
     alloc: Global,
     kind: &str,
@@ -25,7 +26,7 @@ pub fn bad_policy(
     Answer::of_line(alloc, line.as_str(), Verdict::BadPolicy)
 }
 
-/// The answer of a policy document that is no JSON text.
+/// The answer of a policy document that is no JSON text. It fails only where memory ran out.
 pub fn policy_not_json(alloc: Global, document: Option<&Text>) -> Result<Answer, NoMemory>
     ensures { IfOk result (λ answer. answer ≡ policy_not_json (option_copied document.entry)) }
 {
@@ -34,7 +35,7 @@ pub fn policy_not_json(alloc: Global, document: Option<&Text>) -> Result<Answer,
     Answer::of_line(alloc, line.as_str(), Verdict::BadPolicy)
 }
 
-/// The answer of a policy whose paths are not walked.
+/// The answer of a policy whose paths are not walked. It fails only where memory ran out.
 pub fn path_limit(alloc: Global, kind: &str, document: Option<&Text>) -> Result<Answer, NoMemory>
     ensures { IfOk result (λ answer. answer ≡ path_limit kind.now (option_copied document.entry)) }
 {
@@ -45,7 +46,7 @@ pub fn path_limit(alloc: Global, kind: &str, document: Option<&Text>) -> Result<
     Answer::of_line(alloc, line.as_str(), Verdict::PathLimit)
 }
 
-/// The answer of a document of the shelf that is too large.
+/// The answer of a document of the shelf that is too large. It fails only where memory ran out.
 pub fn too_large_in(alloc: Global, name: &Text) -> Result<Answer, NoMemory>
     ensures { IfOk result (λ answer. answer ≡ too_large_in name.now) }
 {
@@ -67,7 +68,7 @@ fn push_document(text: &mut Text, document: Option<&Text>) -> Result<(), NoMemor
     }
 }
 
-/// The answer of a scene that is refused.
+/// The answer of a scene that is refused. It fails only where memory ran out.
 pub fn bad_scene(alloc: Global, kind: &str, place: &Place) -> Result<Answer, NoMemory>
     ensures { IfOk result (λ answer. answer ≡ bad_scene kind.now place.now) }
 {

@@ -13,6 +13,9 @@ use tpol_base::{Blob, NoMemory, Shelf, Text, most_handed_out};
 use tpol_scene::{Scene, SceneFault, read_scene};
 
 /// Reads the scene of this name on the shelf, or ends the run at its first fault.
+///
+/// `Refused` tells that the shelf has no such scene, that it has more than 1,048,576 bytes or is no JSON text, or
+/// that fault; `ShelfFailed` comes only where the shelf failed, and `NoMemory` where memory ran out.
 #[tactic(auto, unfolding(crate::specs::SceneStep::scene_step))]
 pub fn scene_of_shelf<H: Shelf>(alloc: Global, name: &Text, shelf: &mut H) -> Result<Scene, Halt>
     ensures answer { IfSome (H.documents shelf.old) (λ all. Answers (λ scene. scene) (scene_step name.now all) result) }
@@ -48,6 +51,9 @@ fn scene_of_found(alloc: Global, name: &Text, found: Option<Blob>) -> Result<Sce
 }
 
 /// Reads a scene, or ends the run at its first fault.
+///
+/// `Refused` tells that the bytes are no JSON text, or that fault; `NoMemory` comes where memory ran out, and
+/// nothing else comes.
 #[tactic(auto, unfolding(crate::specs::SceneStep::scene_of_bytes))]
 pub fn scene_of_bytes(alloc: Global, bytes: &[u8]) -> Result<Scene, Halt>
     ensures answer { Answers (λ scene. scene) (scene_of_bytes bytes.now) result }
