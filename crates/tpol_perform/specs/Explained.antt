@@ -1,6 +1,7 @@
--- What `explain` tells of a scene: for every command of the journal, exactly when a policy session authorizes it and
--- exactly when it is served, told by the events before it alone; and by which written path of its policy an entity
--- was opened.
+-- What `explain` tells of a scene: for every command of the journal that asks for a policy session, exactly when
+-- the session authorizes it, and exactly when it is served (its own rules hold too, and its own policy session, if
+-- it has one, has room for one more fact), told by the events before it alone; and by which written path of its
+-- policy an entity was opened.
 use Rattle.std.specs.Prelude.{◌≡◌, ◌≢◌, ◌↔◌, ◌⊎◌, ⊤, ℕ, ◌-◌, All, slice_get, true, List, ◌∷◌, ◌++◌, Some, IfSome, Ok, option_map}
 use Rattle.tpm_engine.specs.declared.event.Event.{Event}
 use Rattle.tpm_engine.specs.declared.event.Event.TheVariants as events
@@ -91,13 +92,15 @@ pub record IsJudged (setup : Setup) (scenario : Scenario) (past : List Event) (l
   -- The session authorizes it, so that no deferred check denies it, exactly where its policy commands in the
   -- journal give the entity's authPolicy and every deferred check holds.
   pub authorizes : IsNotDeniedByCheck outcome ↔ Passes setup past locality command session
-  -- it is served exactly where its own rules hold too
+  -- It is served exactly where the session authorizes it, its own policy session, if it has one, has room for one
+  -- more fact, and its own rules hold.
   pub serves : (outcome ≡ Served) ↔ IsServed setup past locality command session
   -- where it is served, and the scene names the policy of its entity, it is told by which path that was opened
   pub opens : outcome ≡ Served → IfSome (policy_of_entity scenario.entities (authorized_handle command)) (λ closed.
       IsOpened setup scenario past (facts_of setup past session) (authorized_handle command) closed text lines)
 
--- what lines tell of an event that came after these
+-- what lines tell of an event that came after these: of a command that asks for a policy session, how it was
+-- judged
 abbrev pub IsTold : Setup → Scenario → List (List ℕ) → List Event → Event → Type 0
 IsTold setup scenario lines past (events.Command client locality buffer reply outcome) =
     (command : Command) (session : ℕ) → AsksPolicySession setup past buffer command session

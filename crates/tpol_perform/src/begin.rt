@@ -24,7 +24,7 @@ use tpol_prepare::{FilledDocument, Scenario};
 use tpol_tree::{Approvals, Path};
 
 impl Performance {
-    /// A run of the policy of this name begins.
+    /// A run of the policy of this name begins. The call fails only where memory ran out.
     #[tactic(auto, unfolding(crate::specs::Begin::run_begun, tpol_prepare::specs::Scenario::paths_named))]
     pub fn begin(
         &mut self,

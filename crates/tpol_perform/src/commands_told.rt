@@ -18,7 +18,7 @@ use tpol_lines::command_line;
 use tpol_prepare::Scenario;
 
 impl Performance {
-    /// Sends the bytes of a client from a locality, and answers the reply.
+    /// Sends the bytes of a client from a locality, and answers the reply. It fails only where memory ran out.
     #[tactic(auto, unfolding(crate::specs::CommandsTold::commanded))]
     pub fn command(
         &mut self,

@@ -20,7 +20,8 @@ use tpol_tree::{ApprovalWishes, Branch, Branches, Element, Elements, PcrValues, 
 /// The handle of the sealed object.
 const HANDLE: u32 = 0x8000_0000;
 
-/// The policy: so many ORs, in the order of the bits of a number, and PolicyAuthValue behind them.
+/// The policy: so many ORs, in the order of the bits of a number, and PolicyAuthValue behind them. It fails only
+/// where memory ran out.
 pub fn generated_policy(alloc: Global, ors: u8, order: u32) -> Result<Policy, NoMemory>
     ensures policy { IfOk result (λ policy. erased_policy policy ≡ generated_policy ors order) }
     ensures branches { IfOk result (λ policy. HasBranchCounts policy.elements) }
@@ -125,7 +126,8 @@ fn branch_before(alloc: Global, branch: Branch, rest: Branches) -> Result<Branch
     Ok(Branches::More(branch, rest))
 }
 
-/// What the machine starts from: a sealed object with this authPolicy, and a seed that ends with the number.
+/// What the machine starts from: a sealed object with this authPolicy, and a seed that ends with the number. It
+/// fails only where memory ran out.
 pub fn generated_setup(alloc: Global, order: u32, digest: &Digest32) -> Result<Setup, NoMemory>
     ensures setup { IfOk result (λ setup. setup ≡ generated_setup order digest.now) }
     ensures condition { IfOk result IsSetup }
@@ -202,7 +204,7 @@ fn generated_object(alloc: Global, digest: &Digest32) -> Result<ObjectEntry, NoM
     })
 }
 
-/// The run: client 1 holds the object's value, and wants its secret.
+/// The run: client 1 holds the object's value, and wants its secret. It fails only where memory ran out.
 pub fn generated_run(alloc: Global) -> Result<NewRun, NoMemory>
     ensures { IfOk result (λ run. run ≡ generated_run) }
 {

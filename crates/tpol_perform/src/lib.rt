@@ -2,8 +2,9 @@
 //!
 //! Contracts see how far a scene was carried out as a `PerformanceState`: what the machine started from, its
 //! journal, the runs that were begun, and the lines. `performed` is the fold over the events; `IsExplained` says
-//! what the lines of `explain` tell of every command of the journal. The layer above takes `perform_scene` for the
-//! commands `run` and `explain`, and `perform_generated` for `gen`, whose policy, machine and client are made here.
+//! what the lines of `explain` tell of every command of the journal that asks for a policy session. The layer
+//! above takes `perform_scene` for the commands `run` and `explain`, and `perform_generated` for `gen`, whose
+//! policy, machine and client are made here.
 #![tactic(auto)]
 
 mod begin;

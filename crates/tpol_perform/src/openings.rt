@@ -18,7 +18,7 @@ use tpol_tree::{Approvals, Closed, Facts};
 
 impl Performance {
     /// Prints the line of what a policy session opened by this event, where the scene names the policy of what
-    /// was opened.
+    /// was opened. It fails only where memory ran out.
     pub fn print_opening(
         &mut self,
         alloc: Global,

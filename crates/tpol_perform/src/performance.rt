@@ -32,7 +32,7 @@ impl Model for Performance {
 }
 
 impl Performance {
-    /// A machine that starts from this setup, before its first event.
+    /// A machine that starts from this setup, before its first event. It fails only where memory ran out.
     pub fn new(alloc: Global, setup: Setup) -> Result<Performance, NoMemory>
         requires { IsSetup setup }
         ensures { IfOk result (λ performance. performance ≡ start_of setup) }
@@ -45,14 +45,14 @@ impl Performance {
         })
     }
 
-    /// Prints one more line, whose line end is added here.
+    /// Prints one more line, whose line end is added here. It fails only where memory ran out.
     pub fn print(&mut self, alloc: Global, line: &str) -> Result<(), NoMemory>
         ensures { OnOk result (self.new ≡ with_line line.now self.old) }
     {
         push_line(alloc, &mut self.lines, line)
     }
 
-    /// So many milliseconds pass.
+    /// So many milliseconds pass. The call fails only where memory ran out.
     #[tactic(auto, unfolding(tpm_engine::specs::Views::time_of))]
     pub fn pass_time(&mut self, alloc: Global, ms: u32) -> Result<(), NoMemory>
         requires few { length self.old.past < 2 ^ 31 }
@@ -68,7 +68,7 @@ impl Performance {
         self.print(alloc, line.as_str())
     }
 
-    /// Physical presence is on or off from now on.
+    /// Physical presence is on or off from now on. The call fails only where memory ran out.
     #[tactic(auto, unfolding(tpm_engine::specs::Views::time_of))]
     pub fn set_presence(&mut self, alloc: Global, on: bool) -> Result<(), NoMemory>
         requires few { length self.old.past < 2 ^ 31 }
@@ -83,7 +83,7 @@ impl Performance {
         self.print(alloc, line.as_str())
     }
 
-    /// A TPM Reset.
+    /// A TPM Reset. The call fails only where memory ran out.
     #[tactic(auto, unfolding(tpm_engine::specs::Views::time_of))]
     pub fn reset(&mut self, alloc: Global) -> Result<(), NoMemory>
         requires few { length self.old.past < 2 ^ 31 }

@@ -19,7 +19,7 @@ use tpol_runs::Sent;
 const MOST_TURNS: u32 = 1027;
 
 impl Performance {
-    /// A run has so many turns.
+    /// A run has so many turns. The call fails only where memory ran out.
     #[tactic(auto, using(crate::proofs::TurnSteps::turned_times_step, crate::proofs::TurnSteps::turned_times_end))]
     pub fn turn_times(
         &mut self,
@@ -41,7 +41,7 @@ impl Performance {
         Ok(())
     }
 
-    /// A run has turns to its end, or none where it is over.
+    /// A run has turns to its end, or none where it is over. The call fails only where memory ran out.
     #[tactic(auto, unfolding(crate::specs::Turns::turned_to_end))]
     pub fn turn_to_end(
         &mut self,
