@@ -15,6 +15,8 @@ use tpol_tree::Policy;
 use tpol_write::write_policy;
 
 /// The command `canon`: the canonical text of the document in the source.
+///
+/// `Refused` tells the document's first fault; `NoMemory` comes where memory ran out, and nothing else comes.
 #[tactic(auto, unfolding(crate::specs::Canon::canon_step))]
 pub fn canon(alloc: Global, input: &[u8]) -> Result<Answer, Halt>
     ensures answer { Answers (λ answer. answer) (canon_step input.now) result }

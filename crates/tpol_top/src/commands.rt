@@ -17,6 +17,10 @@ use tpol_perform::{perform_generated, perform_scene};
 use tpol_prepare::{Answer, Halt};
 
 /// What a command has to say of a document that is not too large.
+///
+/// `Refused` tells the command's first refusal. `ShelfFailed` comes only where the command uses the shelf and that
+/// failed, and `NoMemory` where memory ran out; nothing else comes. After each of them the shelf's documents are
+/// as before. The shelf is asked only once what was read is the document that the command wants.
 pub fn carry_out<H: Shelf>(
     alloc: Global,
     request: &Request,

@@ -23,6 +23,11 @@ use tpol_tree::{Closed, Policy};
 
 /// The command `compile`: the notes on the document in the source, and its digest. It is filled with the scene
 /// of this name, if one is given.
+///
+/// `Refused` tells the first refusal: of the document, of the scene, of the shelf's documents, of a policy that
+/// the scene names and that is not there or not filled, or of a place of the document that has no value.
+/// `ShelfFailed` comes only where a scene is given and the shelf failed, and `NoMemory` where memory ran out. The
+/// shelf is asked only where a scene is given, and once the document was read.
 #[tactic(auto, unfolding(crate::specs::Compile::compile_step))]
 pub fn compile<H: Shelf>(
     alloc: Global,

@@ -12,6 +12,10 @@ use tpol_store::put_policy;
 
 /// The command `import`: puts the canonical text of the document in the source on the shelf, under this name.
 /// The line is made first, so that nothing wants memory once the document is there.
+///
+/// `Refused` tells the first fault of the document in the source; `ShelfFailed` comes only where the shelf failed,
+/// and `NoMemory` where memory ran out. After each of them the shelf's documents are as before. The shelf is asked
+/// only once the document was read.
 #[tactic(auto, using(tpol_write::proofs::CanonErased::canonical_text_erased), unfolding(crate::specs::Import::import_step, crate::specs::Import::documents_after_import))]
 pub fn import<H: Shelf>(
     alloc: Global,

@@ -25,6 +25,11 @@ use tpol_tree::{Approvals, Closed, Policy};
 
 /// The command `paths`: a line for each path of the document in the source, and its digest. It is filled with
 /// the scene of this name, if one is given, and documents of the shelf are approved.
+///
+/// `Refused` tells the first refusal: of the document, of the scene, of the shelf's documents, of a policy that
+/// the scene names and that is not there or not filled, of a place of the document that has no value, or of paths
+/// that are not within the limits. `ShelfFailed` comes only where the shelf failed, and `NoMemory` where memory
+/// ran out. The shelf is asked only once the document was read.
 #[tactic(auto, unfolding(crate::specs::Paths::paths_step))]
 pub fn list_paths<H: Shelf>(
     alloc: Global,

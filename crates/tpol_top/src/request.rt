@@ -28,7 +28,7 @@ pub enum Request {
 }
 
 impl Request {
-    /// The command that the words are, or `None` where they are none.
+    /// The command that the words are, or `None` where they are none. It fails only where memory ran out.
     pub fn from_words(alloc: Global, words: &Vec<String>) -> Result<Option<Request>, NoMemory>
         ensures { IfOk result (λ request. request ≡ request_of (map string_bytes words.now.items)) }
     {

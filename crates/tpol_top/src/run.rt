@@ -17,6 +17,11 @@ use tpol_base::{Lapse, Shelf, Source};
 use tpol_prepare::{Answer, Halt, Verdict};
 
 /// The answer of the words: of no command, or of the command that they are.
+///
+/// `Refused` tells that they are no command, that the source has more than 16,777,216 bytes, or the command's
+/// first refusal. `ReadFailed` comes only where the command reads the source and that failed, `ShelfFailed` only
+/// where it uses the shelf and that failed, and `NoMemory` where memory ran out. After each of them the shelf's
+/// documents are as before.
 pub fn answer_of_words<S: Source, H: Shelf>(
     alloc: Global,
     words: &Vec<String>,

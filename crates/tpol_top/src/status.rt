@@ -16,7 +16,7 @@ pub enum Status {
     WriteFault,
     /// 4: the shelf failed; nothing was written.
     ShelfFault,
-    /// 5: a document is too large.
+    /// 5: a document is too large, or the shelf has too many.
     TooLarge,
     /// 6: a policy document was refused.
     BadPolicy,

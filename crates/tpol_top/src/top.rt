@@ -43,7 +43,7 @@ pub fn policy_main<S: Source, K: Sink, H: Shelf>(
         GrowsInPart (K.contents out.old) (K.contents out.new) (text_of report.answer.lines)
         × (H.documents shelf.new ≡ Some report.documents)) }
 
-    // Where memory ran out too.
+    // Where memory ran out too; the shelf may then be as before.
     ensures memory { result ≡ Status.NoMemory
         → OfReport (map string_bytes words.now.items) (S.left source.old) (H.documents shelf.old) (λ report.
         GrowsInPart (K.contents out.old) (K.contents out.new) (text_of report.answer.lines)
@@ -53,7 +53,8 @@ pub fn policy_main<S: Source, K: Sink, H: Shelf>(
     ensures silent { IsSilent result → out.new ≡ out.old }
     ensures unchanged { IsSilent result → H.documents shelf.new ≡ H.documents shelf.old }
 
-    // A command that reads the source reads it to its end, or to its byte 16,777,217, and never further.
+    // A command that reads the source reads it to its end, or to its byte 16,777,217, unless the source failed or
+    // memory ran out, and never further.
     ensures read_whole { IsTrue (reads_source (map string_bytes words.now.items)) → IsPastReading result
         → IfSome (S.left source.old) (λ held. S.left source.new ≡ Some (drop most_read held)) }
     ensures read_at_most { LosesAtMost most_read (S.left source.old) (S.left source.new) }
@@ -84,12 +85,13 @@ pub fn policy_main<S: Source, K: Sink, H: Shelf>(
     ensures shelf_count { H.faults shelf.old ≤ H.faults shelf.new }
 
     // A scene that `explain` came to the end of is explained by what was printed. Every command of its journal that
-    // asks for a policy session was authorized by it exactly where the session's policy commands in the journal give
-    // the entity's authPolicy and every deferred check holds, and was served exactly where its own rules hold too.
-    // Behind the line of each one that was served on an entity whose policy the scene names stands the line of the
-    // first written path of that policy which those policy commands match, or of two different strings of one SHA-256
-    // digest, or of one of digest zero. Where it names a path, the PCRs have the values that each PolicyPCR of the
-    // path asks for, or the two are different strings of one digest.
+    // asks for a policy session was authorized by it exactly where the session's policy commands in the journal
+    // give the entity's authPolicy and every deferred check holds, and was served exactly where its own rules hold
+    // too, and its own policy session, if it has one, had room for one more fact. Behind the line of each one that
+    // was served on an entity whose policy the scene names stands the line of the first written path of that
+    // policy which those policy commands match, or of two different strings of one SHA-256 digest, or of one of
+    // digest zero. Where it names a path, the PCRs have the values that each PolicyPCR of the path asks for, or
+    // the two are different strings of one digest.
     ensures explained { result ≡ Status.Done → IfExplain (request_of (map string_bytes words.now.items))
         (OfHeld (S.left source.old) (H.documents shelf.old) (λ input all.
         IsExplainedScene input all (report_of (map string_bytes words.now.items) input all).answer.lines)) }
