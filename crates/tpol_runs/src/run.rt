@@ -61,7 +61,7 @@ impl Run {
         self.most_commands
     }
 
-    /// The next command.
+    /// The next command. It fails only where memory ran out.
     pub fn next(&self, alloc: Global) -> Result<Sent, NoMemory>
         ensures sent { IfOk result (λ sent. sent_by self.now ≡ Some sent) }
         ensures locality { IfOk result (λ sent. sent.locality ≤ 4) }

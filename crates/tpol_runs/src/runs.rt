@@ -79,7 +79,7 @@ impl Runs {
         }
     }
 
-    /// The next command of the run of this number; `None` where it is over.
+    /// The next command of the run of this number; `None` where it is over. It fails only where memory ran out.
     pub fn next(&self, alloc: Global, number: u16) -> Result<Option<Sent>, NoMemory>
         ensures sent { IfOk result (λ sent. sent ≡ next_of (run_at self.now number)) }
         ensures locality { IfOk result (λ sent. IfSome sent (λ command. command.locality ≤ 4)) }
