@@ -36,16 +36,18 @@ ghost use Rattle.tpol_prepare.specs.Scenario.{erased_staged};
 ghost use Rattle.tpol_prepare.specs.Staged.{IsStaged};
 ghost use Rattle.tpol_runs.specs.Runs.{run_at};
 
-/// A path that nothing stops on the machine as it is now is one whose commands can all be made: it is not outside,
-/// each Name on it is in the directory with its kind, and each key that signs is granted.
+/// Where a machine started from a scene, and a plan has the scene's directory: a path that nothing stops on the
+/// machine as it is now is one whose commands can all be made. It is not outside, each Name on it is in the
+/// directory with its kind, and each key that signs is granted.
 pub fn a_path_that_can_is_complete()
     ensures { (setup : SetupOf) (past : List EventOf) (plan : Plan) (locality : ℕ)
         → IsSetup setup → plan.directory ≡ directory_of setup
         → first_block plan.path (sight_after setup past) plan.grants plan.goal locality ≡ None → is_complete plan ≡ true }
 {}
 
-/// A run whose path nothing blocks on the machine as it is at the run's begin is over, and served, after as many
-/// turns as it has commands at most, where only its own turns come: two for each move, the start and the goal.
+/// A run as a script begins it (`IsBegun`), whose path nothing blocks on the machine as it is at the run's begin,
+/// is over, and served, after as many turns as it has commands at most, where only its own turns come: two for
+/// each move, the start and the goal.
 pub fn a_path_that_can_is_served()
     ensures { (run : Run) (past : List EventOf) (turns : ℕ)
         → IsBegun run → first_block run.plan.path (sight_after run.setup past) run.plan.grants run.plan.goal run.locality ≡ None
@@ -53,10 +55,11 @@ pub fn a_path_that_can_is_served()
         → (bytes : List ℕ) × ((after_acts run (replicate turns Turn) (begun past)).standing ≡ Over (Served bytes)) }
 {}
 
-/// A run whose path is blocked on the machine as it is at the run's begin is never served, where its plan is
-/// complete and only its own turns come, and the machine does not carry out the command of its goal: some command
-/// of it fails. There is one exception: the run sends an HMAC which is the one that the machine asks for, though
-/// the blocks of the two keys differ, or the Names that the two are over.
+/// A run as a script begins it (`IsBegun`; the offset of its goal, if it has one, has two bytes), whose path is
+/// blocked on the machine as it is at the run's begin, is never served, where its plan is complete and only its
+/// own turns come, and the machine does not carry out the command of its goal: some command of it fails. There is
+/// one exception: the run sends an HMAC which is the one that the machine asks for, though the blocks of the two
+/// keys differ, or the Names that the two are over.
 pub fn a_blocked_path_fails()
     ensures served { (run : Run) (past : List EventOf) (turns : ℕ) (block : Block) (bytes : List ℕ)
         → IsBegun run → HasShortOffset run.plan.goal → is_complete run.plan ≡ true
@@ -78,9 +81,13 @@ pub fn a_run_ends()
         → 2 * length run.plan.path.moves + 3 ≤ turns_in acts → is_over (after_acts run acts (begun past)).standing ≡ true }
 {}
 
-/// A run goes on where the machine carries out its command: a run whose session is started stands before its
-/// first move, and one on its path is one move further, or has verified the approval that it makes next. So a
-/// run whose commands up to the goal all succeed comes to stand before its goal.
+/// Where the machine started from a scene, the plan has the scene's directory, is complete, and its grants and
+/// moves are within the bounds of the wire (`IsRun`), no event of anybody else names the run's session and no
+/// Reset comes (`AreOthersApart`), and each index on which one of its PolicySecret commands is executed is written
+/// at that moment (`AreSecretsOnWritten`), a run on its path goes on where the machine carries out its command: it
+/// is one move further, or has verified the approval that it makes next. A run whose session is started stands
+/// before its first move, without these premises. So with them a run whose commands up to the goal all succeed
+/// comes to stand before its goal.
 pub fn a_run_goes_on()
     ensures starts { (run : Run) (past : List EventOf)
         → succeeds run (begun past) (sends run.plan Starting) ≡ true
@@ -92,11 +99,11 @@ pub fn a_run_goes_on()
         → HasGoneOn session done (place_of (after_act run (after_acts run acts (begun past)) Turn).standing) }
 {}
 
-/// While the commands of a run succeed, no event of anybody else names its session, no Reset comes, and each
-/// index on which one of its PolicySecret commands is executed is written at that moment, the facts of its
-/// session hash one by one what the moves hash that are done, so they have the digest of these. Before the goal
-/// that is the digest of the path, which is the compiled digest of the policy. Where a command of the run does
-/// not succeed, the run does not stand on its path any more.
+/// Of a run as in the law before (`IsRun`): while its commands succeed, no event of anybody else names its
+/// session, no Reset comes, and each index on which one of its PolicySecret commands is executed is written at
+/// that moment, the facts of its session hash one by one what the moves hash that are done, so they have the
+/// digest of these. Before the goal that is the digest of the path, which is the compiled digest of a policy that
+/// has this path. Where a command of the run does not succeed, the run does not stand on its path any more.
 pub fn session_digest_is_compiled()
     ensures hashes { (run : Run) (past : List EventOf) (acts : List Act) (session done : ℕ)
         → IsRun run → AreOthersApart run acts (begun past) → AreSecretsOnWritten run acts (begun past)

@@ -49,8 +49,8 @@
 //! - `IsAlone`: only the run's own turns make events behind its begin, up to where it is looked at.
 //! - `HasTurns`: these turns are enough for the path that the run begins on.
 //!
-//! That the commands of the run succeed is no premise of the second: a run stands on its path as long as they
-//! do, which is the first.
+//! That the commands of the run succeed is no premise of `session_digest_is_compiled`: a run stands on its path as
+//! long as they do, which is `a_run_goes_on`.
 #![tactic(auto)]
 
 mod laws;
