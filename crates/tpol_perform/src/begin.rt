@@ -7,7 +7,7 @@ ghost use Rattle.tpol_lines.specs.Runs.{chosen_line, nobranch_line};
 ghost use Rattle.tpol_name.specs.Setups.{IsSight};
 ghost use Rattle.tpol_perform.specs.Begin.{begun_along, begun_nowhere, begun_on, plan_along, run_begun, run_seed, with_block, with_blocks, with_new_run};
 ghost use Rattle.tpol_perform.specs.Performance.{with_line};
-ghost use Rattle.tpol_prepare.specs.Scenario.{IsScenarioOf, IsWalkable};
+ghost use Rattle.tpol_prepare.specs.Scenario.{IsScenarioOf, IsWalkable, paths_named};
 ghost use Rattle.tpol_runs.specs.Courses.{begun};
 
 use crate::new_run::NewRun;
@@ -25,7 +25,7 @@ use tpol_tree::{Approvals, Path};
 
 impl Performance {
     /// A run of the policy of this name begins. The call fails only where memory ran out.
-    #[tactic(auto, unfolding(crate::specs::Begin::run_begun, tpol_prepare::specs::Scenario::paths_named))]
+    #[tactic(auto, unfolding(crate::specs::Begin::run_begun))]
     pub fn begin(
         &mut self,
         alloc: Global,
@@ -39,10 +39,39 @@ impl Performance {
         ensures past { OnOk result (self.new.past ≡ self.old.past) }
         ensures setup { OnOk result (self.new.setup ≡ self.old.setup) }
     {
-        let sight = self.machine.sight(alloc)?;
+        match self.machine.sight(alloc) {
+            Ok(sight) => {
+                let begun = self.begin_seen(alloc, scenario, policy, &sight, run);
+                drop(sight);
+                begun
+            }
+            Err(NoMemory) => {
+                drop(run);
+                Err(NoMemory)
+            }
+        }
+    }
+
+    // The same, with what the machine shows now.
+    #[tactic(auto, unfolding(tpol_prepare::specs::Scenario::paths_named))]
+    fn begin_seen(
+        &mut self,
+        alloc: Global,
+        scenario: &Scenario,
+        policy: &str,
+        sight: &Sight,
+        run: NewRun,
+    ) -> Result<(), NoMemory>
+        requires begun { All (λ document. IsWalkable scenario.now.approvals document.closed) scenario.now.begun }
+        requires sight { IsSight sight.now }
+        requires locality { run.locality ≤ 4 }
+        ensures told { OnOk result (self.new ≡ begun_on scenario.now sight.now (paths_named scenario.now policy.now) run self.old) }
+        ensures past { OnOk result (self.new.past ≡ self.old.past) }
+        ensures setup { OnOk result (self.new.setup ≡ self.old.setup) }
+    {
         match scenario.document(policy) {
-            None => self.begin_without_policy(alloc, scenario, &sight, run),
-            Some(document) => self.begin_on(alloc, scenario, &sight, document, run),
+            None => self.begin_without_policy(alloc, scenario, sight, run),
+            Some(document) => self.begin_on(alloc, scenario, sight, document, run),
         }
     }
 
@@ -59,7 +88,9 @@ impl Performance {
         ensures past { OnOk result (self.new.past ≡ self.old.past) }
         ensures setup { OnOk result (self.new.setup ≡ self.old.setup) }
     {
-        self.begin_nowhere(alloc, run.number)
+        let number = run.number;
+        drop(run);
+        self.begin_nowhere(alloc, number)
     }
 
     // A run of a document begins, with what the machine shows now.
@@ -90,11 +121,18 @@ impl Performance {
             &run.goal,
             run.locality,
         ) {
-            Some(position) => {
-                let path = path_at(alloc, closed, approvals, position)?;
-                self.begin_along(alloc, scenario, position, path, run)
+            Some(position) => match path_at(alloc, closed, approvals, position) {
+                Ok(path) => self.begin_along(alloc, scenario, position, path, run),
+                Err(NoMemory) => {
+                    drop(run);
+                    Err(NoMemory)
+                }
+            },
+            None => {
+                let begun = self.begin_blocked(alloc, approvals, sight, document, &run);
+                drop(run);
+                begun
             }
-            None => self.begin_blocked(alloc, approvals, sight, document, &run),
         }
     }
 
@@ -113,8 +151,14 @@ impl Performance {
         ensures past { OnOk result (self.new.past ≡ self.old.past) }
         ensures setup { OnOk result (self.new.setup ≡ self.old.setup) }
     {
-        self.print_chosen(alloc, run.number, position, &path)?;
-        self.begin_plan(scenario, path, run)
+        match self.print_chosen(alloc, run.number, position, &path) {
+            Ok(()) => self.begin_plan(scenario, path, run),
+            Err(NoMemory) => {
+                drop(path);
+                drop(run);
+                Err(NoMemory)
+            }
+        }
     }
 
     fn print_chosen(
@@ -214,7 +258,9 @@ impl Performance {
         ensures setup { OnOk result (self.new.setup ≡ self.old.setup) }
     {
         let path = path_at(alloc, &document.closed, approvals, position)?;
-        self.print_block_of(alloc, sight, &path, run, position)
+        let printed = self.print_block_of(alloc, sight, &path, run, position);
+        drop(path);
+        printed
     }
 
     // The line of what stands in the way of this path, which is at this position.
@@ -247,20 +293,28 @@ impl Performance {
 fn plan_along(scenario: &Scenario, path: Path, run: NewRun) -> Result<Plan, NoMemory>
     ensures { IfOk result (λ plan. plan ≡ plan_along scenario.now path run) }
 {
-    let directory = scenario.directory.exact_clone()?;
-    let NewRun {
-        number,
-        goal,
-        grants,
-        ..
-    } = run;
-    Ok(Plan {
-        path,
-        goal,
-        grants,
-        directory,
-        nonce_seed: run_seed(&scenario.seed, number),
-    })
+    match scenario.directory.exact_clone() {
+        Ok(directory) => {
+            let NewRun {
+                number,
+                goal,
+                grants,
+                ..
+            } = run;
+            Ok(Plan {
+                path,
+                goal,
+                grants,
+                directory,
+                nonce_seed: run_seed(&scenario.seed, number),
+            })
+        }
+        Err(NoMemory) => {
+            drop(path);
+            drop(run);
+            Err(NoMemory)
+        }
+    }
 }
 
 // The seed of a run's nonces.

@@ -38,8 +38,13 @@ impl Performance {
         ensures reply { IfOk result (λ reply. reply ≡ (answer_to self.old.setup self.old.past locality buffer.now).reply) }
     {
         let executed = self.execute(alloc, client, locality, buffer)?;
-        self.tell_opening(alloc, scenario, &executed)?;
-        Ok(executed.reply)
+        match self.tell_opening(alloc, scenario, &executed) {
+            Ok(()) => Ok(reply_of(executed)),
+            Err(NoMemory) => {
+                drop(executed);
+                Err(NoMemory)
+            }
+        }
     }
 
     // The line of what was opened, where openings are asked for.
@@ -79,8 +84,13 @@ impl Performance {
         ensures meets { (entities : List CompiledEntityOf) → HavePolicies self.old.setup entities → IfOk result (λ done. IfSome done.opened (MeetsPolicy entities)) }
     {
         let done = self.machine.execute(alloc, client, locality, buffer)?;
-        self.print_command(alloc, client, locality, buffer, &done)?;
-        Ok(done)
+        match self.print_command(alloc, client, locality, buffer, &done) {
+            Ok(()) => Ok(done),
+            Err(NoMemory) => {
+                drop(done);
+                Err(NoMemory)
+            }
+        }
     }
 
     // The line of a command that was executed.
@@ -105,4 +115,13 @@ impl Performance {
         )?;
         self.print(alloc, line.as_str())
     }
+}
+
+// The reply to a command that was executed.
+fn reply_of(executed: Executed) -> Blob
+    ensures { result ≡ executed.reply }
+{
+    let Executed { reply, opened, .. } = executed;
+    drop(opened);
+    reply
 }

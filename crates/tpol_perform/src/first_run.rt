@@ -28,9 +28,20 @@ pub fn perform_run(
     ensures told { IfOk result (λ performance. performance ≡ performed_run scenario.now policy.now run (start_of setup)) }
     ensures few { IfOk result (λ performance. length performance.past ≤ 2000) }
 {
-    let mut performance = Performance::new(alloc, setup)?;
-    performance.run_first(alloc, scenario, policy, run)?;
-    Ok(performance)
+    let mut performance = match Performance::new(alloc, setup) {
+        Ok(performance) => performance,
+        Err(NoMemory) => {
+            drop(run);
+            return Err(NoMemory);
+        }
+    };
+    match performance.run_first(alloc, scenario, policy, run) {
+        Ok(()) => Ok(performance),
+        Err(NoMemory) => {
+            drop(performance);
+            Err(NoMemory)
+        }
+    }
 }
 
 impl Performance {

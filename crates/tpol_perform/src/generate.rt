@@ -1,14 +1,21 @@
 // The command `gen`.
 
-ghost use Rattle.std.specs.Prelude.{◌≡◌, [], ◌∷◌, ◌++◌, ◌<◌, ◌≤◌, ◌^◌, length, IfOk, OnOk};
+ghost use Rattle.std.specs.Prelude.{◌≡◌, [], ◌∷◌, ◌++◌, ◌<◌, ◌≤◌, ◌^◌, None, codes, length, IfOk, OnOk};
 ghost use Rattle.tpol_digest.specs.Limits.{AreWithinLimits};
 ghost use Rattle.tpol_digest.specs.Paths.{paths_of};
 ghost use Rattle.tpol_digest.specs.WellFormed.{IsWellFormedPolicy};
 ghost use Rattle.tpol_lines.specs.Generated.{command_count_line, generated_line, path_count_line};
 ghost use Rattle.tpol_lines.specs.Lines.{line_of};
-ghost use Rattle.tpol_perform.specs.Generate.{generate_step, generated_answer, generated_head, generated_performance, generated_run_lines, generated_scenario};
+ghost use Rattle.tpol_name.specs.Setups.{IsSetup};
+ghost use Rattle.tpol_perform.specs.FirstRun.{performed_run};
+ghost use Rattle.tpol_perform.specs.Generate.{generate_step, generated_answer, generated_head, generated_performance, generated_policy, generated_run, generated_run_lines, generated_scenario};
+ghost use Rattle.tpol_perform.specs.Performance.{start_of};
+ghost use Rattle.tpol_prepare.specs.Filled.{filled_step};
+ghost use Rattle.tpol_prepare.specs.Limits.{limit_step};
 ghost use Rattle.tpol_prepare.specs.Lines.{digest_line};
+ghost use Rattle.tpol_prepare.specs.Scenario.{IsScenarioOf};
 ghost use Rattle.tpol_prepare.specs.Steps.{Answers, IsInside};
+ghost use Rattle.tpol_tree.specs.ClosedErased.{erased};
 
 use crate::first_run::perform_run;
 use crate::generated::{generated_policy, generated_run, generated_setup};
@@ -33,10 +40,36 @@ pub fn perform_generated(alloc: Global, ors: u8, order: u32) -> Result<Answer, H
     ensures answer { Answers (λ answer. answer) (generate_step ors order) result }
     ensures inside { IsInside result }
 {
+    let closed = filled_policy(alloc, ors, order)?;
+    match check_alone(alloc, &closed) {
+        Ok(()) => Ok(generated_answer(alloc, ors, order, closed)?),
+        Err(halt) => {
+            drop(closed);
+            Err(halt)
+        }
+    }
+}
+
+// The policy, filled.
+fn filled_policy(alloc: Global, ors: u8, order: u32) -> Result<Closed, Halt>
+    ensures answer { Answers erased (filled_step None (generated_policy ors order) None) result }
+    ensures inside { IsInside result }
+    ensures well_formed { IfOk result IsWellFormedPolicy }
+{
     let policy = generated_policy(alloc, ors, order)?;
-    let closed = fill_document(alloc, None, &policy, None)?;
-    check_limits(alloc, None, &closed, &Approvals::new(alloc))?;
-    Ok(generated_answer(alloc, ors, order, closed)?)
+    let closed = fill_document(alloc, None, &policy, None);
+    drop(policy);
+    closed
+}
+
+// Ends the run where a policy to which nothing is approved has too many paths, or one that is too long.
+fn check_alone(alloc: Global, closed: &Closed) -> Result<(), Halt>
+    requires { IsWellFormedPolicy closed.now }
+    ensures answer { Answers (λ _. tt) (limit_step None (erased closed.now) []) result }
+    ensures inside { IsInside result }
+    ensures within { IfOk result (λ _. AreWithinLimits (paths_of closed.now [])) }
+{
+    check_limits(alloc, None, closed, &Approvals::new(alloc))
 }
 
 // What is printed of the policy and of its run.
@@ -45,7 +78,13 @@ fn generated_answer(alloc: Global, ors: u8, order: u32, closed: Closed) -> Resul
     requires within { AreWithinLimits (paths_of closed []) }
     ensures { IfOk result (λ answer. answer ≡ generated_answer ors order closed) }
 {
-    let mut lines = generated_head(alloc, ors, order, &closed)?;
+    let mut lines = match generated_head(alloc, ors, order, &closed) {
+        Ok(lines) => lines,
+        Err(NoMemory) => {
+            drop(closed);
+            return Err(NoMemory);
+        }
+    };
     push_run(alloc, &mut lines, order, closed)?;
     let verdict = Verdict::Done;
     Ok(Answer { lines, verdict })
@@ -93,7 +132,9 @@ fn push_run(alloc: Global, lines: &mut Lines, order: u32, closed: Closed) -> Res
     ensures { OnOk result (lines.new ≡ lines.old ++ generated_run_lines (generated_performance order closed)) }
 {
     let performance = generated_performance(alloc, order, closed)?;
-    push_performance(alloc, lines, &performance)
+    let pushed = push_performance(alloc, lines, &performance);
+    drop(performance);
+    pushed
 }
 
 // The lines of the run: the first, how many commands were executed, and the last two.
@@ -126,11 +167,50 @@ fn generated_performance(alloc: Global, order: u32, closed: Closed) -> Result<Pe
     ensures told { IfOk result (λ performance. performance ≡ generated_performance order closed) }
     ensures few { IfOk result (λ performance. length performance.past ≤ 2000) }
 {
-    let setup = generated_setup(alloc, order, &digest_of(&closed))?;
-    let scenario = generated_scenario(alloc, &setup, closed)?;
-    let run = generated_run(alloc)?;
-    let performance = perform_run(alloc, setup, &scenario, "gen", run)?;
-    Ok(performance)
+    match generated_setup(alloc, order, &digest_of(&closed)) {
+        Ok(setup) => performance_from(alloc, setup, closed),
+        Err(NoMemory) => {
+            drop(closed);
+            Err(NoMemory)
+        }
+    }
+}
+
+// The same, on a machine that starts from this setup.
+fn performance_from(alloc: Global, setup: Setup, closed: Closed) -> Result<Performance, NoMemory>
+    requires setup { IsSetup setup }
+    requires well_formed { IsWellFormedPolicy closed }
+    requires within { AreWithinLimits (paths_of closed []) }
+    ensures told { IfOk result (λ performance. performance ≡ performed_run (generated_scenario setup closed) (codes "gen") generated_run (start_of setup)) }
+    ensures few { IfOk result (λ performance. length performance.past ≤ 2000) }
+{
+    match generated_scenario(alloc, &setup, closed) {
+        Ok(scenario) => {
+            let performance = perform_on(alloc, setup, &scenario);
+            drop(scenario);
+            performance
+        }
+        Err(NoMemory) => {
+            drop(setup);
+            Err(NoMemory)
+        }
+    }
+}
+
+// The run of the client.
+fn perform_on(alloc: Global, setup: Setup, scenario: &Scenario) -> Result<Performance, NoMemory>
+    requires setup { IsSetup setup }
+    requires scenario { IsScenarioOf setup scenario.now }
+    ensures told { IfOk result (λ performance. performance ≡ performed_run scenario.now (codes "gen") generated_run (start_of setup)) }
+    ensures few { IfOk result (λ performance. length performance.past ≤ 2000) }
+{
+    match generated_run(alloc) {
+        Ok(run) => perform_run(alloc, setup, scenario, "gen", run),
+        Err(NoMemory) => {
+            drop(setup);
+            Err(NoMemory)
+        }
+    }
 }
 
 // What the events of the run go by.

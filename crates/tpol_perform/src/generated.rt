@@ -189,18 +189,22 @@ fn generated_seed(order: u32) -> Digest32
 fn generated_object(alloc: Global, digest: &Digest32) -> Result<ObjectEntry, NoMemory>
     ensures { IfOk result (λ object. object ≡ generated_object digest.now) }
 {
+    let path = Text::from_str(alloc, "gen")?;
+    let auth_policy = Blob::from_slice(alloc, &digest.bytes)?;
+    let auth = Blob::from_slice(alloc, &[1])?;
+    let secret = Blob::from_slice(alloc, "gen".as_bytes())?;
     let public = ObjectPublic {
         attributes: 0x40,
-        auth_policy: Blob::from_slice(alloc, &digest.bytes)?,
+        auth_policy,
         scheme: Scheme::Sealed,
         unique: Blob::new(alloc),
     };
     Ok(ObjectEntry {
-        path: Text::from_str(alloc, "gen")?,
+        path,
         handle: HANDLE,
         public,
-        auth: Blob::from_slice(alloc, &[1])?,
-        secret: Blob::from_slice(alloc, "gen".as_bytes())?,
+        auth,
+        secret,
     })
 }
 
@@ -208,8 +212,9 @@ fn generated_object(alloc: Global, digest: &Digest32) -> Result<ObjectEntry, NoM
 pub fn generated_run(alloc: Global) -> Result<NewRun, NoMemory>
     ensures { IfOk result (λ run. run ≡ generated_run) }
 {
+    let value = Blob::from_slice(alloc, &[1])?;
     let mut secrets = Sequence::new(alloc);
-    secrets.push((HANDLE, Blob::from_slice(alloc, &[1])?))?;
+    secrets.push((HANDLE, value))?;
     Ok(NewRun {
         number: 1,
         client: 1,

@@ -83,7 +83,9 @@ impl Performance {
         ensures setup { OnOk result (self.new.setup ≡ self.old.setup) }
     {
         let opening = opening(alloc, policy, approvals, facts)?;
-        let line = opening_line(alloc, event, policy, approvals, &opening)?;
+        let line = opening_line(alloc, event, policy, approvals, &opening);
+        drop(opening);
+        let line = line?;
         self.print(alloc, line.as_str())
     }
 }

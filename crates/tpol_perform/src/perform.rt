@@ -45,7 +45,13 @@ fn performance_answer(alloc: Global, staged: StagedScene) -> Result<Answer, NoMe
     requires few { length staged.script ≤ 4096 }
     ensures { IfOk result (λ answer. answer ≡ performance_answer staged) }
 {
-    let Performance { lines, .. } = perform(alloc, staged)?;
+    let Performance {
+        machine,
+        runs,
+        lines,
+    } = perform(alloc, staged)?;
+    drop(machine);
+    drop(runs);
     Ok(Answer {
         lines,
         verdict: Verdict::Done,

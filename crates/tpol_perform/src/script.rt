@@ -4,6 +4,7 @@ ghost use Rattle.std.specs.Prelude.{◌≡◌, ◌+◌, ◌^◌, ◌<◌, ◌≤
 ghost use Rattle.tpm_engine.specs.Views.{time_of};
 ghost use Rattle.tpol_name.specs.Setups.{IsSetup};
 ghost use Rattle.tpol_perform.specs.Begin.{new_run, run_begun};
+ghost use Rattle.tpol_perform.specs.Performance.{start_of};
 ghost use Rattle.tpol_perform.specs.Script.{all_happened, happened, performed, turn_told};
 ghost use Rattle.tpol_prepare.specs.Scenario.{CanHappen, IsScenarioOf};
 
@@ -12,6 +13,7 @@ use crate::performance::Performance;
 use std::alloc::Global;
 use tpol_base::{ExactClone, NoMemory};
 use tpol_goal::Goal;
+use tpol_name::Setup;
 use tpol_prepare::{Scenario, StagedScene};
 use tpol_scene::ScriptEvent;
 
@@ -29,9 +31,33 @@ pub fn perform(alloc: Global, staged: StagedScene) -> Result<Performance, NoMemo
         scenario,
         script,
     } = staged;
+    let performance = perform_script(alloc, setup, &scenario, script.as_slice());
+    drop(scenario);
+    drop(script);
+    performance
+}
+
+// A machine starts from this setup, and all events of a script happen.
+fn perform_script(
+    alloc: Global,
+    setup: Setup,
+    scenario: &Scenario,
+    script: &[ScriptEvent],
+) -> Result<Performance, NoMemory>
+    requires setup { IsSetup setup }
+    requires scenario { IsScenarioOf setup scenario.now }
+    requires script { All CanHappen script.now }
+    requires few { length script.now ≤ 4096 }
+    ensures { IfOk result (λ performance. performance ≡ all_happened scenario.now script.now (start_of setup)) }
+{
     let mut performance = Performance::new(alloc, setup)?;
-    performance.carry_out(alloc, &scenario, script.as_slice())?;
-    Ok(performance)
+    match performance.carry_out(alloc, scenario, script) {
+        Ok(()) => Ok(performance),
+        Err(NoMemory) => {
+            drop(performance);
+            Err(NoMemory)
+        }
+    }
 }
 
 impl Performance {

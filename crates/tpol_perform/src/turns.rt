@@ -141,7 +141,9 @@ impl Performance {
         ensures setup { OnOk result (self.new.setup ≡ self.old.setup) }
     {
         let end = self.runs.take(alloc, run, reply)?;
-        self.print_end(alloc, run, &end)
+        let printed = self.print_end(alloc, run, &end);
+        drop(end);
+        printed
     }
 
     fn print_end(&mut self, alloc: Global, run: u16, end: &Option<End>) -> Result<(), NoMemory>

@@ -11,4 +11,4 @@ pub returns : goal.returns
 unfolding generated_answer
 returns c =
     ap told (c.in_ok-push_run.ensures
-    ∙ ap (λ (head : List (List ℕ)). head ++ generated_run_lines (generated_performance c.args.order c.args.closed)) c.in_ok-lines.ensures)
+    ∙ ap (λ (head : List (List ℕ)). head ++ generated_run_lines (generated_performance c.args.order c.args.closed)) c.in-Ok.ensures)

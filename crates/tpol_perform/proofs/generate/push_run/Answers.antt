@@ -6,5 +6,5 @@ use Rattle.tpol_perform.proofs.generate.push_run.Goals as goal
 
 pub returns : goal.returns
 returns c =
-    subst (λ (p : PerformanceState). OnOk c.push_performance.result (c.push_performance.new.lines ≡ c.args.lines.now ++ generated_run_lines p))
-    c.in_ok-performance.ensures.told c.push_performance.ensures
+    subst (λ (p : PerformanceState). OnOk c.push_performance-pushed.result (c.push_performance-pushed.new.lines ≡ c.args.lines.now ++ generated_run_lines p))
+    c.in_ok-performance.ensures.told c.push_performance-pushed.ensures

@@ -6,8 +6,8 @@ use Rattle.tpol_perform.specs.Performance.{PerformanceState}
 use Rattle.tpol_perform.proofs.OpenedMeets.{any_opened_meets}
 use Rattle.tpol_perform.proofs.performance.Performance.execute.Goals as goal
 
-pub returns-clause-meets : goal.returns-clause-meets
-returns-clause-meets c =
+pub returns-in-Ok-clause-meets : goal.returns-in-Ok-clause-meets
+returns-in-Ok-clause-meets c =
     let opened = c.in_ok-done.done.opened in
     subst (λ (p : PerformanceState). (entities : List CompiledEntity) → HavePolicies p.setup entities → IfSome opened (MeetsPolicy entities)) c.self.view_is
     (λ entities has. any_opened_meets c.self.inside.machine.setup entities opened has c.in_ok-done.ensures.sound c.in_ok-done.ensures.policy)

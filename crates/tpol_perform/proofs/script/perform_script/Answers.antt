@@ -1,7 +1,7 @@
 use Rattle.std.proofs.Common.{◌≤◌, ◌^◌, subst, sym}
 use Rattle.tpm_engine.specs.Views.{time_of}
 use Rattle.tpol_perform.specs.Performance.{PerformanceState}
-use Rattle.tpol_perform.proofs.script.perform.Goals as goal
+use Rattle.tpol_perform.proofs.script.perform_script.Goals as goal
 
 pub carry_out-requires-clause-early : goal.carry_out-requires-clause-early
 unfolding time_of
