@@ -1,5 +1,5 @@
 -- The position of a chosen path is that of one.
-use Rattle.std.proofs.Common.{◌≡◌, ℕ, ◌+◌, ◌-◌, ◌≤◌, ◌<◌, All, Bool, true, false, if◌then◌else◌, List, [], ◌∷◌, get_or, length, Option, Some, None, arith, slice_get, subst}
+use Rattle.std.proofs.Common.{◌≡◌, ℕ, ◌+◌, ◌-◌, ◌≤◌, ◌<◌, All, Bool, true, false, if◌then◌else◌, List, [], ◌∷◌, get_or, length, Some, arith, slice_get, subst}
 use Rattle.std.proofs.lemmas.Option.{get_or_from_slice_get, slice_get_within}
 use Rattle.tpol_choose.specs.Blocks.{chosen_path, is_open}
 use Rattle.tpol_digest.specs.Walks.{first_path}

@@ -1,5 +1,5 @@
 -- What the events of the run of `gen` go by: the paths of its policy can be walked.
-use Rattle.std.proofs.Common.{List, [], All, codes}
+use Rattle.std.proofs.Common.{[], codes}
 use Rattle.std.proofs.lemmas.List.Elements.{All-cons, All-nil}
 use Rattle.tpol_digest.specs.Limits.{AreWithinLimits}
 use Rattle.tpol_digest.specs.Paths.{paths_of}

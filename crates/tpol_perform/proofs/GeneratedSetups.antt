@@ -1,12 +1,12 @@
 -- The machine of `gen` is one that can start.
-use Rattle.std.proofs.Common.{◌≡◌, ◌≢◌, ◌≤◌, ◌+◌, ◌-◌, ◌/◌, ◌%◌, ◌==◌, zero, suc, refl, inl, inr, ℕ, List, [], ◌∷◌, ◌++◌, length, All, arith}
+use Rattle.std.proofs.Common.{◌≡◌, ◌≢◌, ◌+◌, ◌-◌, ◌/◌, ◌%◌, ◌==◌, zero, suc, refl, inl, inr, ℕ, [], ◌∷◌, ◌++◌, length, arith}
 use Rattle.std.proofs.lemmas.List.Elements.{All-cons, All-nil}
 use Rattle.std.proofs.lemmas.Map.Keys.{IsDistinct-cons}
 use Rattle.std.specs.Prelude.{codes, nat_eq}
 use Rattle.std.specs.List.{IsDistinct}
 use Rattle.tpol_base.specs.declared.digest.Digest32.{Digest32}
 use Rattle.tpol_name.specs.Paths.{is_same_path}
-use Rattle.tpol_name.specs.Setups.{AreEntities, IsAuthValue, IsIndex, IsObject, IsSetup, hierarchy_paths}
+use Rattle.tpol_name.specs.Setups.{IsAuthValue, IsIndex, IsObject, IsSetup, hierarchy_paths}
 use Rattle.tpol_perform.specs.Generate.{before, generated_object, generated_or, generated_ors, generated_setup, zero_pcrs}
 
 empty_value : IsAuthValue []

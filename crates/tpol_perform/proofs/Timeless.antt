@@ -1,8 +1,7 @@
 -- Commands take no time, and each is one event more.
 use Rattle.std.proofs.Common.{◌≡◌, ◌∙◌, ℕ, ◌+◌, Bool, true, false, List, ◌∷◌, length, if◌then◌else◌, Option, Some, None, Result, Ok, Err, add-one, ap, refl, sym}
 use Rattle.std.specs.Option.{option_map_or}
-use Rattle.std.specs.Prelude.{option_and_then}
-use Rattle.tpm_engine.specs.Deeds.{Deed, Idle, Shows, Starts, command_deed, deed_in, deed_of, plain_deed, started_by, started_session}
+use Rattle.tpm_engine.specs.Deeds.{Deed, Idle, Shows, Starts, deed_in, plain_deed}
 use Rattle.tpm_engine.specs.Events.{Answered, event_of, is_success}
 use Rattle.tpm_engine.specs.Facts.{shown_by, Shown}
 use Rattle.tpm_engine.specs.Views.{time_after, time_of}
