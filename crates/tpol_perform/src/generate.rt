@@ -218,27 +218,39 @@ fn perform_on(alloc: Global, setup: Setup, scenario: &Scenario) -> Result<Perfor
 fn generated_scenario(alloc: Global, setup: &Setup, closed: Closed) -> Result<Scenario, NoMemory>
     ensures { IfOk result (λ scenario. scenario ≡ generated_scenario setup.now closed) }
 {
-    let name = Text::from_str(alloc, "gen")?;
-    let begun = one_document(alloc, FilledDocument { name, closed })?;
-    let directory = directory(alloc, setup)?;
-    Ok(Scenario {
-        explains: false,
-        seed: setup.seed,
-        directory,
-        entities: Sequence::new(alloc),
-        begun,
-        approvals: Approvals::new(alloc),
-        clients: Sequence::new(alloc),
-    })
+    match directory(alloc, setup) {
+        Ok(directory) => {
+            let begun = generated_documents(alloc, closed)?;
+            Ok(Scenario {
+                explains: false,
+                seed: setup.seed,
+                directory,
+                entities: Sequence::new(alloc),
+                begun,
+                approvals: Approvals::new(alloc),
+                clients: Sequence::new(alloc),
+            })
+        }
+        Err(NoMemory) => {
+            drop(closed);
+            Err(NoMemory)
+        }
+    }
 }
 
-fn one_document(
-    alloc: Global,
-    document: FilledDocument,
-) -> Result<Sequence<FilledDocument>, NoMemory>
-    ensures { IfOk result (λ documents. documents ≡ document ∷ []) }
+// The policy, under its name, is the one document.
+fn generated_documents(alloc: Global, closed: Closed) -> Result<Sequence<FilledDocument>, NoMemory>
+    ensures { IfOk result (λ documents. documents ≡ record { name = codes "gen"; closed = closed } ∷ []) }
 {
-    let mut documents = Sequence::new(alloc);
-    documents.push(document)?;
-    Ok(documents)
+    match Text::from_str(alloc, "gen") {
+        Ok(name) => {
+            let mut documents = Sequence::new(alloc);
+            documents.push(FilledDocument { name, closed })?;
+            Ok(documents)
+        }
+        Err(NoMemory) => {
+            drop(closed);
+            Err(NoMemory)
+        }
+    }
 }

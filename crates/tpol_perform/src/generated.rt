@@ -1,6 +1,6 @@
 //! The policy, the machine and the client of the command `gen`.
 
-ghost use Rattle.std.specs.Prelude.{◌≡◌, ◌+◌, ◌≤◌, [], ◌∷◌, IfOk};
+ghost use Rattle.std.specs.Prelude.{◌≡◌, ◌+◌, ◌≤◌, [], ◌∷◌, IfOk, codes};
 ghost use Rattle.tpol_base.specs.Digest.{zero_digest};
 ghost use Rattle.tpol_name.specs.Setups.{IsSetup};
 ghost use Rattle.tpol_perform.specs.Generate.{before, generated_object, generated_or, generated_ors, generated_policy, generated_run, generated_seed, generated_setup, two_branches, zero_pcr, zero_pcrs};
@@ -45,8 +45,13 @@ fn generated_ors(alloc: Global, more: u8, pcr: u8, bits: u32) -> Result<Elements
         return before(alloc, Element::AuthValue, Elements::End);
     }
     let rest = generated_ors(alloc, more - 1, pcr + 1, bits / 2)?;
-    let element = generated_or(alloc, bits % 2 == 1, pcr)?;
-    before(alloc, element, rest)
+    match generated_or(alloc, bits % 2 == 1, pcr) {
+        Ok(element) => before(alloc, element, rest),
+        Err(NoMemory) => {
+            drop(rest);
+            Err(NoMemory)
+        }
+    }
 }
 
 // An element and those behind it.
@@ -54,9 +59,16 @@ fn before(alloc: Global, element: Element, rest: Elements) -> Result<Elements, N
     ensures elements { IfOk result (λ elements. erased_elements elements ≡ before (erased_element element) (erased_elements rest)) }
     ensures branches { EachElementWithin HasBranchCount element → HasBranchCounts rest → IfOk result HasBranchCounts }
 {
-    let element = Box::new(alloc, element)?;
-    let rest = Box::new(alloc, rest)?;
-    Ok(Elements::More(element, rest))
+    match Box::new(alloc, element) {
+        Ok(element) => {
+            let rest = Box::new(alloc, rest)?;
+            Ok(Elements::More(element, rest))
+        }
+        Err(failed) => {
+            drop(rest);
+            Err(NoMemory::from(failed))
+        }
+    }
 }
 
 // The OR of a PCR.
@@ -64,12 +76,19 @@ fn generated_or(alloc: Global, swapped: bool, pcr: u8) -> Result<Element, NoMemo
     ensures element { IfOk result (λ element. erased_element element ≡ generated_or swapped pcr) }
     ensures branches { IfOk result (EachElementWithin HasBranchCount) }
 {
-    let a = branch(alloc, "a", Element::Locality(2))?;
     let b = branch(alloc, "b", zero_pcr(alloc, pcr)?)?;
-    if swapped {
-        two_branches(alloc, b, a)
-    } else {
-        two_branches(alloc, a, b)
+    match branch(alloc, "a", Element::Locality(2)) {
+        Ok(a) => {
+            if swapped {
+                two_branches(alloc, b, a)
+            } else {
+                two_branches(alloc, a, b)
+            }
+        }
+        Err(NoMemory) => {
+            drop(b);
+            Err(NoMemory)
+        }
     }
 }
 
@@ -97,11 +116,17 @@ fn branch(alloc: Global, name: &str, element: Element) -> Result<Branch, NoMemor
     ensures branches { EachElementWithin HasBranchCount element → IfOk result (λ branch. HasBranchCounts branch.elements) }
 {
     let elements = before(alloc, element, Elements::End)?;
-    Ok(Branch {
-        name: Text::from_str(alloc, name)?,
-        description: Text::new(alloc),
-        elements,
-    })
+    match Text::from_str(alloc, name) {
+        Ok(name) => Ok(Branch {
+            name,
+            description: Text::new(alloc),
+            elements,
+        }),
+        Err(NoMemory) => {
+            drop(elements);
+            Err(NoMemory)
+        }
+    }
 }
 
 fn two_branches(alloc: Global, first: Branch, second: Branch) -> Result<Element, NoMemory>
@@ -109,9 +134,16 @@ fn two_branches(alloc: Global, first: Branch, second: Branch) -> Result<Element,
     ensures branches { HasBranchCounts first.elements → HasBranchCounts second.elements → IfOk result (EachElementWithin HasBranchCount) }
     ensures element { IfOk result (λ element. erased_element element ≡ Or (two_branches first.name (erased_elements first.elements) second.name (erased_elements second.elements))) }
 {
-    let behind = branch_before(alloc, second, Branches::End)?;
-    let branches = branch_before(alloc, first, behind)?;
-    Ok(Element::Or(branches))
+    match branch_before(alloc, second, Branches::End) {
+        Ok(behind) => {
+            let branches = branch_before(alloc, first, behind)?;
+            Ok(Element::Or(branches))
+        }
+        Err(NoMemory) => {
+            drop(first);
+            Err(NoMemory)
+        }
+    }
 }
 
 // A branch and those behind it.
@@ -121,9 +153,16 @@ fn branch_before(alloc: Global, branch: Branch, rest: Branches) -> Result<Branch
     ensures count { IfOk result (λ branches. branch_count branches ≡ branch_count rest + 1) }
     ensures within { HasBranchCounts branch.elements → EachElementOfBranches HasBranchCount rest → IfOk result (EachElementOfBranches HasBranchCount) }
 {
-    let branch = Box::new(alloc, branch)?;
-    let rest = Box::new(alloc, rest)?;
-    Ok(Branches::More(branch, rest))
+    match Box::new(alloc, branch) {
+        Ok(branch) => {
+            let rest = Box::new(alloc, rest)?;
+            Ok(Branches::More(branch, rest))
+        }
+        Err(failed) => {
+            drop(rest);
+            Err(NoMemory::from(failed))
+        }
+    }
 }
 
 /// What the machine starts from: a sealed object with this authPolicy, and a seed that ends with the number. It
@@ -189,10 +228,9 @@ fn generated_seed(order: u32) -> Digest32
 fn generated_object(alloc: Global, digest: &Digest32) -> Result<ObjectEntry, NoMemory>
     ensures { IfOk result (λ object. object ≡ generated_object digest.now) }
 {
-    let path = Text::from_str(alloc, "gen")?;
     let auth_policy = Blob::from_slice(alloc, &digest.bytes)?;
-    let auth = Blob::from_slice(alloc, &[1])?;
-    let secret = Blob::from_slice(alloc, "gen".as_bytes())?;
+    let path = Text::from_str(alloc, "gen")?;
+    let (auth, secret) = object_values(alloc)?;
     let public = ObjectPublic {
         attributes: 0x40,
         auth_policy,
@@ -206,6 +244,15 @@ fn generated_object(alloc: Global, digest: &Digest32) -> Result<ObjectEntry, NoM
         auth,
         secret,
     })
+}
+
+// The authorization value of the object, and its secret.
+fn object_values(alloc: Global) -> Result<(Blob, Blob), NoMemory>
+    ensures { IfOk result (λ values. values ≡ (1 ∷ [], codes "gen")) }
+{
+    let auth = Blob::from_slice(alloc, &[1])?;
+    let secret = Blob::from_slice(alloc, "gen".as_bytes())?;
+    Ok((auth, secret))
 }
 
 /// The run: client 1 holds the object's value, and wants its secret. It fails only where memory ran out.

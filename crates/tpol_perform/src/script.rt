@@ -147,14 +147,23 @@ impl Performance {
         ensures setup { OnOk result (self.new.setup ≡ self.old.setup) }
         ensures past { OnOk result (self.new.past ≡ self.old.past) }
     {
-        let run = NewRun {
-            number,
-            client,
-            locality,
-            goal: goal.exact_clone()?,
-            grants: scenario.grants(alloc, client)?,
-        };
-        self.begin(alloc, scenario, policy, run)
+        let goal = goal.exact_clone()?;
+        match scenario.grants(alloc, client) {
+            Ok(grants) => {
+                let run = NewRun {
+                    number,
+                    client,
+                    locality,
+                    goal,
+                    grants,
+                };
+                self.begin(alloc, scenario, policy, run)
+            }
+            Err(NoMemory) => {
+                drop(goal);
+                Err(NoMemory)
+            }
+        }
     }
 
     // A run has so many turns, or turns to its end.
