@@ -110,18 +110,17 @@ impl Performance {
         ensures past { OnOk result (self.new.past ≡ self.old.past) }
         ensures setup { OnOk result (self.new.setup ≡ self.old.setup) }
     {
-        let closed = &document.closed;
         let approvals = &scenario.approvals;
         match choose(
             alloc,
-            closed,
+            &document.closed,
             approvals,
             sight,
             &run.grants,
             &run.goal,
             run.locality,
         ) {
-            Some(position) => match path_at(alloc, closed, approvals, position) {
+            Some(position) => match path_at(alloc, &document.closed, approvals, position) {
                 Ok(path) => self.begin_along(alloc, scenario, position, path, run),
                 Err(NoMemory) => {
                     drop(run);

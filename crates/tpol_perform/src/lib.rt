@@ -5,6 +5,9 @@
 //! what the lines of `explain` tell of every command of the journal that asks for a policy session. The layer
 //! above takes `perform_scene` for the commands `run` and `explain`, and `perform_generated` for `gen`, whose
 //! policy, machine and client are made here.
+//!
+//! Where a call fails beside a large value, the value is let go by `drop`: the proof of it is then one call, in place of
+//! a path through all its fields.
 #![tactic(auto)]
 
 mod begin;
