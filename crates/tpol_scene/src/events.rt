@@ -30,7 +30,7 @@ const MAX_RUN: u64 = 65_535;
 const MAX_TIMES: u64 = 2000;
 
 /// The kinds of events.
-#[derive(Clone, Copy, Debug, PartialEq, Eq)]
+#[derive(Clone, Copy)]
 pub enum EventKind {
     Command,
     Begin,

@@ -28,7 +28,7 @@ const MAX_BYTES: usize = 1024;
 const MAX_OFFSET: u64 = 65_535;
 
 /// The commands that a goal may name.
-#[derive(Clone, Copy, Debug, PartialEq, Eq)]
+#[derive(Clone, Copy)]
 pub enum GoalCommand {
     Unseal,
     Hmac,

@@ -12,7 +12,7 @@ use std::alloc::Global;
 use tpol_json::PlaceRef;
 
 /// The kinds of entities: a sealed secret, an HMAC key, an NV index.
-#[derive(Clone, Copy, Debug, PartialEq, Eq)]
+#[derive(Clone, Copy)]
 pub enum EntityKind {
     Seal,
     Key,
