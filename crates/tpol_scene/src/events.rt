@@ -133,15 +133,20 @@ fn read_begin(
     let client = needed_listed_client(alloc, cast.clients.as_slice(), item, place)?;
     let locality = optional_locality(alloc, item, place)?;
     let named = needed_policy(alloc, item, place)?;
-    let goal = needed_goal(alloc, &cast.entities, item, place)?;
-    Ok(ScriptEvent::Begin {
-        run,
-        client,
-        locality,
-        policy: named.name,
-        place: named.place,
-        goal,
-    })
+    match needed_goal(alloc, &cast.entities, item, place) {
+        Ok(goal) => Ok(ScriptEvent::Begin {
+            run,
+            client,
+            locality,
+            policy: named.name,
+            place: named.place,
+            goal,
+        }),
+        Err(fault) => {
+            drop(named);
+            Err(fault)
+        }
+    }
 }
 
 #[tactic(auto, unfolding(crate::specs::Scripts::turn_in))]

@@ -63,9 +63,21 @@ fn scene_of(alloc: Global, value: &Value, place: &PlaceRef<'_>) -> Result<Scene,
 {
     check_object(alloc, value, place)?;
     let start = read_start(alloc, value, place)?;
-    let cast = read_cast(alloc, value, place)?;
-    let front = optional_script(alloc, &cast, value, place)?;
-    Ok(scene_with(start, cast, front.events))
+    let cast = match read_cast(alloc, value, place) {
+        Ok(cast) => cast,
+        Err(fault) => {
+            drop(start);
+            return Err(fault);
+        }
+    };
+    match optional_script(alloc, &cast, value, place) {
+        Ok(front) => Ok(scene_with(start, cast, front.events)),
+        Err(fault) => {
+            drop(cast);
+            drop(start);
+            Err(fault)
+        }
+    }
 }
 
 fn scene_with(start: Start, cast: Cast, script: Script) -> Scene
