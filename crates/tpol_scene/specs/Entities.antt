@@ -1,5 +1,5 @@
 -- The entities of a scene.
-use Rattle.std.specs.Prelude.{ℕ, ◌+◌, ◌==◌, ◌&&◌, ◌||◌, not, bit_or, List, [], ◌∷◌, ◌++◌, length, replicate, codes, Bool, Option, Some, None, is_some, Ok, if◌then◌else◌}
+use Rattle.std.specs.Prelude.{ℕ, ◌+◌, ◌==◌, ◌&&◌, ◌||◌, not, bit_or, List, [], ◌∷◌, ◌++◌, length, replicate, codes, Bool, Option, Some, None, is_some, Result, Ok, if◌then◌else◌}
 use Rattle.std.specs.List.{list_any}
 use Rattle.serde_json.specs.Data.{Data}
 use Rattle.serde_json.specs.Find.{get}
@@ -20,13 +20,16 @@ use Rattle.tpol_name.specs.declared.entries.IndexEntry.{IndexEntry}
 use Rattle.tpol_name.specs.declared.entries.ObjectEntry.{ObjectEntry}
 use Rattle.tpol_scene.specs.declared.entities.Entities.{Entities}
 use Rattle.tpol_scene.specs.declared.entities.EntityPolicy.{EntityPolicy}
+use Rattle.tpol_scene.specs.declared.entries.IndexRest.{IndexRest}
+use Rattle.tpol_scene.specs.declared.entries.ObjectRest.{ObjectRest}
+use Rattle.tpol_scene.specs.declared.fault.PartFault.{PartFault}
 use Rattle.tpol_scene.specs.declared.heading.Heading.{Heading}
 use Rattle.tpol_scene.specs.declared.heading.NamedPolicy.{NamedPolicy}
 use Rattle.tpol_scene.specs.declared.heading.PolicySource.{PolicySource}
 use Rattle.tpol_scene.specs.declared.kinds.EntityKind.{EntityKind}
 use Rattle.tpol_scene.specs.declared.kinds.EntityKind.TheVariants.{Seal, Key, Nv}
 use Rattle.tpol_scene.specs.declared.fault.SceneKind.TheVariants.{Twice, BadState}
-use Rattle.tpol_scene.specs.Faults.{Found, bad, read_as}
+use Rattle.tpol_scene.specs.Faults.{Found, GivesBy, bad, read_as}
 use Rattle.tpol_scene.specs.Kinds.{kind_in, least_handle, greatest_handle}
 use Rattle.tpol_scene.specs.Lists.{ItemReading, list_in}
 use Rattle.tpol_scene.specs.Members.{needed, optional}
@@ -91,19 +94,28 @@ heading_in entities d place = do
   policy ← policy_source_in d place
   Ok (record { kind = kind; path = path; handle = handle; auth = auth; policy = policy })
 
+-- an object of this scheme: its heading, and what stands behind it
+abbrev pub object_with : Scheme → Heading → ObjectRest → ObjectEntry
+object_with scheme heading rest = record {
+  path = heading.path;
+  handle = heading.handle;
+  public = record { attributes = rest.attributes; auth_policy = heading.policy.auth_policy; scheme = scheme; unique = rest.unique };
+  auth = heading.auth;
+  secret = rest.secret;
+}
+
 -- an object of this scheme, with its attributes where the scene gives none
 unfoldable pub object_entry_in : Scheme → ℕ → Heading → Data → Place → Found ObjectEntry
 object_entry_in scheme default heading d place = do
   attributes ← optional u32_in default (codes "attributes") d place
   secret ← needed (bytes_up_to 128) (codes "secret") d place
   unique ← optional empty_or_32 [] (codes "unique") d place
-  Ok (record {
-    path = heading.path;
-    handle = heading.handle;
-    public = record { attributes = attributes; auth_policy = heading.policy.auth_policy; scheme = scheme; unique = unique };
-    auth = heading.auth;
-    secret = secret;
-  })
+  Ok (object_with scheme heading (record { attributes = attributes; secret = secret; unique = unique }))
+
+-- a call gives what stands in an object behind its heading, whatever its heading and its scheme
+abbrev pub GivesObjectRest : ℕ → Result ObjectRest PartFault → Data → Place → Type 0
+GivesObjectRest default result d place =
+    (scheme : Scheme) (heading : Heading) → GivesBy (object_with scheme heading) result (object_entry_in scheme default heading d place)
 
 -- the attributes of an index, without WRITTEN and of one of these types
 unfoldable pub index_attributes_in : Data → Place → Found ℕ
@@ -133,22 +145,25 @@ abbrev pub content_or_zeros : Option (List ℕ) → ℕ → List ℕ
 content_or_zeros None size = replicate size 0
 content_or_zeros (Some content) size = content
 
+-- an index: its heading, and what stands behind it
+abbrev pub index_with : Heading → IndexRest → IndexEntry
+index_with heading rest = record {
+  path = heading.path;
+  public = record { index = heading.handle; attributes = rest.attributes; auth_policy = heading.policy.auth_policy; size = rest.size };
+  auth = heading.auth;
+  content = rest.content;
+}
+
 unfoldable pub index_entry_in : Heading → Data → Place → Found IndexEntry
 index_entry_in heading d place = do
   attributes ← needed index_attributes_in (codes "attributes") d place
   size ← needed (index_size_in attributes) (codes "size") d place
   content ← optional (content_in size) None (codes "content") d place
-  Ok (record {
-    path = heading.path;
-    public = record {
-      index = heading.handle;
-      attributes = attributes_with content attributes;
-      auth_policy = heading.policy.auth_policy;
-      size = size;
-    };
-    auth = heading.auth;
-    content = content_or_zeros content size;
-  })
+  Ok (index_with heading (record { attributes = attributes_with content attributes; size = size; content = content_or_zeros content size }))
+
+-- a call gives what stands in an index behind its heading, whatever its heading
+abbrev pub GivesIndexRest : Result IndexRest PartFault → Data → Place → Type 0
+GivesIndexRest result d place = (heading : Heading) → GivesBy (index_with heading) result (index_entry_in heading d place)
 
 -- the policies that entities name, with that of the entity with this handle behind these ones
 abbrev pub policies_with : Entities → ℕ → Option NamedPolicy → List EntityPolicy

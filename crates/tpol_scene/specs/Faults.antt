@@ -47,6 +47,10 @@ cause NoMemory = None
 abbrev pub Gives : {A : Type 0} → Result A PartFault → Found A → Type 0
 Gives = answers.Gives (λ x. x) cause
 
+-- the same of a call whose value stands for what is read
+abbrev pub GivesBy : {X A : Type 0} → (X → A) → Result X PartFault → Found A → Type 0
+GivesBy view = answers.Gives view cause
+
 -- the same of a call that leaves what is read in one of its arguments
 abbrev pub Leaves : {A U : Type 0} → Result U PartFault → A → Found A → Type 0
 Leaves result left = answers.Gives (λ _. left) cause result

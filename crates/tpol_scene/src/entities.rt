@@ -141,9 +141,13 @@ fn add_object(
         (object_behind entities.old scheme default heading (view item.now) place.now) }
 {
     let (object, named) = read_object(alloc, scheme, default, heading, item, place)?;
-    add_policy(entities, object.handle, named)?;
-    entities.objects.push(object)?;
-    Ok(())
+    match add_policy(entities, object.handle, named) {
+        Ok(()) => Ok(entities.objects.push(object)?),
+        Err(NoMemory) => {
+            drop(object);
+            Err(PartFault::NoMemory)
+        }
+    }
 }
 
 fn add_index(
@@ -157,9 +161,13 @@ fn add_index(
         (index_behind entities.old heading (view item.now) place.now) }
 {
     let (index, named) = read_index(alloc, heading, item, place)?;
-    add_policy(entities, index.public.index, named)?;
-    entities.indices.push(index)?;
-    Ok(())
+    match add_policy(entities, index.public.index, named) {
+        Ok(()) => Ok(entities.indices.push(index)?),
+        Err(NoMemory) => {
+            drop(index);
+            Err(PartFault::NoMemory)
+        }
+    }
 }
 
 // Adds the policy that the next entity names.

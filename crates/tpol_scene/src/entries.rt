@@ -3,7 +3,7 @@
 ghost use Rattle.std.specs.Prelude.{◌≡◌, [], codes, IfErr, IfOk, None};
 ghost use Rattle.serde_json.specs.View.{view};
 ghost use Rattle.tpol_scene.specs.declared.fault.PartFault.TheVariants.{NoMemory as no_memory};
-ghost use Rattle.tpol_scene.specs.Entities.{attributes_with, content_in, content_or_zeros, index_and_policy_in, index_attributes_in, index_size_in, object_and_policy_in};
+ghost use Rattle.tpol_scene.specs.Entities.{GivesIndexRest, GivesObjectRest, attributes_with, content_in, content_or_zeros, index_and_policy_in, index_attributes_in, index_size_in, object_and_policy_in};
 ghost use Rattle.tpol_scene.specs.Faults.{Gives};
 ghost use Rattle.tpol_scene.specs.Members.{needed, optional};
 ghost use Rattle.tpol_scene.specs.Values.{bytes_up_to, empty_or_32};
@@ -27,9 +27,22 @@ const MAX_SECRET: usize = 128;
 /// The most bytes of an index's content.
 const MAX_CONTENT: u64 = 2048;
 
+/// What stands in an object behind its heading.
+pub struct ObjectRest {
+    pub attributes: u32,
+    pub secret: Blob,
+    pub unique: Blob,
+}
+
+/// What stands in an index behind its heading.
+pub struct IndexRest {
+    pub attributes: u32,
+    pub size: u16,
+    pub content: Blob,
+}
+
 /// Reads what stands in an object behind its heading. `default` are the attributes of one that gives none.
 /// The policy that it names, if any, is handed back.
-#[tactic(auto, unfolding(crate::specs::Entities::object_entry_in))]
 pub fn read_object(
     alloc: Global,
     scheme: Scheme,
@@ -40,9 +53,7 @@ pub fn read_object(
 ) -> Result<(ObjectEntry, Option<NamedPolicy>), PartFault>
     ensures { Gives result (object_and_policy_in scheme default heading (view item.now) place.now) }
 {
-    let attributes = optional_u32(alloc, item, "attributes", default, place)?;
-    let secret = needed_secret(alloc, item, place)?;
-    let unique = optional_unique(alloc, item, place)?;
+    let rest = object_rest(alloc, default, item, place)?;
     let Heading {
         kind: _,
         path,
@@ -50,6 +61,11 @@ pub fn read_object(
         auth,
         policy: PolicySource { auth_policy, named },
     } = heading;
+    let ObjectRest {
+        attributes,
+        secret,
+        unique,
+    } = rest;
     let public = ObjectPublic {
         attributes,
         auth_policy,
@@ -64,6 +80,25 @@ pub fn read_object(
         secret,
     };
     Ok((object, named))
+}
+
+#[tactic(auto, unfolding(crate::specs::Entities::object_entry_in))]
+fn object_rest(
+    alloc: Global,
+    default: u32,
+    item: &Value,
+    place: &PlaceRef<'_>,
+) -> Result<ObjectRest, PartFault>
+    ensures { GivesObjectRest default result (view item.now) place.now }
+{
+    let attributes = optional_u32(alloc, item, "attributes", default, place)?;
+    let secret = needed_secret(alloc, item, place)?;
+    let unique = optional_unique(alloc, item, place)?;
+    Ok(ObjectRest {
+        attributes,
+        secret,
+        unique,
+    })
 }
 
 // The secret: at most 128 bytes.
@@ -85,7 +120,6 @@ fn optional_unique(alloc: Global, item: &Value, place: &PlaceRef<'_>) -> Result<
 }
 
 /// Reads what stands in an index behind its heading. The policy that it names, if any, is handed back.
-#[tactic(auto, unfolding(crate::specs::Entities::index_entry_in))]
 pub fn read_index(
     alloc: Global,
     heading: Heading,
@@ -94,9 +128,7 @@ pub fn read_index(
 ) -> Result<(IndexEntry, Option<NamedPolicy>), PartFault>
     ensures { Gives result (index_and_policy_in heading (view item.now) place.now) }
 {
-    let attributes = needed_attributes(alloc, item, place)?;
-    let size = needed_size(alloc, attributes, item, place)?;
-    let content = optional_content(alloc, size, item, place)?;
+    let rest = index_rest(alloc, item, place)?;
     let Heading {
         kind: _,
         path,
@@ -104,9 +136,14 @@ pub fn read_index(
         auth,
         policy: PolicySource { auth_policy, named },
     } = heading;
+    let IndexRest {
+        attributes,
+        size,
+        content,
+    } = rest;
     let public = NvPublic {
         index: handle,
-        attributes: attributes_with(&content, attributes),
+        attributes,
         auth_policy,
         size,
     };
@@ -114,9 +151,25 @@ pub fn read_index(
         path,
         public,
         auth,
-        content: content_or_zeros(alloc, content, size)?,
+        content,
     };
     Ok((index, named))
+}
+
+#[tactic(auto, unfolding(crate::specs::Entities::index_entry_in))]
+fn index_rest(alloc: Global, item: &Value, place: &PlaceRef<'_>) -> Result<IndexRest, PartFault>
+    ensures { GivesIndexRest result (view item.now) place.now }
+{
+    let attributes = needed_attributes(alloc, item, place)?;
+    let size = needed_size(alloc, attributes, item, place)?;
+    let content = optional_content(alloc, size, item, place)?;
+    let attributes = attributes_with(&content, attributes);
+    let content = content_or_zeros(alloc, content, size)?;
+    Ok(IndexRest {
+        attributes,
+        size,
+        content,
+    })
 }
 
 fn needed_attributes(alloc: Global, item: &Value, place: &PlaceRef<'_>) -> Result<u32, PartFault>
