@@ -1,5 +1,5 @@
 -- Scenes.
-use Rattle.std.specs.Prelude.{◌≡◌, ℕ, ◌^◌, List, [], ◌++◌, codes, true, false, Some, None, Ok, ⊤}
+use Rattle.std.specs.Prelude.{◌≡◌, ℕ, ◌^◌, List, [], ◌++◌, codes, true, false, Some, None, Result, Ok, ⊤}
 use Rattle.serde_json.specs.Data.{Data}
 use Rattle.tpol_base.specs.Answers.{◌>>=◌}
 use Rattle.tpol_base.specs.Digest.{zero_digest}
@@ -11,16 +11,18 @@ use Rattle.tpol_name.specs.declared.entries.ObjectEntry.{ObjectEntry}
 use Rattle.tpol_name.specs.declared.setup.Setup.{Setup}
 use Rattle.tpol_scene.specs.declared.cast.Cast.{Cast}
 use Rattle.tpol_scene.specs.declared.entities.Entities.{Entities}
+use Rattle.tpol_scene.specs.declared.fault.PartFault.{PartFault}
 use Rattle.tpol_scene.specs.declared.fault.SceneFault.{SceneFault}
 use Rattle.tpol_scene.specs.declared.fault.SceneFault.TheVariants.{NotJson, Bad, NoMemory}
 use Rattle.tpol_scene.specs.declared.start.Authorities.{Authorities}
 use Rattle.tpol_scene.specs.declared.start.Start.{Start}
+use Rattle.tpol_scene.specs.declared.start.StartRest.{StartRest}
 use Rattle.tpol_scene.specs.declared.start.Times.{Times}
 use Rattle.tpol_scene.specs.declared.scene.Scene.{Scene}
 use Rattle.tpol_scene.specs.declared.script.ScriptEvent.{ScriptEvent}
 use Rattle.tpol_scene.specs.Clients.{ClientList, client_in, clients_in}
 use Rattle.tpol_scene.specs.Entities.{entity_in, entities_in, no_entities}
-use Rattle.tpol_scene.specs.Faults.{Fault, Found, first_of}
+use Rattle.tpol_scene.specs.Faults.{Fault, Found, GivesBy, first_of}
 use Rattle.tpol_scene.specs.Lists.{faults_of, list_faults, optional_faults, optional_kept}
 use Rattle.tpol_scene.specs.Members.{optional}
 use Rattle.tpol_scene.specs.Pcrs.{pcr_in, pcrs_in, zero_bank}
@@ -50,14 +52,32 @@ times_in d place = do
   presence ← optional truth_in false (codes "presence") d place
   Ok (record { time = time; reset_count = reset_count; restart_count = restart_count; safe = safe; presence = presence })
 
+-- the authorities, and what stands behind them
+abbrev pub start_with : Authorities → StartRest → Start
+start_with authorities rest = record {
+  authorities = authorities;
+  pcrs = rest.pcrs;
+  pcr_counter = rest.pcr_counter;
+  times = rest.times;
+}
+
+-- what stands behind these authorities
+abbrev pub start_behind : Authorities → Data → Place → Found Start
+start_behind authorities d place = do
+  bank ← optional pcrs_in zero_bank (codes "pcrs") d place
+  pcr_counter ← optional u32_in 0 (codes "pcrCounter") d place
+  times ← times_in d place
+  Ok (start_with authorities (record { pcrs = bank.values; pcr_counter = pcr_counter; times = times }))
+
+-- a call gives what stands behind the authorities, whatever they are
+abbrev pub GivesStartRest : Result StartRest PartFault → Data → Place → Type 0
+GivesStartRest result d place = (authorities : Authorities) → GivesBy (start_with authorities) result (start_behind authorities d place)
+
 -- what a machine starts from but for its entities
 unfoldable pub start_in : Data → Place → Found Start
 start_in d place = do
   authorities ← authorities_in d place
-  bank ← optional pcrs_in zero_bank (codes "pcrs") d place
-  pcr_counter ← optional u32_in 0 (codes "pcrCounter") d place
-  times ← times_in d place
-  Ok (record { authorities = authorities; pcrs = bank.values; pcr_counter = pcr_counter; times = times })
+  start_behind authorities d place
 
 -- the entities and the clients
 unfoldable pub cast_in : Data → Place → Found Cast

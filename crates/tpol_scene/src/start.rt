@@ -5,7 +5,7 @@ ghost use Rattle.serde_json.specs.View.{view};
 ghost use Rattle.tpol_base.specs.Digest.{zero_digest};
 ghost use Rattle.tpol_scene.specs.Faults.{Gives};
 ghost use Rattle.tpol_scene.specs.Members.{optional};
-ghost use Rattle.tpol_scene.specs.Scenes.{authorities_in, setup_with, start_in, time_in, times_in};
+ghost use Rattle.tpol_scene.specs.Scenes.{GivesStartRest, authorities_in, setup_with, start_in, time_in, times_in};
 ghost use Rattle.tpol_scene.specs.Values.{digest_in};
 
 use crate::fault::PartFault;
@@ -37,6 +37,13 @@ pub struct Authorities {
     pub owner: Blob,
     pub endorsement: Blob,
     pub lockout: Blob,
+}
+
+/// What stands behind the authorities: the values of the PCRs, how often they were extended, and the clock.
+pub struct StartRest {
+    pub pcrs: Digests,
+    pub pcr_counter: u32,
+    pub times: Times,
 }
 
 /// The time in milliseconds, the counts of resets and restarts, and whether somebody is at the machine.
@@ -88,11 +95,31 @@ pub fn read_start(alloc: Global, value: &Value, place: &PlaceRef<'_>) -> Result<
     ensures { Gives result (start_in (view value.now) place.now) }
 {
     let authorities = authorities_of(alloc, value, place)?;
+    match start_rest(alloc, value, place) {
+        Ok(StartRest {
+            pcrs,
+            pcr_counter,
+            times,
+        }) => Ok(Start {
+            authorities,
+            pcrs,
+            pcr_counter,
+            times,
+        }),
+        Err(fault) => {
+            drop(authorities);
+            Err(fault)
+        }
+    }
+}
+
+fn start_rest(alloc: Global, value: &Value, place: &PlaceRef<'_>) -> Result<StartRest, PartFault>
+    ensures { GivesStartRest result (view value.now) place.now }
+{
     let bank = optional_pcrs(alloc, value, place)?;
     let pcr_counter = optional_u32(alloc, value, "pcrCounter", 0, place)?;
     let times = times_of(alloc, value, place)?;
-    Ok(Start {
-        authorities,
+    Ok(StartRest {
         pcrs: Digests::from_slice(alloc, &bank.values)?,
         pcr_counter,
         times,
