@@ -221,6 +221,7 @@ fn index_size(
     }
 }
 
+// A content of this size.
 fn optional_content(
     alloc: Global,
     size: u16,
@@ -229,26 +230,15 @@ fn optional_content(
 ) -> Result<Option<Blob>, PartFault>
     ensures { Gives result (optional (content_in size) None (codes "content") (view item.now) place.now) }
 {
-    match member(item, "content") {
-        Some(content) => content_of(alloc, size, content, &place.member("content")),
-        None => Ok(None),
-    }
-}
-
-// A content of this size.
-fn content_of(
-    alloc: Global,
-    size: u16,
-    value: &Value,
-    place: &PlaceRef<'_>,
-) -> Result<Option<Blob>, PartFault>
-    ensures { Gives result (content_in size (view value.now) place.now) }
-{
-    let content = any_bytes(alloc, value, place)?;
+    let Some(content) = member(item, "content") else {
+        return Ok(None);
+    };
+    let place = place.member("content");
+    let content = any_bytes(alloc, content, &place)?;
     if content.len() == size as usize {
         Ok(Some(content))
     } else {
-        refuse(alloc, SceneKind::BadState, place)
+        refuse(alloc, SceneKind::BadState, &place)
     }
 }
 
