@@ -1,8 +1,8 @@
 //! The clients of a scene, and what each may use.
 
-ghost use Rattle.std.specs.Prelude.{◌≡◌, [], codes};
+ghost use Rattle.std.specs.Prelude.{[], codes};
 ghost use Rattle.serde_json.specs.View.{view};
-ghost use Rattle.tpol_scene.specs.Clients.{clients_in, is_client, listed_client_in, new_client_in};
+ghost use Rattle.tpol_scene.specs.Clients.{clients_in, listed_client_in, new_client_in};
 ghost use Rattle.tpol_scene.specs.Faults.{Gives};
 ghost use Rattle.tpol_scene.specs.Members.{needed, optional};
 
@@ -10,7 +10,7 @@ use crate::SceneKind;
 use crate::entities::Entities;
 use crate::fault::{PartFault, refuse};
 use crate::grants::{GrantKind, optional_grants};
-use crate::lists::{ItemReader, optional_list};
+use crate::lists::{ItemReader, has_number, optional_list};
 use serde_json::Value;
 use std::alloc::Global;
 use tpol_base::Sequence;
@@ -91,7 +91,7 @@ fn needed_new_client(
 {
     let (client, place) = needed(alloc, item, "client", place)?;
     let client = unsigned_32(alloc, client, &place)?;
-    if is_client(clients, client) {
+    if has_number(clients, client) {
         refuse(alloc, SceneKind::Twice, &place)
     } else {
         Ok(client)
@@ -109,15 +109,10 @@ pub fn needed_listed_client(
 {
     let (client, place) = needed(alloc, item, "client", place)?;
     let client = unsigned_32(alloc, client, &place)?;
-    if is_client(clients, client) {
+    if has_number(clients, client) {
         Ok(client)
     } else {
         refuse(alloc, SceneKind::NoSuchClient, &place)
     }
 }
 
-fn is_client(clients: &[(u32, Grants)], client: u32) -> bool
-    ensures { result ≡ is_client clients.now client }
-{
-    clients.iter().any(|listed| listed.0 == client)
-}

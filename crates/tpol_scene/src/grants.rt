@@ -2,7 +2,7 @@
 
 ghost use Rattle.std.specs.Prelude.{◌≡◌, [], codes};
 ghost use Rattle.serde_json.specs.View.{view};
-ghost use Rattle.tpol_scene.specs.Clients.{grant_target, grant_value_in, grants_in, has_value, new_target_in};
+ghost use Rattle.tpol_scene.specs.Clients.{grant_target, grant_value_in, grants_in, new_target_in};
 ghost use Rattle.tpol_scene.specs.Faults.{Gives};
 ghost use Rattle.tpol_scene.specs.Members.{needed, optional};
 ghost use Rattle.tpol_scene.specs.Values.{bytes_up_to};
@@ -10,7 +10,7 @@ ghost use Rattle.tpol_scene.specs.Values.{bytes_up_to};
 use crate::SceneKind;
 use crate::entities::Entities;
 use crate::fault::{PartFault, refuse};
-use crate::lists::{ItemReader, optional_list};
+use crate::lists::{ItemReader, has_number, optional_list};
 use crate::members::optional_auth;
 use crate::targets::{Target, target_of};
 use serde_json::Value;
@@ -125,15 +125,9 @@ fn needed_new_target(
 {
     let (path, place) = needed(alloc, item, "path", place)?;
     let handle = target_of(alloc, entities, target, path, &place)?;
-    if has_value(values, handle) {
+    if has_number(values, handle) {
         refuse(alloc, SceneKind::Twice, &place)
     } else {
         Ok(handle)
     }
-}
-
-fn has_value(values: &[(u32, Blob)], handle: u32) -> bool
-    ensures { result ≡ has_value values.now handle }
-{
-    values.iter().any(|value| value.0 == handle)
 }

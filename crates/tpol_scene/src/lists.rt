@@ -1,5 +1,7 @@
 //! Lists whose items are read in order, each beside what the items before it gave.
 
+ghost use Rattle.std.specs.Prelude.{◌≡◌, ◌==◌};
+ghost use Rattle.std.specs.List.{list_any};
 ghost use Rattle.serde_json.specs.View.{view, items_view};
 ghost use Rattle.tpol_json.specs.Members.{items_from};
 ghost use Rattle.tpol_scene.specs.Faults.{Gives};
@@ -77,4 +79,11 @@ fn list_of_items<T: Drop, R: ItemReader<T>>(
         reader.read_item(alloc, &mut read, index, item, &(&*place).item(index))?;
     }
     Ok(read)
+}
+
+/// Whether one of the entries has this number.
+pub fn has_number<T>(entries: &[(u32, T)], number: u32) -> bool
+    ensures { result ≡ list_any (λ entry. entry.0 == number) entries.now }
+{
+    entries.iter().any(|entry| entry.0 == number)
 }
