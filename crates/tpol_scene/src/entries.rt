@@ -6,19 +6,19 @@ ghost use Rattle.tpol_scene.specs.declared.fault.PartFault.TheVariants.{NoMemory
 ghost use Rattle.tpol_scene.specs.Entities.{GivesIndexRest, GivesObjectRest, attributes_with, content_in, content_or_zeros, index_and_policy_in, index_attributes_in, index_size_in, object_and_policy_in};
 ghost use Rattle.tpol_scene.specs.Faults.{Gives};
 ghost use Rattle.tpol_scene.specs.Members.{needed, optional};
-ghost use Rattle.tpol_scene.specs.Values.{bytes_up_to, empty_or_32};
+ghost use Rattle.tpol_scene.specs.Values.{empty_or_32};
 
 use crate::SceneKind;
 use crate::fault::{PartFault, refuse};
 use crate::heading::{Heading, NamedPolicy, PolicySource};
-use crate::members::{any_bytes, optional_u32};
+use crate::members::{any_bytes, needed_bytes, optional_u32};
 use serde_json::Value;
 use std::alloc::Global;
 use tpol_base::Blob;
 use tpol_base::attributes::{
     NV_WRITTEN, has_attribute, index_type, is_index_type, is_size_of_type,
 };
-use tpol_json::{PlaceRef, bytes_up_to, empty_or_32, member, needed, unsigned, unsigned_32};
+use tpol_json::{PlaceRef, empty_or_32, member, needed, unsigned, unsigned_32};
 use tpol_name::{IndexEntry, NvPublic, ObjectEntry, ObjectPublic, Scheme};
 
 /// The most bytes of an object's secret.
@@ -92,21 +92,13 @@ fn object_rest(
     ensures { GivesObjectRest default result (view item.now) place.now }
 {
     let attributes = optional_u32(alloc, item, "attributes", default, place)?;
-    let secret = needed_secret(alloc, item, place)?;
+    let secret = needed_bytes(alloc, item, "secret", MAX_SECRET, place)?;
     let unique = optional_unique(alloc, item, place)?;
     Ok(ObjectRest {
         attributes,
         secret,
         unique,
     })
-}
-
-// The secret: at most 128 bytes.
-fn needed_secret(alloc: Global, item: &Value, place: &PlaceRef<'_>) -> Result<Blob, PartFault>
-    ensures { Gives result (needed (bytes_up_to 128) (codes "secret") (view item.now) place.now) }
-{
-    let (secret, place) = needed(alloc, item, "secret", place)?;
-    Ok(bytes_up_to(alloc, secret, MAX_SECRET, &place)?)
 }
 
 // The unique field: 32 bytes, or none, also without the member.

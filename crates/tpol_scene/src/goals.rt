@@ -8,18 +8,18 @@ ghost use Rattle.tpol_scene.specs.Goals.{duplicate_in, goal_by, goal_command_in,
 ghost use Rattle.tpol_scene.specs.declared.targets.Target.TheVariants as targets;
 ghost use Rattle.tpol_scene.specs.Members.{needed, optional};
 ghost use Rattle.tpol_scene.specs.Targets.{target_in};
-ghost use Rattle.tpol_scene.specs.Values.{bytes_up_to, unsigned_in};
+ghost use Rattle.tpol_scene.specs.Values.{unsigned_in};
 
 use crate::SceneKind;
 use crate::entities::Entities;
 use crate::fault::{PartFault, refuse};
+use crate::members::needed_bytes;
 use crate::targets::{Target, needed_target, target_of};
 use serde_json::Value;
 use std::alloc::Global;
-use tpol_base::Blob;
 use tpol_base::handle::TPM_RH_NULL;
 use tpol_goal::Goal;
-use tpol_json::{PlaceRef, bytes_up_to, check_object, member, needed, unsigned, word};
+use tpol_json::{PlaceRef, check_object, member, needed, unsigned, word};
 
 /// The most bytes of a goal's buffer, and of what is read from or written into an index at once.
 const MAX_BYTES: usize = 1024;
@@ -136,7 +136,7 @@ fn goal_by(
 fn hmac(alloc: Global, key: u32, value: &Value, place: &PlaceRef<'_>) -> Result<Goal, PartFault>
     ensures { Gives result (hmac_in key (view value.now) place.now) }
 {
-    let buffer = needed_bytes(alloc, value, "buffer", place)?;
+    let buffer = needed_bytes(alloc, value, "buffer", MAX_BYTES, place)?;
     Ok(Goal::Hmac { key, buffer })
 }
 
@@ -167,7 +167,7 @@ fn nv_write(
 ) -> Result<Goal, PartFault>
     ensures { Gives result (nv_write_in index (view value.now) place.now) }
 {
-    let bytes = needed_bytes(alloc, value, "bytes", place)?;
+    let bytes = needed_bytes(alloc, value, "bytes", MAX_BYTES, place)?;
     let offset = optional_offset(alloc, value, place)?;
     Ok(Goal::NvWrite {
         index,
@@ -211,19 +211,6 @@ fn optional_parent(
         }
         None => Ok(TPM_RH_NULL),
     }
-}
-
-// At most 1,024 bytes.
-fn needed_bytes(
-    alloc: Global,
-    value: &Value,
-    name: &str,
-    place: &PlaceRef<'_>,
-) -> Result<Blob, PartFault>
-    ensures { Gives result (needed (bytes_up_to 1024) name.now (view value.now) place.now) }
-{
-    let (bytes, place) = needed(alloc, value, name, place)?;
-    Ok(bytes_up_to(alloc, bytes, MAX_BYTES, &place)?)
 }
 
 // How many bytes are read: at most 1,024.

@@ -5,19 +5,18 @@ ghost use Rattle.serde_json.specs.View.{view};
 ghost use Rattle.tpol_scene.specs.Clients.{grant_target, grant_value_in, grants_in, new_target_in};
 ghost use Rattle.tpol_scene.specs.Faults.{Gives};
 ghost use Rattle.tpol_scene.specs.Members.{needed, optional};
-ghost use Rattle.tpol_scene.specs.Values.{bytes_up_to};
 
 use crate::SceneKind;
 use crate::entities::Entities;
 use crate::fault::{PartFault, refuse};
 use crate::lists::{ItemReader, has_number, optional_list};
-use crate::members::optional_auth;
+use crate::members::{needed_bytes, optional_auth};
 use crate::targets::{Target, target_of};
 use serde_json::Value;
 use std::alloc::Global;
 use tpol_base::{Blob, Sequence};
 use tpol_goal::Secrets;
-use tpol_json::{PlaceRef, bytes_up_to, check_object, needed};
+use tpol_json::{PlaceRef, check_object, needed};
 
 /// The most bytes of an HMAC key.
 const MAX_KEY: usize = 128;
@@ -100,16 +99,8 @@ fn grant_value(
 {
     match kind {
         GrantKind::Secret => optional_auth(alloc, item, "auth", place),
-        GrantKind::Key => needed_key(alloc, item, place),
+        GrantKind::Key => needed_bytes(alloc, item, "key", MAX_KEY, place),
     }
-}
-
-// An HMAC key: at most 128 bytes.
-fn needed_key(alloc: Global, item: &Value, place: &PlaceRef<'_>) -> Result<Blob, PartFault>
-    ensures { Gives result (needed (bytes_up_to 128) (codes "key") (view item.now) place.now) }
-{
-    let (key, place) = needed(alloc, item, "key", place)?;
-    Ok(bytes_up_to(alloc, key, MAX_KEY, &place)?)
 }
 
 // The handle of the entity that `path` names, for which no value was granted before.

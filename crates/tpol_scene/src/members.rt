@@ -8,7 +8,7 @@ ghost use Rattle.tpol_json.specs.Faults as members;
 ghost use Rattle.tpol_json.specs.Reading as json;
 ghost use Rattle.tpol_scene.specs.Faults.{Gives};
 ghost use Rattle.tpol_scene.specs.Members.{needed, optional};
-ghost use Rattle.tpol_scene.specs.Values.{auth_in, truth_in, u32_in, without_zeros};
+ghost use Rattle.tpol_scene.specs.Values.{auth_in, bytes_up_to, truth_in, u32_in, without_zeros};
 
 use crate::fault::PartFault;
 use serde_json::Value;
@@ -45,6 +45,20 @@ pub fn needed_u32(
 {
     let (number, place) = needed(alloc, value, name, place)?;
     Ok(unsigned_32(alloc, number, &place)?)
+}
+
+/// At most `limit` bytes.
+pub fn needed_bytes(
+    alloc: Global,
+    value: &Value,
+    name: &str,
+    limit: usize,
+    place: &PlaceRef<'_>,
+) -> Result<Blob, PartFault>
+    ensures { Gives result (needed (bytes_up_to limit) name.now (view value.now) place.now) }
+{
+    let (bytes, place) = needed(alloc, value, name, place)?;
+    Ok(bytes_up_to(alloc, bytes, limit, &place)?)
 }
 
 /// Bytes of any number.
