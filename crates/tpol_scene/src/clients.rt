@@ -75,8 +75,9 @@ impl<'a> ItemReader<Clients> for ClientReader<'a> {
             place,
         )?;
         let keys = optional_grants(alloc, self.entities, GrantKind::Key, item, "keys", place)?;
-        clients.push((client, Grants { secrets, keys }))?;
-        Ok(())
+        clients
+            .push((client, Grants { secrets, keys }))
+            .map_err(PartFault::from)
     }
 }
 

@@ -142,7 +142,7 @@ fn add_object(
 {
     let (object, named) = read_object(alloc, scheme, default, heading, item, place)?;
     match add_policy(entities, object.handle, named) {
-        Ok(()) => Ok(entities.objects.push(object)?),
+        Ok(()) => entities.objects.push(object).map_err(PartFault::from),
         Err(NoMemory) => {
             drop(object);
             Err(PartFault::NoMemory)
@@ -162,7 +162,7 @@ fn add_index(
 {
     let (index, named) = read_index(alloc, heading, item, place)?;
     match add_policy(entities, index.public.index, named) {
-        Ok(()) => Ok(entities.indices.push(index)?),
+        Ok(()) => entities.indices.push(index).map_err(PartFault::from),
         Err(NoMemory) => {
             drop(index);
             Err(PartFault::NoMemory)

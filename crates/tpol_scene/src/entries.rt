@@ -106,7 +106,9 @@ fn optional_unique(alloc: Global, item: &Value, place: &PlaceRef<'_>) -> Result<
     ensures { Gives result (optional empty_or_32 [] (codes "unique") (view item.now) place.now) }
 {
     match member(item, "unique") {
-        Some(unique) => Ok(empty_or_32(alloc, unique, &place.member("unique"))?),
+        Some(unique) => {
+            empty_or_32(alloc, unique, &place.member("unique")).map_err(PartFault::from)
+        }
         None => Ok(Blob::new(alloc)),
     }
 }

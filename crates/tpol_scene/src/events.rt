@@ -195,7 +195,7 @@ fn needed_buffer(alloc: Global, item: &Value, place: &PlaceRef<'_>) -> Result<Bl
     ensures { Gives result (needed buffer_in (codes "bytes") (view item.now) place.now) }
 {
     let (bytes, place) = needed(alloc, item, "bytes", place)?;
-    Ok(any_bytes(alloc, bytes, &place)?)
+    any_bytes(alloc, bytes, &place).map_err(PartFault::from)
 }
 
 // The name of the policy, and where it stands.

@@ -75,8 +75,7 @@ impl<'a> ItemReader<Secrets> for GrantReader<'a> {
             place,
         )?;
         let value = grant_value(alloc, self.kind, item, place)?;
-        values.push((handle, value))?;
-        Ok(())
+        values.push((handle, value)).map_err(PartFault::from)
     }
 }
 

@@ -44,7 +44,7 @@ pub fn needed_u32(
     ensures { Gives result (needed u32_in name.now (view value.now) place.now) }
 {
     let (number, place) = needed(alloc, value, name, place)?;
-    Ok(unsigned_32(alloc, number, &place)?)
+    unsigned_32(alloc, number, &place).map_err(PartFault::from)
 }
 
 /// At most `limit` bytes.
@@ -58,7 +58,7 @@ pub fn needed_bytes(
     ensures { Gives result (needed (bytes_up_to limit) name.now (view value.now) place.now) }
 {
     let (bytes, place) = needed(alloc, value, name, place)?;
-    Ok(bytes_up_to(alloc, bytes, limit, &place)?)
+    bytes_up_to(alloc, bytes, limit, &place).map_err(PartFault::from)
 }
 
 /// Bytes of any number.
@@ -79,7 +79,9 @@ pub fn optional_u32(
     ensures { Gives result (optional u32_in default name.now (view value.now) place.now) }
 {
     match member(value, name) {
-        Some(number) => Ok(unsigned_32(alloc, number, &place.member(name))?),
+        Some(number) => {
+            unsigned_32(alloc, number, &place.member(name)).map_err(PartFault::from)
+        }
         None => Ok(default),
     }
 }
@@ -95,7 +97,7 @@ pub fn optional_truth(
     ensures { Gives result (optional truth_in default name.now (view value.now) place.now) }
 {
     match member(value, name) {
-        Some(flag) => Ok(truth(alloc, flag, &place.member(name))?),
+        Some(flag) => truth(alloc, flag, &place.member(name)).map_err(PartFault::from),
         None => Ok(default),
     }
 }
@@ -105,7 +107,7 @@ fn auth_of(alloc: Global, value: &Value, place: &PlaceRef<'_>) -> Result<Blob, P
     ensures { Gives result (auth_in (view value.now) place.now) }
 {
     let bytes = bytes_up_to(alloc, value, MAX_AUTH, place)?;
-    Ok(Blob::from_slice(alloc, without_zeros(bytes.as_slice()))?)
+    Blob::from_slice(alloc, without_zeros(bytes.as_slice())).map_err(PartFault::from)
 }
 
 // The bytes without the zero bytes at their end.

@@ -108,7 +108,7 @@ fn needed_digest(alloc: Global, item: &Value, place: &PlaceRef<'_>) -> Result<Di
     ensures { Gives result (needed digest_in (codes "digest") (view item.now) place.now) }
 {
     let (value, place) = needed(alloc, item, "digest", place)?;
-    Ok(digest(alloc, value, &place)?)
+    digest(alloc, value, &place).map_err(PartFault::from)
 }
 
 // Whether the PCR was given a value before.

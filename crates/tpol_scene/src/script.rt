@@ -108,8 +108,7 @@ impl<'a> ItemReader<ScriptFront> for EventReader<'a> {
         check_object(alloc, item, place)?;
         let kind = needed_event_kind(alloc, item, place)?;
         let event = event_by(alloc, kind, self.cast, front.runs.as_slice(), item, place)?;
-        add_event(front, event)?;
-        Ok(())
+        add_event(front, event).map_err(PartFault::from)
     }
 }
 

@@ -151,7 +151,7 @@ fn optional_seed(alloc: Global, value: &Value, place: &PlaceRef<'_>) -> Result<D
     ensures { Gives result (optional digest_in zero_digest (codes "seed") (view value.now) place.now) }
 {
     match member(value, "seed") {
-        Some(seed) => Ok(digest(alloc, seed, &place.member("seed"))?),
+        Some(seed) => digest(alloc, seed, &place.member("seed")).map_err(PartFault::from),
         None => Ok(zero_digest()),
     }
 }
@@ -179,7 +179,9 @@ fn optional_time(alloc: Global, value: &Value, place: &PlaceRef<'_>) -> Result<u
     ensures { Gives result (optional time_in 0 (codes "time") (view value.now) place.now) }
 {
     match member(value, "time") {
-        Some(time) => Ok(unsigned(alloc, time, 0, MAX_TIME, &place.member("time"))?),
+        Some(time) => {
+            unsigned(alloc, time, 0, MAX_TIME, &place.member("time")).map_err(PartFault::from)
+        }
         None => Ok(0),
     }
 }
