@@ -24,6 +24,11 @@ pub fn read_cast(alloc: Global, value: &Value, place: &PlaceRef<'_>) -> Result<C
     ensures { Gives result (cast_in (view value.now) place.now) }
 {
     let entities = optional_entities(alloc, value, place)?;
-    let clients = optional_clients(alloc, &entities, value, place)?;
-    Ok(Cast { entities, clients })
+    match optional_clients(alloc, &entities, value, place) {
+        Ok(clients) => Ok(Cast { entities, clients }),
+        Err(fault) => {
+            drop(entities);
+            Err(fault)
+        }
+    }
 }

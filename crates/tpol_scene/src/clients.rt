@@ -11,11 +11,12 @@ use crate::entities::Entities;
 use crate::fault::{PartFault, refuse};
 use crate::grants::{GrantKind, optional_grants};
 use crate::lists::{ItemReader, has_number, optional_list};
+use crate::members::needed_u32;
 use serde_json::Value;
 use std::alloc::Global;
 use tpol_base::Sequence;
 use tpol_goal::Grants;
-use tpol_json::{PlaceRef, check_limit, check_object, needed, unsigned_32};
+use tpol_json::{PlaceRef, check_limit, check_object};
 
 /// The most clients of a scene.
 const CLIENTS: usize = 64;
@@ -82,6 +83,7 @@ impl<'a> ItemReader<Clients> for ClientReader<'a> {
 }
 
 // The number of a client that was not listed before.
+#[tactic(auto, using(crate::proofs::BindLemmas::new_client))]
 fn needed_new_client(
     alloc: Global,
     clients: &[(u32, Grants)],
@@ -90,16 +92,16 @@ fn needed_new_client(
 ) -> Result<u32, PartFault>
     ensures { Gives result (needed (new_client_in clients.now) (codes "client") (view item.now) place.now) }
 {
-    let (client, place) = needed(alloc, item, "client", place)?;
-    let client = unsigned_32(alloc, client, &place)?;
+    let client = needed_u32(alloc, item, "client", place)?;
     if has_number(clients, client) {
-        refuse(alloc, SceneKind::Twice, &place)
+        refuse(alloc, SceneKind::Twice, &place.member("client"))
     } else {
         Ok(client)
     }
 }
 
 /// The number of a client that is listed. Another number is `NoSuchClient`.
+#[tactic(auto, using(crate::proofs::BindLemmas::listed_client))]
 pub fn needed_listed_client(
     alloc: Global,
     clients: &[(u32, Grants)],
@@ -108,12 +110,11 @@ pub fn needed_listed_client(
 ) -> Result<u32, PartFault>
     ensures { Gives result (needed (listed_client_in clients.now) (codes "client") (view item.now) place.now) }
 {
-    let (client, place) = needed(alloc, item, "client", place)?;
-    let client = unsigned_32(alloc, client, &place)?;
+    let client = needed_u32(alloc, item, "client", place)?;
     if has_number(clients, client) {
         Ok(client)
     } else {
-        refuse(alloc, SceneKind::NoSuchClient, &place)
+        refuse(alloc, SceneKind::NoSuchClient, &place.member("client"))
     }
 }
 

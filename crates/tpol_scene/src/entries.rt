@@ -53,7 +53,13 @@ pub fn read_object(
 ) -> Result<(ObjectEntry, Option<NamedPolicy>), PartFault>
     ensures { Gives result (object_and_policy_in scheme default heading (view item.now) place.now) }
 {
-    let rest = object_rest(alloc, default, item, place)?;
+    let rest = match object_rest(alloc, default, item, place) {
+        Ok(rest) => rest,
+        Err(fault) => {
+            drop(heading);
+            return Err(fault);
+        }
+    };
     let Heading {
         kind: _,
         path,
@@ -122,7 +128,13 @@ pub fn read_index(
 ) -> Result<(IndexEntry, Option<NamedPolicy>), PartFault>
     ensures { Gives result (index_and_policy_in heading (view item.now) place.now) }
 {
-    let rest = index_rest(alloc, item, place)?;
+    let rest = match index_rest(alloc, item, place) {
+        Ok(rest) => rest,
+        Err(fault) => {
+            drop(heading);
+            return Err(fault);
+        }
+    };
     let Heading {
         kind: _,
         path,

@@ -11,12 +11,12 @@ use crate::entities::Entities;
 use crate::fault::{PartFault, refuse};
 use crate::lists::{ItemReader, has_number, optional_list};
 use crate::members::{needed_bytes, optional_auth};
-use crate::targets::{Target, target_of};
+use crate::targets::{Target, needed_target};
 use serde_json::Value;
 use std::alloc::Global;
 use tpol_base::{Blob, Sequence};
 use tpol_goal::Secrets;
-use tpol_json::{PlaceRef, check_object, needed};
+use tpol_json::{PlaceRef, check_object};
 
 /// The most bytes of an HMAC key.
 const MAX_KEY: usize = 128;
@@ -103,6 +103,7 @@ fn grant_value(
 }
 
 // The handle of the entity that `path` names, for which no value was granted before.
+#[tactic(auto, using(crate::proofs::BindLemmas::new_target))]
 fn needed_new_target(
     alloc: Global,
     entities: &Entities,
@@ -113,10 +114,9 @@ fn needed_new_target(
 ) -> Result<u32, PartFault>
     ensures { Gives result (needed (new_target_in entities.now target values.now) (codes "path") (view item.now) place.now) }
 {
-    let (path, place) = needed(alloc, item, "path", place)?;
-    let handle = target_of(alloc, entities, target, path, &place)?;
+    let handle = needed_target(alloc, entities, target, item, "path", place)?;
     if has_number(values, handle) {
-        refuse(alloc, SceneKind::Twice, &place)
+        refuse(alloc, SceneKind::Twice, &place.member("path"))
     } else {
         Ok(handle)
     }
