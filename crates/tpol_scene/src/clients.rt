@@ -117,4 +117,3 @@ pub fn needed_listed_client(
         refuse(alloc, SceneKind::NoSuchClient, &place.member("client"))
     }
 }
-

@@ -65,20 +65,14 @@ fn event_kind(alloc: Global, value: &Value, place: &PlaceRef<'_>) -> Result<Even
 fn event_of_word(alloc: Global, word: &str, place: &PlaceRef<'_>) -> Result<EventKind, PartFault>
     ensures { Gives result (event_of_word word.now place.now) }
 {
-    if word == "command" {
-        Ok(EventKind::Command)
-    } else if word == "begin" {
-        Ok(EventKind::Begin)
-    } else if word == "turn" {
-        Ok(EventKind::Turn)
-    } else if word == "time" {
-        Ok(EventKind::Time)
-    } else if word == "presence" {
-        Ok(EventKind::Presence)
-    } else if word == "reset" {
-        Ok(EventKind::Reset)
-    } else {
-        refuse(alloc, SceneKind::UnknownKind, place)
+    match word {
+        "command" => Ok(EventKind::Command),
+        "begin" => Ok(EventKind::Begin),
+        "turn" => Ok(EventKind::Turn),
+        "time" => Ok(EventKind::Time),
+        "presence" => Ok(EventKind::Presence),
+        "reset" => Ok(EventKind::Reset),
+        _ => refuse(alloc, SceneKind::UnknownKind, place),
     }
 }
 

@@ -59,13 +59,10 @@ pub fn kind_of(alloc: Global, value: &Value, place: &PlaceRef<'_>) -> Result<Ent
 fn kind_of_word(alloc: Global, word: &str, place: &PlaceRef<'_>) -> Result<EntityKind, PartFault>
     ensures { Gives result (kind_of_word word.now place.now) }
 {
-    if word == "seal" {
-        Ok(EntityKind::Seal)
-    } else if word == "key" {
-        Ok(EntityKind::Key)
-    } else if word == "nv" {
-        Ok(EntityKind::Nv)
-    } else {
-        refuse(alloc, SceneKind::UnknownKind, place)
+    match word {
+        "seal" => Ok(EntityKind::Seal),
+        "key" => Ok(EntityKind::Key),
+        "nv" => Ok(EntityKind::Nv),
+        _ => refuse(alloc, SceneKind::UnknownKind, place),
     }
 }

@@ -79,9 +79,7 @@ pub fn optional_u32(
     ensures { Gives result (optional u32_in default name.now (view value.now) place.now) }
 {
     match member(value, name) {
-        Some(number) => {
-            unsigned_32(alloc, number, &place.member(name)).map_err(PartFault::from)
-        }
+        Some(number) => { unsigned_32(alloc, number, &place.member(name)).map_err(PartFault::from) }
         None => Ok(default),
     }
 }

@@ -95,22 +95,24 @@ pub fn read_start(alloc: Global, value: &Value, place: &PlaceRef<'_>) -> Result<
     ensures { Gives result (start_in (view value.now) place.now) }
 {
     let authorities = authorities_of(alloc, value, place)?;
-    match start_rest(alloc, value, place) {
-        Ok(StartRest {
-            pcrs,
-            pcr_counter,
-            times,
-        }) => Ok(Start {
-            authorities,
-            pcrs,
-            pcr_counter,
-            times,
-        }),
+    let rest = match start_rest(alloc, value, place) {
+        Ok(rest) => rest,
         Err(fault) => {
             drop(authorities);
-            Err(fault)
+            return Err(fault);
         }
-    }
+    };
+    let StartRest {
+        pcrs,
+        pcr_counter,
+        times,
+    } = rest;
+    Ok(Start {
+        authorities,
+        pcrs,
+        pcr_counter,
+        times,
+    })
 }
 
 fn start_rest(alloc: Global, value: &Value, place: &PlaceRef<'_>) -> Result<StartRest, PartFault>
