@@ -26,10 +26,12 @@ there_then : {A B : Type 0} (read : Data → Place → Found A) (next : A → Pl
 there_then read next None at = refl
 there_then read next (Some e) at = refl
 
+-- the same by the name of the member
 needed_then : {A B : Type 0} (read : Data → Place → Found A) (next : A → Place → Found B) (name : List ℕ) (d : Data) (place : Place)
     → needed (λ e p. read e p >>= λ x. next x p) name d place ≡ (needed read name d place >>= λ x. next x (at_member place name))
 needed_then read next name d place = there_then read next (get name d) (at_member place name)
 
+-- the number of a client is read, and then looked up in the list
 pub new_client : (clients : ClientList) (d : Data) (place : Place) → needed (new_client_in clients) (codes "client") d place
     ≡ (needed u32_in (codes "client") d place >>= λ client. if is_client clients client then bad Twice (at_member place (codes "client")) else Ok client)
 new_client clients d place = needed_then u32_in (λ client at. if is_client clients client then bad Twice at else Ok client) (codes "client") d place
@@ -38,6 +40,7 @@ pub listed_client : (clients : ClientList) (d : Data) (place : Place) → needed
     ≡ (needed u32_in (codes "client") d place >>= λ client. if is_client clients client then Ok client else bad NoSuchClient (at_member place (codes "client")))
 listed_client clients d place = needed_then u32_in (λ client at. if is_client clients client then Ok client else bad NoSuchClient at) (codes "client") d place
 
+-- the handle that a path names is found, and then looked up among the values
 pub new_target : (entities : Entities) (target : Target) (values : Values) (d : Data) (place : Place) → needed (new_target_in entities target values) (codes "path") d place
     ≡ (needed (target_in entities target) (codes "path") d place >>= λ handle. if has_value values handle then bad Twice (at_member place (codes "path")) else Ok handle)
 new_target entities target values d place =

@@ -3,7 +3,7 @@
 ghost use Rattle.std.specs.Prelude.{◌≡◌, [], codes, IfErr, IfOk, None};
 ghost use Rattle.serde_json.specs.View.{view};
 ghost use Rattle.tpol_scene.specs.declared.fault.PartFault.TheVariants.{NoMemory as no_memory};
-ghost use Rattle.tpol_scene.specs.Entities.{GivesIndexRest, GivesObjectRest, attributes_with, content_in, content_or_zeros, index_and_policy_in, index_attributes_in, index_size_in, object_and_policy_in};
+ghost use Rattle.tpol_scene.specs.Entities.{GivesIndexRest, GivesObjectRest, attributes_with, content_in, content_or_zeros, index_and_policy_in, index_attributes_in, index_size_in, index_with, object_and_policy_in, object_with};
 ghost use Rattle.tpol_scene.specs.Faults.{Gives};
 ghost use Rattle.tpol_scene.specs.Members.{needed, optional};
 ghost use Rattle.tpol_scene.specs.Values.{empty_or_32};
@@ -53,13 +53,23 @@ pub fn read_object(
 ) -> Result<(ObjectEntry, Option<NamedPolicy>), PartFault>
     ensures { Gives result (object_and_policy_in scheme default heading (view item.now) place.now) }
 {
-    let rest = match object_rest(alloc, default, item, place) {
-        Ok(rest) => rest,
+    match object_rest(alloc, default, item, place) {
+        Ok(rest) => Ok(object_with(scheme, heading, rest)),
         Err(fault) => {
             drop(heading);
-            return Err(fault);
+            Err(fault)
         }
-    };
+    }
+}
+
+// The object, and the policy that its heading names.
+fn object_with(
+    scheme: Scheme,
+    heading: Heading,
+    rest: ObjectRest,
+) -> (ObjectEntry, Option<NamedPolicy>)
+    ensures { result ≡ (object_with scheme heading rest, heading.policy.named) }
+{
     let Heading {
         kind: _,
         path,
@@ -85,9 +95,10 @@ pub fn read_object(
         auth,
         secret,
     };
-    Ok((object, named))
+    (object, named)
 }
 
+// The attributes, the secret and the unique field.
 #[tactic(auto, unfolding(crate::specs::Entities::object_entry_in))]
 fn object_rest(
     alloc: Global,
@@ -128,13 +139,19 @@ pub fn read_index(
 ) -> Result<(IndexEntry, Option<NamedPolicy>), PartFault>
     ensures { Gives result (index_and_policy_in heading (view item.now) place.now) }
 {
-    let rest = match index_rest(alloc, item, place) {
-        Ok(rest) => rest,
+    match index_rest(alloc, item, place) {
+        Ok(rest) => Ok(index_with(heading, rest)),
         Err(fault) => {
             drop(heading);
-            return Err(fault);
+            Err(fault)
         }
-    };
+    }
+}
+
+// The index, and the policy that its heading names.
+fn index_with(heading: Heading, rest: IndexRest) -> (IndexEntry, Option<NamedPolicy>)
+    ensures { result ≡ (index_with heading rest, heading.policy.named) }
+{
     let Heading {
         kind: _,
         path,
@@ -159,9 +176,10 @@ pub fn read_index(
         auth,
         content,
     };
-    Ok((index, named))
+    (index, named)
 }
 
+// The attributes, the size and the content, which is zero bytes where the scene gives none.
 #[tactic(auto, unfolding(crate::specs::Entities::index_entry_in))]
 fn index_rest(alloc: Global, item: &Value, place: &PlaceRef<'_>) -> Result<IndexRest, PartFault>
     ensures { GivesIndexRest result (view item.now) place.now }

@@ -115,6 +115,7 @@ pub fn read_start(alloc: Global, value: &Value, place: &PlaceRef<'_>) -> Result<
     })
 }
 
+// The members `pcrs` to `presence`.
 fn start_rest(alloc: Global, value: &Value, place: &PlaceRef<'_>) -> Result<StartRest, PartFault>
     ensures { GivesStartRest result (view value.now) place.now }
 {
