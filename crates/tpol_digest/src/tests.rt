@@ -216,10 +216,13 @@ fn assertions_of_keys(rt: HostRuntime) -> Result<(), NoMemory> {
     Ok(())
 }
 
+fn has_digest(policy: &Closed, digest: &[u8; 32]) -> bool {
+    digest_of(policy).bytes == *digest
+}
+
 // Whether a policy of these elements has this digest.
 fn digest_is(elements: ClosedElements, digest: &[u8; 32]) -> bool {
-    let policy = Closed { elements };
-    digest_of(&policy).bytes == *digest
+    has_digest(&Closed { elements }, digest)
 }
 
 fn before(
@@ -284,11 +287,19 @@ fn assertion_from_last(alloc: Global, number: u8) -> Result<Assertion, NoMemory>
     }
 }
 
+fn numbered_before(
+    alloc: Global,
+    number: u8,
+    rest: ClosedElements,
+) -> Result<ClosedElements, NoMemory> {
+    let assertion = assertion_from_last(alloc, number)?;
+    assert_before(alloc, assertion, rest)
+}
+
 fn nine(alloc: Global) -> Result<ClosedElements, NoMemory> {
     let mut elements = ClosedElements::End;
     for number in 0..9 {
-        let assertion = assertion_from_last(alloc, number)?;
-        elements = assert_before(alloc, assertion, elements)?;
+        elements = numbered_before(alloc, number, elements)?;
     }
     Ok(elements)
 }
@@ -340,8 +351,7 @@ fn count_ways(alloc: Global, policy: &Closed) -> Result<u32, PathLimit>
 #[test]
 fn branches_start_behind(rt: HostRuntime) -> Result<(), NoMemory> {
     let policy = or_behind_code(rt.alloc())?;
-    assert!(rt; digest_of(&policy).bytes == *OR_BEHIND);
-    assert!(rt; count_ways(rt.alloc(), &policy) == Ok(2));
+    assert!(rt; has_digest(&policy, OR_BEHIND) && count_ways(rt.alloc(), &policy) == Ok(2));
     Ok(())
 }
 
@@ -373,13 +383,17 @@ fn is_outside(alloc: Global, policy: &Closed, position: u32) -> Result<Option<bo
     Ok(Some(path.outside))
 }
 
+fn has_last_outside(alloc: Global, policy: &Closed) -> bool
+    requires { HasBranchCounts policy.now.elements }
+{
+    is_outside(alloc, policy, 1) == Ok(Some(false)) && is_outside(alloc, policy, 2) == Ok(Some(true))
+}
+
 // An AUTHORIZENV that no document meets has its outside path alone.
 #[test]
 fn an_index_approves(rt: HostRuntime) -> Result<(), NoMemory> {
     let policy = secret_or_index(rt.alloc())?;
-    assert!(rt; digest_of(&policy).bytes == *OR_OF_INDEX);
-    assert!(rt; is_outside(rt.alloc(), &policy, 1) == Ok(Some(false)));
-    assert!(rt; is_outside(rt.alloc(), &policy, 2) == Ok(Some(true)));
+    assert!(rt; has_digest(&policy, OR_OF_INDEX) && has_last_outside(rt.alloc(), &policy));
     Ok(())
 }
 
@@ -452,11 +466,6 @@ fn secret_or_value(alloc: Global) -> Result<Closed, NoMemory> {
     })
 }
 
-fn inputs_without_approvals(alloc: Global, policy: &Closed) -> Result<Inputs, NoMemory> {
-    let none = Approvals::new(alloc);
-    inputs_of(alloc, policy, &none)
-}
-
 // Whether the input at this index is this one.
 fn is_input(inputs: &Inputs, index: usize, string: &[u8]) -> bool {
     match inputs.get(index) {
@@ -465,13 +474,19 @@ fn is_input(inputs: &Inputs, index: usize, string: &[u8]) -> bool {
     }
 }
 
+// Whether the policy's digest hashes four inputs, of which the first is the secret's.
+fn has_four_inputs(alloc: Global, policy: &Closed) -> bool {
+    let none = Approvals::new(alloc);
+    match inputs_of(alloc, policy, &none) {
+        Ok(inputs) => inputs.len() == 4 && is_input(&inputs, 0, &first_update()),
+        Err(_) => false,
+    }
+}
+
 #[test]
 fn inputs_of_two_stages(rt: HostRuntime) -> Result<(), NoMemory> {
     let policy = secret_or_value(rt.alloc())?;
-    assert!(rt; digest_of(&policy).bytes == *TWO_STAGES);
-    let inputs = inputs_without_approvals(rt.alloc(), &policy)?;
-    assert!(rt; inputs.len() == 4);
-    assert!(rt; is_input(&inputs, 0, &first_update()));
+    assert!(rt; has_digest(&policy, TWO_STAGES) && has_four_inputs(rt.alloc(), &policy));
     Ok(())
 }
 
@@ -494,25 +509,39 @@ fn or_fact(alloc: Global) -> Result<Fact, NoMemory> {
     Ok(fact(Move::Or(Digests::from_slice(alloc, &digests)?)))
 }
 
-// What a session keeps of a PolicySecret and then a PolicyOR.
-fn two_facts(alloc: Global) -> Result<Facts, NoMemory> {
-    let mut facts = Facts::new(alloc)?;
+fn push_two(facts: &mut Facts, alloc: Global) -> Result<(), NoMemory> {
     let secret = secret(alloc, OWNER, &POLICY_REF)?;
     facts.push(fact(Move::Assert(secret)));
     facts.push(or_fact(alloc)?);
+    Ok(())
+}
+
+// What a session keeps of a PolicySecret and then a PolicyOR.
+fn two_facts(alloc: Global) -> Result<Facts, NoMemory> {
+    let mut facts = Facts::new(alloc)?;
+    push_two(&mut facts, alloc)?;
     Ok(facts)
+}
+
+fn are_three_inputs(inputs: &Inputs) -> bool {
+    inputs.len() == 3
+        && is_input(inputs, 0, &first_update())
+        && is_input(inputs, 1, &second_update())
+        && is_input(inputs, 2, &or_update())
+}
+
+fn hash_three_inputs(alloc: Global, facts: &Facts) -> bool {
+    match inputs_of_facts(alloc, facts) {
+        Ok(inputs) => are_three_inputs(&inputs),
+        Err(_) => false,
+    }
 }
 
 // A PolicySecret and then a PolicyOR hash three strings.
 #[test]
 fn inputs_of_a_session(rt: HostRuntime) -> Result<(), NoMemory> {
     let facts = two_facts(rt.alloc())?;
-    assert!(rt; run_facts(&facts).bytes == *TWO_STAGES);
-    let inputs = inputs_of_facts(rt.alloc(), &facts)?;
-    assert!(rt; inputs.len() == 3);
-    assert!(rt; is_input(&inputs, 0, &first_update()));
-    assert!(rt; is_input(&inputs, 1, &second_update()));
-    assert!(rt; is_input(&inputs, 2, &or_update()));
+    assert!(rt; run_facts(&facts).bytes == *TWO_STAGES && hash_three_inputs(rt.alloc(), &facts));
     Ok(())
 }
 

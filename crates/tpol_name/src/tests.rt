@@ -1,8 +1,8 @@
 //! Outside values: Names that a TPM gives, and paths as the Feature API's key store writes them.
 
 use crate::{
-    IndexEntry, NvPublic, ObjectEntry, ObjectPublic, Scheme, Setup, directory, nv_name,
-    object_name, opening_sight, same_path, written,
+    DirEntry, IndexEntry, NvPublic, ObjectEntry, ObjectPublic, Scheme, Setup, Sight, directory,
+    nv_name, object_name, opening_sight, same_path, written,
 };
 use std::alloc::Global;
 use tpol_base::{Blob, Digest32, Name, NoMemory, Sequence, Text};
@@ -65,32 +65,36 @@ fn owner_index(alloc: Global) -> Result<IndexEntry, NoMemory> {
     })
 }
 
-fn single<T: Drop>(alloc: Global, item: T) -> Result<Sequence<T>, NoMemory> {
-    let mut items = Sequence::new(alloc);
-    items.push(item)?;
-    Ok(items)
-}
-
-fn setup(alloc: Global) -> Result<Setup, NoMemory> {
-    let owner = Blob::from_slice(alloc, b"owner")?;
-    let pcrs = Sequence::from_slice(alloc, &[Digest32::ZERO; 24])?;
-    let objects = single(alloc, approver(alloc)?)?;
-    let indices = single(alloc, owner_index(alloc)?)?;
-    Ok(Setup {
+/// A machine with nothing on it.
+fn empty_setup(alloc: Global) -> Setup {
+    Setup {
         seed: Digest32::ZERO,
-        owner,
+        owner: Blob::new(alloc),
         endorsement: Blob::new(alloc),
         lockout: Blob::new(alloc),
-        pcrs,
+        pcrs: Sequence::new(alloc),
         pcr_counter: 7,
-        objects,
-        indices,
+        objects: Sequence::new(alloc),
+        indices: Sequence::new(alloc),
         time: 1000,
         reset_count: 2,
         restart_count: 3,
         safe: true,
         presence: false,
-    })
+    }
+}
+
+fn fill(setup: &mut Setup, alloc: Global) -> Result<(), NoMemory> {
+    setup.owner = Blob::from_slice(alloc, b"owner")?;
+    setup.pcrs = Sequence::from_slice(alloc, &[Digest32::ZERO; 24])?;
+    setup.objects.push(approver(alloc)?)?;
+    setup.indices.push(owner_index(alloc)?)
+}
+
+fn setup(alloc: Global) -> Result<Setup, NoMemory> {
+    let mut setup = empty_setup(alloc);
+    fill(&mut setup, alloc)?;
+    Ok(setup)
 }
 
 fn digest_in(name: &Name) -> [u8; 32] {
@@ -103,8 +107,7 @@ fn digest_in(name: &Name) -> [u8; 32] {
 #[test]
 fn the_name_of_an_index(rt: HostRuntime) -> Result<(), NoMemory> {
     let index = policy_index(rt.alloc(), 0x220f_1008)?;
-    assert!(rt; written(&index));
-    assert!(rt; digest_in(&nv_name(&index)) == *POLICY_INDEX_DIGEST);
+    assert!(rt; written(&index) && digest_in(&nv_name(&index)) == *POLICY_INDEX_DIGEST);
     Ok(())
 }
 
@@ -145,27 +148,49 @@ fn paths_of_the_key_store(rt: HostRuntime) {
     }
 }
 
+fn shows_what_is_there(sight: &Sight) -> bool {
+    sight.free_sessions == 64
+        && sight.owner.as_slice() == b"owner".as_slice()
+        && sight.objects.len() == 1
+        && sight.indices.len() == 1
+        && sight.pcrs.len() == 24
+}
+
+fn starts(alloc: Global, setup: &Setup) -> bool {
+    match opening_sight(alloc, setup) {
+        Ok(sight) => shows_what_is_there(&sight),
+        Err(_) => false,
+    }
+}
+
 #[test]
 fn what_a_started_machine_shows(rt: HostRuntime) -> Result<(), NoMemory> {
     let setup = setup(rt.alloc())?;
-    let sight = opening_sight(rt.alloc(), &setup)?;
-    assert!(rt; sight.free_sessions == 64);
-    assert!(rt; sight.owner.as_slice() == b"owner".as_slice());
-    assert!(rt; sight.objects.len() == 1);
-    assert!(rt; sight.indices.len() == 1);
-    assert!(rt; sight.pcrs.len() == 24);
+    assert!(rt; starts(rt.alloc(), &setup));
     Ok(())
+}
+
+fn are_key_and_index(lines: &[DirEntry]) -> bool {
+    match lines {
+        [key, index] => {
+            key.handle == 0x8000_0001
+                && index.handle == 0x01c0_7f01
+                && digest_in(&index.name) == *POLICY_INDEX_DIGEST
+        }
+        _ => false,
+    }
+}
+
+fn has_key_and_index(alloc: Global, setup: &Setup) -> bool {
+    match directory(alloc, setup) {
+        Ok(lines) => are_key_and_index(lines.as_slice()),
+        Err(_) => false,
+    }
 }
 
 #[test]
 fn the_lines_of_a_started_machine(rt: HostRuntime) -> Result<(), NoMemory> {
     let setup = setup(rt.alloc())?;
-    let lines = directory(rt.alloc(), &setup)?;
-    let [key, index] = lines.as_slice() else {
-        return Err(NoMemory);
-    };
-    assert!(rt; key.handle == 0x8000_0001);
-    assert!(rt; index.handle == 0x01c0_7f01);
-    assert!(rt; digest_in(&index.name) == *POLICY_INDEX_DIGEST);
+    assert!(rt; has_key_and_index(rt.alloc(), &setup));
     Ok(())
 }

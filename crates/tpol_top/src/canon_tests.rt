@@ -3,10 +3,9 @@
 use crate::Status;
 use crate::tests::prints;
 use std::alloc::{AllocError, Global};
-use std::test::Fail;
 
 // Elements as documents write them, and as canonical text does.
-const ELEMENTS: [(&str, &str); 32] = [
+static ELEMENTS: [(&str, &str); 32] = [
     (
         r#"{"type":"pcr","pcrs":[{"pcr":16,"hashAlg":"tpm2_alg_sha256","digest":"0xABABABABABABABABABABABABABABABABABABABABABABABABABABABABABABABAB"},{"pcr":"0x0","hashAlg":11,"digest":[0,0,0,0,0,0,0,0,0,0,0,0,0,0,0,0,0,0,0,0,0,0,0,0,0,0,0,0,0,0,0,255]}]}"#,
         r#"{"pcrs":[{"digest":"00000000000000000000000000000000000000000000000000000000000000ff","hashAlg":"SHA256","pcr":0},{"digest":"abababababababababababababababababababababababababababababababab","hashAlg":"SHA256","pcr":16}],"type":"POLICYPCR"}"#,
@@ -132,7 +131,7 @@ const ELEMENTS: [(&str, &str); 32] = [
 ];
 
 // Authorizations, in the same way.
-const APPROVALS: [(&str, &str); 4] = [
+static APPROVALS: [(&str, &str); 4] = [
     (
         r#"{"type":"TPM","keyPath":"/k","signature":"0xABABABABABABABABABABABABABABABABABABABABABABABABABABABABABABABAB"}"#,
         r#"{"keyPath":"/k","policyRef":"","signature":"abababababababababababababababababababababababababababababababab","type":"tpm"}"#,
@@ -185,7 +184,8 @@ fn document(alloc: Global, canonical: bool) -> Result<String, AllocError> {
 
 // The line of the canonical text.
 fn canonical_line(alloc: Global) -> Result<String, AllocError> {
-    let mut line = document(alloc, true)?;
+    let mut line = String::new(alloc);
+    push_document(&mut line, true)?;
     line.push_str("\n")?;
     Ok(line)
 }
@@ -198,11 +198,16 @@ fn is_printed(alloc: Global, input: &str) -> bool {
     }
 }
 
-#[test]
-fn every_spelling_has_one_canonical_text(rt: HostRuntime) -> Result<(), Fail> {
-    for canonical in [false, true] {
-        let text = document(rt.alloc(), canonical)?;
-        assert!(rt; is_printed(rt.alloc(), text.as_str()));
+// Whether `canon` prints the canonical text of the document, as it is written or as canonical text is.
+fn is_kept(alloc: Global, canonical: bool) -> bool {
+    match document(alloc, canonical) {
+        Ok(text) => is_printed(alloc, text.as_str()),
+        Err(_) => false,
     }
-    Ok(())
+}
+
+#[test]
+fn every_spelling_has_one_canonical_text(rt: HostRuntime) {
+    assert!(rt; is_kept(rt.alloc(), false));
+    assert!(rt; is_kept(rt.alloc(), true));
 }

@@ -6,7 +6,6 @@
 
 use crate::{Status, policy_main};
 use std::alloc::{AllocError, Global};
-use std::test::Fail;
 use tpol_base::{Failing, Lapse, MemoryShelf, MemorySink, MemorySource, NoMemory, Shelf};
 
 const SECRET: &str =
@@ -101,6 +100,41 @@ fn shelf(alloc: Global, failing: &[u64]) -> Result<Failing<MemoryShelf>, Lapse> 
     Ok(Failing::new(scenes(alloc)?, failing))
 }
 
+// What a run over these objects answers.
+fn answer_over(
+    alloc: Global,
+    words: &Vec<String>,
+    source: &mut Failing<MemorySource>,
+    sink: &mut Failing<MemorySink>,
+    shelf: &mut Failing<MemoryShelf>,
+) -> Status {
+    policy_main(alloc, words, source, sink, shelf)
+}
+
+// The same over a new shelf.
+fn answer_from(
+    alloc: Global,
+    words: &Vec<String>,
+    source: &mut Failing<MemorySource>,
+    sink: &mut Failing<MemorySink>,
+    failing: &[u64],
+) -> Result<Status, Lapse> {
+    let mut shelf = shelf(alloc, failing)?;
+    Ok(answer_over(alloc, words, source, sink, &mut shelf))
+}
+
+// The same over a new source, too.
+fn answer_to(
+    alloc: Global,
+    words: &Vec<String>,
+    input: &[u8],
+    failures: &Failures,
+    sink: &mut Failing<MemorySink>,
+) -> Result<Status, Lapse> {
+    let mut source = source(alloc, input, failures.source)?;
+    answer_from(alloc, words, &mut source, sink, failures.shelf)
+}
+
 // What a run answers that prints to this sink.
 fn answer(
     alloc: Global,
@@ -110,21 +144,7 @@ fn answer(
     sink: &mut Failing<MemorySink>,
 ) -> Result<Status, Lapse> {
     let words = words_of(alloc, words)?;
-    let mut source = source(alloc, input, failures.source)?;
-    let mut shelf = shelf(alloc, failures.shelf)?;
-    Ok(policy_main(alloc, &words, &mut source, sink, &mut shelf))
-}
-
-// What a run answers, and the sink that it printed to.
-fn run(
-    alloc: Global,
-    words: &[&str],
-    input: &[u8],
-    failures: &Failures,
-) -> Result<(Status, Failing<MemorySink>), Lapse> {
-    let mut sink = sink(alloc, failures.sink)?;
-    let status = answer(alloc, words, input, failures, &mut sink)?;
-    Ok((status, sink))
+    answer_to(alloc, &words, input, failures, sink)
 }
 
 // The text that was printed; none where it is not known.
@@ -133,10 +153,7 @@ fn text_of(sink: &Failing<MemorySink>) -> Option<&str> {
 }
 
 fn has_printed(sink: &Failing<MemorySink>, text: &str) -> bool {
-    match text_of(sink) {
-        Some(printed) => printed == text,
-        None => false,
-    }
+    text_of(sink).is_some_and(|printed| printed == text)
 }
 
 // Whether a run with these failures answers so, and prints this text.
@@ -148,8 +165,11 @@ fn ends(
     status: Status,
     text: &str,
 ) -> bool {
-    match run(alloc, words, input.as_bytes(), failures) {
-        Ok((answered, sink)) => answered == status && has_printed(&sink, text),
+    match sink(alloc, failures.sink) {
+        Ok(mut sink) => {
+            answer(alloc, words, input.as_bytes(), failures, &mut sink) == Ok(status)
+                && has_printed(&sink, text)
+        }
         Err(_) => false,
     }
 }
@@ -159,13 +179,32 @@ pub fn prints(alloc: Global, words: &[&str], input: &str, status: Status, text: 
     ends(alloc, words, input, &NO_FAILURES, status, text)
 }
 
+// The input of the first row on which a run does not answer so, and print the row's text; none where all do.
+fn first_other<'a>(
+    alloc: Global,
+    words: &[&str],
+    status: Status,
+    rows: &[(&'a str, &str)],
+) -> Option<&'a str> {
+    for (input, text) in rows {
+        if !prints(alloc, words, input, status, text) {
+            return Some(*input);
+        }
+    }
+    None
+}
+
+fn starts_and_has(sink: &Failing<MemorySink>, start: &str, part: &str) -> bool {
+    text_of(sink).is_some_and(|text| text.starts_with(start) && text.contains(part))
+}
+
 // Whether what `paths` prints of a document starts with the first text, and has the second one in it.
 fn lists(alloc: Global, input: &str, start: &str, part: &str) -> bool {
-    match run(alloc, &["paths"], input.as_bytes(), &NO_FAILURES) {
-        Ok((_, sink)) => match text_of(&sink) {
-            Some(text) => text.starts_with(start) && text.contains(part),
-            None => false,
-        },
+    match sink(alloc, &[]) {
+        Ok(mut sink) => {
+            answer(alloc, &["paths"], input.as_bytes(), &NO_FAILURES, &mut sink).is_ok()
+                && starts_and_has(&sink, start, part)
+        }
         Err(_) => false,
     }
 }
@@ -206,7 +245,7 @@ fn words_outside_the_grammar_are_usage(rt: HostRuntime) {
 
 #[test]
 fn documents_compile(rt: HostRuntime) {
-    for (input, want) in [
+    let rows = [
         (SECRET, SECRET_DIGEST),
         (r#"{"policy":[{"type":"POLICYAUTHVALUE"}]}"#, VALUE_DIGEST),
         (r#"{"policy":[{"type":"PolicyPassword"}]}"#, VALUE_DIGEST),
@@ -224,17 +263,13 @@ fn documents_compile(rt: HostRuntime) {
             digest 8fcd2169ab92694e0c633f1ab772842b8241bbc20288981fc7ac1eddc1fddb0e\n",
         ),
         (PCR_23, PCR_23_DIGEST),
-    ] {
-        assert!(rt;
-            prints(rt.alloc(), &["compile"], input, Status::Done, want),
-            "{input}"
-        );
-    }
+    ];
+    assert_eq!(rt; first_other(rt.alloc(), &["compile"], Status::Done, &rows), None);
 }
 
 #[test]
 fn documents_are_refused_at_a_place(rt: HostRuntime) {
-    for (input, want) in [
+    let rows = [
         ("{", "error BadPolicy NotJson\n"),
         (
             r#"{"description":"","policy":[]}"#,
@@ -260,17 +295,13 @@ fn documents_are_refused_at_a_place(rt: HostRuntime) {
             CURRENT_PCR,
             "error BadPolicy NoSuchPcr at policy[0].currentPCRs[0]\n",
         ),
-    ] {
-        assert!(rt;
-            prints(rt.alloc(), &["compile"], input, Status::BadPolicy, want),
-            "{input}"
-        );
-    }
+    ];
+    assert_eq!(rt; first_other(rt.alloc(), &["compile"], Status::BadPolicy, &rows), None);
 }
 
 #[test]
 fn canonical_texts_are_printed(rt: HostRuntime) {
-    for (input, want) in [
+    let rows = [
         (
             r#"{"policy":[{"type":"authvalue","x":1}]}"#,
             "{\"description\":\"\",\"policy\":[{\"type\":\"POLICYAUTHVALUE\"}]}\n",
@@ -279,12 +310,8 @@ fn canonical_texts_are_printed(rt: HostRuntime) {
             r#"{"policy":[{"type":"CommandCode","code":"unseal"}],"z":0,"a":0}"#,
             "{\"description\":\"\",\"policy\":[{\"code\":\"Unseal\",\"type\":\"POLICYCOMMANDCODE\"}]}\n",
         ),
-    ] {
-        assert!(rt;
-            prints(rt.alloc(), &["canon"], input, Status::Done, want),
-            "{input}"
-        );
-    }
+    ];
+    assert_eq!(rt; first_other(rt.alloc(), &["canon"], Status::Done, &rows), None);
 }
 
 // Nine branches stand in two groups, of which the second is the ninth branch.
@@ -308,20 +335,19 @@ fn paths_are_listed_in_document_order(rt: HostRuntime) {
     assert!(rt; lists(rt.alloc(), BEFORE_AN_OR, start, start));
 }
 
+fn are_too_many(alloc: Global, count: usize) -> bool {
+    match ors(alloc, count) {
+        Ok(text) => {
+            let want = "error PathLimit TooManyPaths\n";
+            prints(alloc, &["paths"], text.as_str(), Status::PathLimit, want)
+        }
+        Err(_) => false,
+    }
+}
+
 #[test]
-fn too_many_paths_are_refused(rt: HostRuntime) -> Result<(), Fail> {
-    let many = ors(rt.alloc(), 17)?;
-    let want = "error PathLimit TooManyPaths\n";
-    assert!(rt;
-        prints(
-            rt.alloc(),
-            &["paths"],
-            many.as_str(),
-            Status::PathLimit,
-            want
-        )
-    );
-    Ok(())
+fn too_many_paths_are_refused(rt: HostRuntime) {
+    assert!(rt; are_too_many(rt.alloc(), 17));
 }
 
 #[test]
@@ -340,10 +366,7 @@ fn scenes_give_current_values(rt: HostRuntime) {
         ),
     ];
     for (words, status, want) in table {
-        assert!(rt;
-            prints(rt.alloc(), words, CURRENT_PCR, status, want),
-            "{want}"
-        );
+        assert!(rt; prints(rt.alloc(), words, CURRENT_PCR, status, want));
     }
 }
 
@@ -463,22 +486,25 @@ fn each_line_is_one_write(rt: HostRuntime) {
     );
 }
 
-// Whether `compile` answers so.
-fn answers(alloc: Global, input: &[u8], status: Status) -> bool {
-    match run(alloc, &["compile"], input, &NO_FAILURES) {
-        Ok((answered, _)) => answered == status,
+// Whether `compile` of so many blanks answers so.
+fn blanks_answer(alloc: Global, blanks: &[u8], status: Status) -> bool {
+    match sink(alloc, &[]) {
+        Ok(mut sink) => {
+            answer(alloc, &["compile"], blanks, &NO_FAILURES, &mut sink) == Ok(status)
+        }
+        Err(_) => false,
+    }
+}
+
+fn answers_to_blanks(alloc: Global, length: usize, status: Status) -> bool {
+    match vec![in alloc; b' '; length] {
+        Ok(blanks) => blanks_answer(alloc, blanks.as_slice(), status),
         Err(_) => false,
     }
 }
 
 #[test]
-fn a_source_is_read_to_its_limit(rt: HostRuntime) -> Result<(), Fail> {
-    for (length, want) in [
-        (16_777_216, Status::BadPolicy),
-        (16_777_217, Status::TooLarge),
-    ] {
-        let blanks = vec![in rt.alloc(); b' '; length]?;
-        assert!(rt; answers(rt.alloc(), blanks.as_slice(), want));
-    }
-    Ok(())
+fn a_source_is_read_to_its_limit(rt: HostRuntime) {
+    assert!(rt; answers_to_blanks(rt.alloc(), 16_777_216, Status::BadPolicy));
+    assert!(rt; answers_to_blanks(rt.alloc(), 16_777_217, Status::TooLarge));
 }

@@ -11,7 +11,7 @@ const NV_READ: &[u8] =
     b"8002000000250000014e4000000101c100020000000b400000090000010002aa5504000010";
 
 /// A well-formed command of each code.
-const COMMANDS: [(u32, &[u8]); 33] = [
+static COMMANDS: [(u32, &[u8]); 33] = [
     (
         0x134,
         b"800200000021000001344000000101c100020000000b400000090000010002aa55",
@@ -132,7 +132,7 @@ ffffff",
 
 /// A well-formed reply of each shape, with the code of a command that it answers. The last two are refusals,
 /// of which the second is that of a tag.
-const REPLIES: [(u32, &[u8]); 17] = [
+static REPLIES: [(u32, &[u8]); 17] = [
     (
         0x176,
         b"800100000030000000000300000000201111111111111111111111111111111111111111111111111111111111\
@@ -192,7 +192,7 @@ const REPLIES: [(u32, &[u8]); 17] = [
 /// Buffers and the codes that refuse them. The codes come from two readings of the wire's rules that were
 /// made independently of each other and of this crate; most of the buffers were also sent to a real TPM,
 /// which gave the same code.
-const REFUSALS: [(&[u8], u32); 17] = [
+static REFUSALS: [(&[u8], u32); 17] = [
     (b"80010000000e0000016303000000", 0x143),
     (
         b"800100000058000001710300000000000003001000000000000000000000000000000000\
@@ -256,6 +256,9 @@ const REFUSALS: [(&[u8], u32); 17] = [
     ),
 ];
 
+// The proof of a function proves the drop of each value that it holds, wherever it may end early. So commands and
+// replies are held by functions that end in one place, and the tests, which name the tables, hold nothing.
+
 /// The code that refuses the bytes, 0 for none.
 fn refusal(alloc: Global, bytes: &[u8]) -> u32 {
     match read_command(alloc, bytes) {
@@ -264,50 +267,76 @@ fn refusal(alloc: Global, bytes: &[u8]) -> u32 {
     }
 }
 
-/// The code of the command that the bytes spell, and the bytes that it is written as.
-fn command_again(alloc: Global, bytes: &[u8]) -> Result<(u32, Blob), Fail> {
-    let command = read_command(alloc, bytes)?;
-    Ok((code_of(&command), write_command(alloc, &command)?))
-}
-
-/// The bytes that the reply is written as that these bytes are.
-fn reply_again(alloc: Global, code: u32, bytes: &[u8]) -> Result<Blob, Fail> {
-    let (reply, auth) = read_reply(alloc, code, bytes)?;
-    Ok(write_reply(alloc, &reply, auth.as_ref())?)
-}
-
-/// Whether the bytes are no reply to a command of this code.
-fn is_malformed(alloc: Global, code: u32, bytes: &[u8]) -> bool {
-    matches!(read_reply(alloc, code, bytes), Err(ReplyFault::Malformed))
+fn is_refused(alloc: Global, text: &[u8], code: u32) -> bool {
+    match hex::decode(alloc, text) {
+        Ok(bytes) => refusal(alloc, bytes.as_slice()) == code,
+        Err(_) => false,
+    }
 }
 
 #[test]
-fn refusals(rt: HostRuntime) -> Result<(), Fail> {
+fn refusals(rt: HostRuntime) {
     for (text, code) in &REFUSALS {
-        let bytes = hex::decode(rt.alloc(), *text)?;
-        assert_eq!(rt; refusal(rt.alloc(), bytes.as_slice()), *code);
+        assert!(rt; is_refused(rt.alloc(), *text, *code));
     }
-    Ok(())
+}
+
+/// Whether the command is written as these bytes.
+fn is_written_as(alloc: Global, command: &Command, bytes: &[u8]) -> bool {
+    match write_command(alloc, command) {
+        Ok(written) => written.as_slice() == bytes,
+        Err(_) => false,
+    }
+}
+
+/// Whether the bytes spell a command of this code, which is written as they are.
+fn is_command(alloc: Global, code: u32, bytes: &[u8]) -> bool {
+    match read_command(alloc, bytes) {
+        Ok(command) => code_of(&command) == code && is_written_as(alloc, &command, bytes),
+        Err(_) => false,
+    }
+}
+
+fn spells_command(alloc: Global, code: u32, text: &[u8]) -> bool {
+    match hex::decode(alloc, text) {
+        Ok(bytes) => is_command(alloc, code, bytes.as_slice()),
+        Err(_) => false,
+    }
 }
 
 #[test]
-fn commands_are_read_and_written(rt: HostRuntime) -> Result<(), Fail> {
+fn commands_are_read_and_written(rt: HostRuntime) {
     for (code, text) in &COMMANDS {
-        let bytes = hex::decode(rt.alloc(), *text)?;
-        let (found, written) = command_again(rt.alloc(), bytes.as_slice())?;
-        assert_eq!(rt; found, *code);
-        assert_eq!(rt; written.as_slice(), bytes.as_slice());
+        assert!(rt; spells_command(rt.alloc(), *code, *text));
     }
-    Ok(())
+}
+
+fn has_parameters(alloc: Global, command: &Command, wanted: &[u8]) -> bool {
+    match parameters_of(alloc, command) {
+        Ok(parameters) => parameters.as_slice() == wanted,
+        Err(_) => false,
+    }
+}
+
+fn reads_parameters(alloc: Global, bytes: &[u8], wanted: &[u8]) -> bool {
+    match read_command(alloc, bytes) {
+        Ok(command) => has_parameters(alloc, &command, wanted),
+        Err(_) => false,
+    }
 }
 
 #[test]
 fn parameters_stand_behind_the_front(rt: HostRuntime) -> Result<(), Fail> {
     let bytes = hex::decode(rt.alloc(), NV_READ)?;
-    let command = read_command(rt.alloc(), bytes.as_slice())?;
-    let parameters = parameters_of(rt.alloc(), &command)?;
-    assert_eq!(rt; parameters.as_slice(), b"\x04\x00\x00\x10".as_slice());
+    assert!(rt; reads_parameters(rt.alloc(), bytes.as_slice(), b"\x04\x00\x00\x10"));
     Ok(())
+}
+
+fn has_fields(alloc: Global, reply: &Reply, wanted: &[u8]) -> bool {
+    match fields_of(alloc, reply) {
+        Ok(fields) => fields.as_slice() == wanted,
+        Err(_) => false,
+    }
 }
 
 #[test]
@@ -315,13 +344,12 @@ fn fields_stand_alone(rt: HostRuntime) -> Result<(), Fail> {
     let reply = Reply::NvRead {
         bytes: Blob::from_slice(rt.alloc(), b"\x01\x02")?,
     };
-    let fields = fields_of(rt.alloc(), &reply)?;
-    assert_eq!(rt; fields.as_slice(), b"\x00\x02\x01\x02".as_slice());
+    assert!(rt; has_fields(rt.alloc(), &reply, b"\x00\x02\x01\x02"));
     Ok(())
 }
 
 #[test]
-fn cut_commands_are_refused(rt: HostRuntime) -> Result<(), Fail> {
+fn cut_commands_are_refused(rt: HostRuntime) {
     for length in 0..14 {
         assert_eq!(rt; refusal(rt.alloc(), &AUTH_VALUE[..length]), 0x142);
         let mut announced = AUTH_VALUE;
@@ -329,17 +357,41 @@ fn cut_commands_are_refused(rt: HostRuntime) -> Result<(), Fail> {
         let wanted = if length < 10 { 0x142 } else { 0x19a };
         assert_eq!(rt; refusal(rt.alloc(), &announced[..length]), wanted);
     }
-    Ok(())
+}
+
+/// Whether the bytes are a reply to a command of this code, which is written as they are.
+fn is_reply(alloc: Global, code: u32, bytes: &[u8]) -> bool {
+    match read_reply(alloc, code, bytes) {
+        Ok((reply, auth)) => match write_reply(alloc, &reply, auth.as_ref()) {
+            Ok(written) => written.as_slice() == bytes,
+            Err(_) => false,
+        },
+        Err(_) => false,
+    }
+}
+
+/// Whether the bytes are no reply to a command of this code.
+fn is_malformed(alloc: Global, code: u32, bytes: &[u8]) -> bool {
+    matches!(read_reply(alloc, code, bytes), Err(ReplyFault::Malformed))
+}
+
+/// Whether the bytes are such a reply, and are none with a byte more.
+fn is_whole_reply(alloc: Global, code: u32, bytes: &mut Vec<u8>) -> bool {
+    is_reply(alloc, code, bytes.as_slice())
+        && bytes.push(0) == Ok(())
+        && is_malformed(alloc, code, bytes.as_slice())
+}
+
+fn spells_reply(alloc: Global, code: u32, text: &[u8]) -> bool {
+    match hex::decode(alloc, text) {
+        Ok(mut bytes) => is_whole_reply(alloc, code, &mut bytes),
+        Err(_) => false,
+    }
 }
 
 #[test]
-fn replies_are_read_and_written(rt: HostRuntime) -> Result<(), Fail> {
+fn replies_are_read_and_written(rt: HostRuntime) {
     for (code, text) in &REPLIES {
-        let mut bytes = hex::decode(rt.alloc(), *text)?;
-        let written = reply_again(rt.alloc(), *code, bytes.as_slice())?;
-        assert_eq!(rt; written.as_slice(), bytes.as_slice());
-        bytes.push(0)?;
-        assert!(rt; is_malformed(rt.alloc(), *code, bytes.as_slice()));
+        assert!(rt; spells_reply(rt.alloc(), *code, *text));
     }
-    Ok(())
 }
