@@ -24,8 +24,6 @@ mod policy_secret;
 mod policy_signed;
 mod policy_ticket;
 mod session;
-#[cfg(test)]
-mod tests;
 
 pub use policy_auth_value::{assert_auth_value, assert_password, assert_presence};
 pub use policy_authorize::assert_authorize;

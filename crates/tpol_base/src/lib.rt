@@ -67,6 +67,3 @@ pub type Texts = Sequence<Text>;
 
 /// A list of SHA-256 digests.
 pub type Digests = Sequence<Digest32>;
-
-#[cfg(test)]
-mod tests;

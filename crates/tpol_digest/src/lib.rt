@@ -18,8 +18,6 @@ mod limits;
 mod moves;
 mod pieces;
 mod policy;
-#[cfg(test)]
-mod tests;
 mod update;
 mod update_bytes;
 

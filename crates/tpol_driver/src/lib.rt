@@ -19,8 +19,6 @@ mod planned;
 mod ready;
 mod session;
 mod step;
-#[cfg(test)]
-mod tests;
 
 pub use asserting::Asserting;
 pub use closing::Closing;

@@ -13,8 +13,6 @@ mod laws;
 mod leaves;
 mod names;
 mod pcrs;
-#[cfg(test)]
-mod tests;
 
 pub use elements::fill;
 pub use entities::{name_of_index, name_of_key};

@@ -10,8 +10,6 @@ mod numbers;
 mod place;
 mod place_ref;
 mod spelling;
-#[cfg(test)]
-mod tests;
 mod truth_values;
 mod values;
 mod words;

@@ -12,8 +12,6 @@ mod listing;
 mod paths;
 mod setup;
 mod sight;
-#[cfg(test)]
-mod tests;
 
 pub use areas::{
     NvPublic, ObjectPublic, Scheme, WRITTEN, index_name_of_parts, is_signing_key, may_sign,

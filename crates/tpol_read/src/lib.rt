@@ -7,8 +7,6 @@ mod document;
 mod elements;
 mod lists;
 mod members;
-#[cfg(test)]
-mod tests;
 
 pub use document::read_policy;
 pub use tpol_elements::{PolicyFault, PolicyKind};

@@ -29,6 +29,3 @@ pub use entities::{EntityPolicies, EntityPolicy};
 pub use fault::{SceneFault, SceneKind};
 pub use scene::{Scene, read_scene};
 pub use script::{Script, ScriptEvent};
-
-#[cfg(test)]
-mod tests;

@@ -11,8 +11,6 @@ mod file_name;
 mod load;
 mod put;
 mod store;
-#[cfg(test)]
-mod tests;
 
 pub use fault::StoreFault;
 pub use load::MAX_DOCUMENTS;

@@ -8,8 +8,6 @@
 #![tactic(auto)]
 
 mod canon;
-#[cfg(test)]
-mod canon_tests;
 mod commands;
 mod compile;
 mod import;
@@ -24,6 +22,3 @@ mod top;
 
 pub use status::Status;
 pub use top::policy_main;
-
-#[cfg(test)]
-mod tests;

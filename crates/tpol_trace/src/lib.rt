@@ -11,8 +11,6 @@ mod asked;
 mod broken;
 mod laws;
 mod open;
-#[cfg(test)]
-mod tests;
 mod walk;
 mod ways;
 mod window;

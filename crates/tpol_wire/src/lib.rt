@@ -30,6 +30,3 @@ pub use reply_reading::read_reply;
 pub use reply_writing::{fields_of, write_reply};
 pub use ticket::Ticket;
 pub use writing::{code_of, parameters_of, write_command};
-
-#[cfg(test)]
-mod tests;

@@ -10,8 +10,6 @@ mod object;
 mod policy;
 mod publics;
 mod rows;
-#[cfg(test)]
-mod tests;
 mod wishes;
 
 pub use laws::{bytes_read_back, canonical_values_stand, numbers_read_back};

@@ -1,0 +1,263 @@
+//! Outside values: digests that a TPM gives to filled policies, and the places of refusals.
+
+use std::alloc::Global;
+use tpol_base::{Blob, Compare, Digest32, NoMemory, Sequence, Text};
+use tpol_digest::digest_of;
+use tpol_fill::{FillFault, FillKind, fill};
+use tpol_json::place_text;
+use tpol_name::{IndexEntry, NvPublic, ObjectEntry, ObjectPublic, Scheme, Sight};
+use tpol_tree::{
+    Branch, Branches, Element, Elements, EntityWish, IndexWish, KeyWish, PcrWish, Policy,
+};
+
+/// PolicySecret of the endorsement hierarchy, the authPolicy of endorsement keys.
+const ENDORSEMENT_POLICY: &[u8; 32] =
+    b"\x83\x71\x97\x67\x44\x84\xb3\xf8\x1a\x90\xcc\x8d\x46\xa5\xd7\x24\
+      \xfd\x52\xd7\x6e\x06\x52\x0b\x64\xf2\xa1\xda\x1b\x33\x14\x69\xaa";
+
+/// PolicyAuthorize by the key of `approver`, then PolicyCommandCode of Unseal.
+const APPROVED_UNSEAL: &[u8; 32] =
+    b"\x34\x05\x2b\xda\xc7\x36\x4d\xd4\xed\xdf\xc2\x83\xdd\xdb\xb4\x75\
+      \xf2\x7f\x4e\x20\x13\x19\x86\x81\x5e\x05\xe7\x1a\x7d\x7f\xe1\x54";
+
+/// PolicyNV of the index of `owner_index`: its content has the highest bit set.
+const HIGHEST_BIT_SET: &[u8; 32] =
+    b"\xbf\x3b\x68\x99\xa0\x4b\x37\x17\x3e\x68\xb0\x74\x52\x01\x33\x81\
+      \xbc\x01\x68\x52\x31\x81\xd5\xf9\xfc\xd2\xf4\x4a\xc2\x2b\xa7\xdd";
+
+/// PolicyPCR of PCR 23 at 32 zero bytes.
+const PCR_23_AT_ZERO: &[u8; 32] =
+    b"\x3c\x87\xa4\xb3\xfb\x85\xeb\xee\xa5\x8c\x5f\xb3\x6a\xc2\x2d\x3f\
+      \x28\x0c\xec\x27\xa9\xf6\xdd\x0f\xa2\x3b\xe9\xce\x56\x0d\xee\xc8";
+
+/// PolicyOR of two: PolicyOR of eight times PolicyAuthValue, and PolicyAuthValue.
+const ONE_OF_NINE: &[u8; 32] = b"\x7c\xa6\xb9\xb6\x27\x65\x1d\xb7\xcb\xbd\x17\x73\xc5\xad\x34\x0e\
+      \xd5\xb8\xb3\x9c\xae\xae\xa7\x1f\x27\xa2\xca\x44\x59\x95\x4a\xbe";
+
+/// What a policy in a test is made of.
+enum Part {
+    Secret(&'static str),
+    ApprovedBy(&'static str),
+    NvPath(&'static str),
+    Unseal,
+    AuthValue,
+    Current(u32),
+    /// An OR of so many branches, each with PolicyAuthValue alone.
+    OneOf(u8),
+}
+
+fn one(alloc: Global, element: Element, rest: Elements) -> Result<Elements, NoMemory> {
+    let first = Box::new(alloc, element)?;
+    Ok(Elements::More(first, Box::new(alloc, rest)?))
+}
+
+fn branch(alloc: Global) -> Result<Branch, NoMemory> {
+    let elements = one(alloc, Element::AuthValue, Elements::End)?;
+    Ok(Branch {
+        name: Text::from_str(alloc, "b")?,
+        description: Text::new(alloc),
+        elements,
+    })
+}
+
+fn more(alloc: Global, branch: Branch, rest: Branches) -> Result<Branches, NoMemory> {
+    let first = Box::new(alloc, branch)?;
+    Ok(Branches::More(first, Box::new(alloc, rest)?))
+}
+
+fn branches(alloc: Global, count: u8) -> Result<Branches, NoMemory> {
+    let mut branches = Branches::End;
+    for _ in 0..count {
+        branches = more(alloc, branch(alloc)?, branches)?;
+    }
+    Ok(branches)
+}
+
+fn nv(alloc: Global, path: &str) -> Result<Element, NoMemory> {
+    let operand = Blob::from_slice(alloc, &[0x80])?;
+    Ok(Element::Nv {
+        index: IndexWish::Path(Text::from_str(alloc, path)?),
+        operand,
+        offset: 0,
+        operation: Compare::BitSet,
+    })
+}
+
+fn element(alloc: Global, part: &Part) -> Result<Element, NoMemory> {
+    match part {
+        Part::Secret(path) => Ok(Element::Secret {
+            entity: EntityWish::Path(Text::from_str(alloc, path)?),
+            policy_ref: Blob::new(alloc),
+            cp_hash: None,
+            expiration: 0,
+        }),
+        Part::ApprovedBy(path) => Ok(Element::Authorize {
+            key: KeyWish::Path(Text::from_str(alloc, path)?),
+            policy_ref: Blob::new(alloc),
+        }),
+        Part::NvPath(path) => nv(alloc, path),
+        Part::Unseal => Ok(Element::CommandCode(0x15e)),
+        Part::AuthValue => Ok(Element::AuthValue),
+        Part::Current(mask) => Ok(Element::Pcr(PcrWish::Current(*mask))),
+        Part::OneOf(count) => Ok(Element::Or(branches(alloc, *count)?)),
+    }
+}
+
+fn policy(alloc: Global, parts: &[Part]) -> Result<Policy, NoMemory> {
+    let mut elements = Elements::End;
+    for part in parts.iter().rev() {
+        elements = one(alloc, element(alloc, part)?, elements)?;
+    }
+    Ok(Policy {
+        description: Text::new(alloc),
+        elements,
+        approvals: Sequence::new(alloc),
+    })
+}
+
+fn approver(alloc: Global) -> Result<ObjectEntry, NoMemory> {
+    let unique = Blob::from_slice(alloc, &[0x11; 32])?;
+    Ok(ObjectEntry {
+        path: Text::from_str(alloc, "/HS/SRK/approver")?,
+        handle: 0x8000_0001,
+        public: ObjectPublic {
+            attributes: 0x0004_0040,
+            auth_policy: Blob::new(alloc),
+            scheme: Scheme::HmacKey,
+            unique,
+        },
+        auth: Blob::new(alloc),
+        secret: Blob::new(alloc),
+    })
+}
+
+fn owner_index(alloc: Global) -> Result<IndexEntry, NoMemory> {
+    let auth_policy = Blob::from_slice(alloc, ENDORSEMENT_POLICY)?;
+    Ok(IndexEntry {
+        path: Text::from_str(alloc, "/nv/Owner/policy")?,
+        public: NvPublic {
+            index: 0x01c0_7f01,
+            attributes: 0x020f_1008,
+            auth_policy,
+            size: 34,
+        },
+        auth: Blob::new(alloc),
+        content: Blob::new(alloc),
+    })
+}
+
+fn single<T: Drop>(alloc: Global, item: T) -> Result<Sequence<T>, NoMemory> {
+    let mut items = Sequence::new(alloc);
+    items.push(item)?;
+    Ok(items)
+}
+
+fn started(alloc: Global) -> Result<Sight, NoMemory> {
+    let pcrs = Sequence::from_slice(alloc, &[Digest32::ZERO; 24])?;
+    let objects = single(alloc, approver(alloc)?)?;
+    let indices = single(alloc, owner_index(alloc)?)?;
+    Ok(Sight {
+        objects,
+        indices,
+        owner: Blob::new(alloc),
+        endorsement: Blob::new(alloc),
+        lockout: Blob::new(alloc),
+        pcrs,
+        pcr_counter: 0,
+        time: 0,
+        reset_count: 0,
+        restart_count: 0,
+        safe: true,
+        presence: false,
+        free_sessions: 64,
+    })
+}
+
+// Policies, each with the digest that a TPM gives it.
+const FILLED: [(&[Part], &[u8; 32]); 5] = [
+    (&[Part::Secret("/HE")], ENDORSEMENT_POLICY),
+    (
+        &[Part::ApprovedBy("P_RSA/HS/SRK/approver"), Part::Unseal],
+        APPROVED_UNSEAL,
+    ),
+    (&[Part::NvPath("/nv/Owner/policy")], HIGHEST_BIT_SET),
+    (&[Part::Current(0x80_0000)], PCR_23_AT_ZERO),
+    (&[Part::OneOf(9)], ONE_OF_NINE),
+];
+
+fn has_digest(
+    alloc: Global,
+    parts: &[Part],
+    sight: &Sight,
+    digest: &[u8; 32],
+) -> Result<bool, NoMemory> {
+    let policy = policy(alloc, parts)?;
+    match fill(alloc, &policy, Some(sight)) {
+        Ok(closed) => Ok(digest_of(&closed).bytes == *digest),
+        Err(_) => Ok(false),
+    }
+}
+
+#[test]
+fn digests_of_a_tpm(rt: HostRuntime) -> Result<(), NoMemory> {
+    let sight = started(rt.alloc())?;
+    for (parts, digest) in &FILLED {
+        assert!(rt; has_digest(rt.alloc(), parts, &sight, digest)?);
+    }
+    Ok(())
+}
+
+// Policies without a machine, each with its first place that has no value.
+const WITHOUT_A_VALUE: [(&[Part], FillKind, &str); 4] = [
+    (
+        &[Part::AuthValue, Part::ApprovedBy("/k")],
+        FillKind::VoidPrefix,
+        "policy[1]",
+    ),
+    (
+        &[Part::NvPath("/HE")],
+        FillKind::NoSuchPath,
+        "policy[0].nvPath",
+    ),
+    (
+        &[Part::Current(0x80_0000)],
+        FillKind::NoSuchPcr,
+        "policy[0].currentPCRs[0]",
+    ),
+    (
+        &[Part::AuthValue, Part::Secret("HX")],
+        FillKind::NoSuchPath,
+        "policy[1].objectPath",
+    ),
+];
+
+fn is_fault(
+    alloc: Global,
+    fault: &FillFault,
+    wanted: FillKind,
+    at: &str,
+) -> Result<bool, NoMemory> {
+    match fault {
+        FillFault::Bad { kind, place } => {
+            let place = place_text(alloc, place)?;
+            Ok(*kind == wanted && place.as_str() == at)
+        }
+        _ => Ok(false),
+    }
+}
+
+fn is_refused(alloc: Global, parts: &[Part], wanted: FillKind, at: &str) -> Result<bool, NoMemory> {
+    let policy = policy(alloc, parts)?;
+    match fill(alloc, &policy, None) {
+        Ok(_) => Ok(false),
+        Err(fault) => is_fault(alloc, &fault, wanted, at),
+    }
+}
+
+#[test]
+fn first_places_without_a_value(rt: HostRuntime) -> Result<(), NoMemory> {
+    for (parts, wanted, at) in &WITHOUT_A_VALUE {
+        assert!(rt; is_refused(rt.alloc(), parts, *wanted, at)?, "{at}");
+    }
+    Ok(())
+}
