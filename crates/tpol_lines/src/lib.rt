@@ -17,8 +17,6 @@ mod path_label;
 mod path_lines;
 mod pen;
 mod runs;
-#[cfg(test)]
-mod tests;
 
 pub use blocks::block_line;
 pub use events::{command_line, presence_line, reset_line, time_line};
