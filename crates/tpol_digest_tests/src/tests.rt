@@ -162,13 +162,18 @@ fn assertions_of_plain_values(rt: HostRuntime) {
     assert!(rt; gives(Assertion::NvWritten(false), NV_NOT_WRITTEN));
 }
 
+fn secret_gives(alloc: Global, entity: Name, policy_ref: &[u8], digest: &[u8; 32]) -> bool {
+    match secret(alloc, entity, policy_ref) {
+        Ok(assertion) => gives(assertion, digest),
+        Err(_) => false,
+    }
+}
+
 #[test]
-fn assertions_of_secrets(rt: HostRuntime) -> Result<(), NoMemory> {
-    let alloc = rt.alloc();
-    assert!(rt; gives(secret(alloc, ENDORSEMENT, &[])?, SECRET_ENDORSEMENT));
-    assert!(rt; gives(secret(alloc, OWNER, &[])?, SECRET_OWNER));
-    assert!(rt; gives(secret(alloc, ENDORSEMENT, &[0x5a; 64])?, SECRET_REF));
-    Ok(())
+fn assertions_of_secrets(rt: HostRuntime) {
+    assert!(rt; secret_gives(rt.alloc(), ENDORSEMENT, &[], SECRET_ENDORSEMENT));
+    assert!(rt; secret_gives(rt.alloc(), OWNER, &[], SECRET_OWNER));
+    assert!(rt; secret_gives(rt.alloc(), ENDORSEMENT, &[0x5a; 64], SECRET_REF));
 }
 
 // The highest bit of an index's content is set.
@@ -245,16 +250,17 @@ fn assert_before(
     before(alloc, ClosedElement::Assert(assertion), rest)
 }
 
-fn branch(alloc: Global, name: &str, elements: ClosedElements) -> Result<ClosedBranch, NoMemory>
-    ensures { IfOk result (λ branch. branch.policy.elements ≡ elements) }
+// A branch; its name is part of no digest.
+fn branch(alloc: Global, elements: ClosedElements) -> ClosedBranch
+    ensures { result.policy.elements ≡ elements }
 {
-    Ok(ClosedBranch {
-        name: Text::from_str(alloc, name)?,
+    ClosedBranch {
+        name: Text::new(alloc),
         policy: Closed { elements },
-    })
+    }
 }
 
-// An OR of the branches "a" and "b".
+// An OR of two branches.
 fn either(
     alloc: Global,
     first: ClosedElements,
@@ -262,8 +268,8 @@ fn either(
 ) -> Result<ClosedElement, NoMemory>
     ensures { IfOk result (λ element. HasBranchCounts first → HasBranchCounts second → ElementHasBranchCounts element) }
 {
-    let first = branch(alloc, "a", first)?;
-    let second = branch(alloc, "b", second)?;
+    let first = branch(alloc, first);
+    let second = branch(alloc, second);
     let last = ClosedBranches::More(
         Box::new(alloc, second)?,
         Box::new(alloc, ClosedBranches::End)?,
@@ -459,9 +465,9 @@ fn or_update() -> [u8; 100] {
 
 // An OR of a secret and of an authorization value.
 fn secret_or_value(alloc: Global) -> Result<Closed, NoMemory> {
-    let value = assert_before(alloc, Assertion::AuthValue, ClosedElements::End)?;
     let owner = secret(alloc, OWNER, &POLICY_REF)?;
     let owner = assert_before(alloc, owner, ClosedElements::End)?;
+    let value = assert_before(alloc, Assertion::AuthValue, ClosedElements::End)?;
     Ok(Closed {
         elements: before(alloc, either(alloc, owner, value)?, ClosedElements::End)?,
     })
@@ -510,17 +516,12 @@ fn or_fact(alloc: Global) -> Result<Fact, NoMemory> {
     Ok(fact(Move::Or(Digests::from_slice(alloc, &digests)?)))
 }
 
-fn push_two(facts: &mut Facts, alloc: Global) -> Result<(), NoMemory> {
-    let secret = secret(alloc, OWNER, &POLICY_REF)?;
-    facts.push(fact(Move::Assert(secret)));
-    facts.push(or_fact(alloc)?);
-    Ok(())
-}
-
 // What a session keeps of a PolicySecret and then a PolicyOR.
 fn two_facts(alloc: Global) -> Result<Facts, NoMemory> {
     let mut facts = Facts::new(alloc)?;
-    push_two(&mut facts, alloc)?;
+    let secret = secret(alloc, OWNER, &POLICY_REF)?;
+    facts.push(fact(Move::Assert(secret)));
+    facts.push(or_fact(alloc)?);
     Ok(facts)
 }
 

@@ -632,13 +632,25 @@ fn failing_steps(alloc: Global, run: &Run, failing: &Failing) -> Result<Vec<Step
     Ok(steps)
 }
 
+fn is_served(end: &End, wanted: &[u8]) -> bool {
+    match end {
+        End::Served(bytes) => bytes.as_slice() == wanted,
+        _ => false,
+    }
+}
+
+fn is_failed(end: &End, code: u32, stage: Stage) -> bool {
+    match end {
+        End::Denied { at, rc } => rc.code == code && *at == stage,
+        End::BadReply(at) => code == 0 && *at == stage,
+        End::Served(_) => false,
+    }
+}
+
 /// Whether a run ended, and was served these bytes.
 fn served(state: &Option<Next>, wanted: &[u8]) -> bool {
     match state {
-        Some(Next::Over(over)) => match &over.end {
-            End::Served(bytes) => bytes.as_slice() == wanted,
-            _ => false,
-        },
+        Some(Next::Over(over)) => is_served(&over.end, wanted),
         _ => false,
     }
 }
@@ -647,11 +659,7 @@ fn served(state: &Option<Next>, wanted: &[u8]) -> bool {
 /// is 0.
 fn failed(state: &Option<Next>, code: u32, stage: Stage) -> bool {
     match state {
-        Some(Next::Over(over)) => match &over.end {
-            End::Denied { at, rc } => rc.code == code && *at == stage,
-            End::BadReply(at) => code == 0 && *at == stage,
-            End::Served(_) => false,
-        },
+        Some(Next::Over(over)) => is_failed(&over.end, code, stage),
         _ => false,
     }
 }

@@ -153,7 +153,10 @@ fn text_of(sink: &Failing<MemorySink>) -> Option<&str> {
 }
 
 fn has_printed(sink: &Failing<MemorySink>, text: &str) -> bool {
-    text_of(sink).is_some_and(|printed| printed == text)
+    match text_of(sink) {
+        Some(printed) => printed == text,
+        None => false,
+    }
 }
 
 // Whether a run with these failures answers so, and prints this text.
@@ -175,7 +178,7 @@ fn ends(
 }
 
 // Whether a run answers so, and prints this text.
-pub fn prints(alloc: Global, words: &[&str], input: &str, status: Status, text: &str) -> bool {
+fn prints(alloc: Global, words: &[&str], input: &str, status: Status, text: &str) -> bool {
     ends(alloc, words, input, &NO_FAILURES, status, text)
 }
 
@@ -195,7 +198,10 @@ fn first_other<'a>(
 }
 
 fn starts_and_has(sink: &Failing<MemorySink>, start: &str, part: &str) -> bool {
-    text_of(sink).is_some_and(|text| text.starts_with(start) && text.contains(part))
+    match text_of(sink) {
+        Some(text) => text.starts_with(start) && text.contains(part),
+        None => false,
+    }
 }
 
 // Whether what `paths` prints of a document starts with the first text, and has the second one in it.
@@ -227,20 +233,19 @@ fn ors(alloc: Global, count: usize) -> Result<String, AllocError> {
     Ok(text)
 }
 
+fn is_usage(alloc: Global, words: &[&str]) -> bool {
+    prints(alloc, words, SECRET, Status::Usage, "error Usage\n")
+}
+
 #[test]
 fn words_outside_the_grammar_are_usage(rt: HostRuntime) {
-    let table: [&[&str]; 7] = [
-        &[],
-        &["compile", "x"],
-        &["gen", "0", "0"],
-        &["canon", "--scene", "m"],
-        &["import"],
-        &["compile", "--scene", ".m"],
-        &["compile", "--scene", "m", "x"],
-    ];
-    for words in table {
-        assert!(rt; prints(rt.alloc(), words, SECRET, Status::Usage, "error Usage\n"));
-    }
+    assert!(rt; is_usage(rt.alloc(), &[]));
+    assert!(rt; is_usage(rt.alloc(), &["compile", "x"]));
+    assert!(rt; is_usage(rt.alloc(), &["gen", "0", "0"]));
+    assert!(rt; is_usage(rt.alloc(), &["canon", "--scene", "m"]));
+    assert!(rt; is_usage(rt.alloc(), &["import"]));
+    assert!(rt; is_usage(rt.alloc(), &["compile", "--scene", ".m"]));
+    assert!(rt; is_usage(rt.alloc(), &["compile", "--scene", "m", "x"]));
 }
 
 #[test]

@@ -1,8 +1,9 @@
 //! One document with every element type, every authorization and every spelling, and its canonical text.
 
-use crate::tests::prints;
 use std::alloc::{AllocError, Global};
-use tpol_top::Status;
+use tpol_read::read_policy;
+use tpol_tree::Policy;
+use tpol_write::write_policy;
 
 // Elements as documents write them, and as canonical text does.
 static ELEMENTS: [(&str, &str); 32] = [
@@ -182,26 +183,33 @@ fn document(alloc: Global, canonical: bool) -> Result<String, AllocError> {
     Ok(text)
 }
 
-// The line of the canonical text.
-fn canonical_line(alloc: Global) -> Result<String, AllocError> {
-    let mut line = String::new(alloc);
-    push_document(&mut line, true)?;
-    line.push_str("\n")?;
-    Ok(line)
-}
-
-// Whether `canon` prints the canonical text.
-fn is_printed(alloc: Global, input: &str) -> bool {
-    match canonical_line(alloc) {
-        Ok(line) => prints(alloc, &["canon"], input, Status::Done, line.as_str()),
+// Whether the policy is written as the canonical text of the document.
+fn is_canonical(alloc: Global, policy: &Policy, text: &str) -> bool {
+    match write_policy(alloc, policy) {
+        Ok(written) => written.as_slice() == text.as_bytes(),
         Err(_) => false,
     }
 }
 
-// Whether `canon` prints the canonical text of the document, as it is written or as canonical text is.
+// Whether a document is read, and its policy is written as this text.
+fn is_written(alloc: Global, written: &str, text: &str) -> bool {
+    match read_policy(alloc, written.as_bytes()) {
+        Ok((policy, _)) => is_canonical(alloc, &policy, text),
+        Err(_) => false,
+    }
+}
+
+fn is_written_canonically(alloc: Global, written: &str) -> bool {
+    match document(alloc, true) {
+        Ok(text) => is_written(alloc, written, text.as_str()),
+        Err(_) => false,
+    }
+}
+
+// Whether the document, as it is written or as canonical text is, has the canonical text.
 fn is_kept(alloc: Global, canonical: bool) -> bool {
     match document(alloc, canonical) {
-        Ok(text) => is_printed(alloc, text.as_str()),
+        Ok(text) => is_written_canonically(alloc, text.as_str()),
         Err(_) => false,
     }
 }
