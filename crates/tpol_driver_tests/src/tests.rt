@@ -2,7 +2,7 @@
 //! commands, and the ends that replies lead to. The run of the disk is on a machine whose seed is 32 zero
 //! bytes; its end has the HMAC that `tpm_auth` has from there too.
 
-use std::alloc::{AllocError, Global};
+use std::alloc::Global;
 use tpol_base::{Blob, Compare, Digest32, Digests, Name, NoMemory, Sequence, Text};
 use tpol_driver::{Asserting, Closing, End, Next, Plan, Planned, Ready, Stage};
 use tpol_goal::{Goal, Grants, Secrets};
@@ -594,42 +594,42 @@ fn begun(alloc: Global, run: &Run, step: &Step) -> Option<Next> {
     }
 }
 
-/// The state of a run behind these steps.
-fn state_after(alloc: Global, run: &Run, steps: &[Step]) -> Option<Next> {
-    let (first, rest) = steps.split_first()?;
-    let mut state = begun(alloc, run, first)?;
-    for step in rest {
-        state = turn(alloc, state, step)?;
-    }
-    Some(state)
-}
-
-/// The steps up to the one that fails, that one with its reply, and the flush of the session, which no reply
-/// answers.
-fn push_failing(steps: &mut Vec<Step>, run: &Run, failing: &Failing) -> Result<(), AllocError> {
-    for (place, step) in run.steps.iter().enumerate() {
-        if place < failing.place {
-            steps.push(*step)?;
-        } else if place == failing.place {
-            steps.push(Step {
-                command: step.command,
-                reply: failing.reply,
-            })?;
-        }
-    }
-    if failing.place > 0 {
-        steps.push(Step {
+/// The step of a run at this place, behind the steps before the one that is to fail.
+fn failing_step(run: &Run, failing: &Failing, place: usize) -> Option<Step> {
+    if place == failing.place {
+        Some(Step {
+            command: run.steps.get(place)?.command,
+            reply: failing.reply,
+        })
+    } else if failing.place > 0 && place == failing.place.saturating_add(1) {
+        Some(Step {
             command: run.flush,
             reply: b"",
-        })?;
+        })
+    } else {
+        None
     }
-    Ok(())
 }
 
-fn failing_steps(alloc: Global, run: &Run, failing: &Failing) -> Result<Vec<Step>, AllocError> {
-    let mut steps = Vec::new(alloc);
-    push_failing(&mut steps, run, failing)?;
-    Ok(steps)
+/// The step of a run at this place. Where one is to fail, it has the reply by which it fails, and behind it stands
+/// the flush of the session, if there is one, which no reply answers.
+fn step_at(run: &Run, failing: Option<&Failing>, place: usize) -> Option<Step> {
+    match failing {
+        Some(failing) if place >= failing.place => failing_step(run, failing, place),
+        _ => run.steps.get(place).copied(),
+    }
+}
+
+/// The state of a run behind its steps.
+fn state_after(alloc: Global, run: &Run, failing: Option<&Failing>) -> Option<Next> {
+    let mut state = begun(alloc, run, &step_at(run, failing, 0)?)?;
+    for place in 1..=run.steps.len() {
+        match step_at(run, failing, place) {
+            Some(step) => state = turn(alloc, state, &step)?,
+            None => return Some(state),
+        }
+    }
+    Some(state)
 }
 
 fn is_served(end: &End, wanted: &[u8]) -> bool {
@@ -667,18 +667,12 @@ fn failed(state: &Option<Next>, code: u32, stage: Stage) -> bool {
 // A test names the tables of its run, and leaves the states to these functions: a proof about both at once is long.
 
 fn serves(alloc: Global, run: &Run, wanted: &[u8]) -> bool {
-    served(&state_after(alloc, run, run.steps), wanted)
-}
-
-fn fails_by(alloc: Global, run: &Run, steps: &[Step], failing: &Failing) -> bool {
-    failed(&state_after(alloc, run, steps), failing.code, failing.stage)
+    served(&state_after(alloc, run, None), wanted)
 }
 
 fn fails(alloc: Global, run: &Run, failing: &Failing) -> bool {
-    match failing_steps(alloc, run, failing) {
-        Ok(steps) => fails_by(alloc, run, steps.as_slice(), failing),
-        Err(_) => false,
-    }
+    let state = state_after(alloc, run, Some(failing));
+    failed(&state, failing.code, failing.stage)
 }
 
 /// The number of the first of these replies by which the run does not fail as it is told; none where each does.
