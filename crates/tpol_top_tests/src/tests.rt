@@ -210,19 +210,20 @@ fn ors(alloc: Global, count: usize) -> Result<String, AllocError> {
     Ok(text)
 }
 
-fn is_usage(alloc: Global, words: &[&str]) -> bool {
-    prints(alloc, words, SECRET, Status::Usage, "error Usage\n")
-}
-
 #[test]
 fn words_outside_the_grammar_are_usage(rt: HostRuntime) {
-    assert!(rt; is_usage(rt.alloc(), &[]));
-    assert!(rt; is_usage(rt.alloc(), &["compile", "x"]));
-    assert!(rt; is_usage(rt.alloc(), &["gen", "0", "0"]));
-    assert!(rt; is_usage(rt.alloc(), &["canon", "--scene", "m"]));
-    assert!(rt; is_usage(rt.alloc(), &["import"]));
-    assert!(rt; is_usage(rt.alloc(), &["compile", "--scene", ".m"]));
-    assert!(rt; is_usage(rt.alloc(), &["compile", "--scene", "m", "x"]));
+    let table: [&[&str]; 7] = [
+        &[],
+        &["compile", "x"],
+        &["gen", "0", "0"],
+        &["canon", "--scene", "m"],
+        &["import"],
+        &["compile", "--scene", ".m"],
+        &["compile", "--scene", "m", "x"],
+    ];
+    for words in table {
+        assert!(rt; prints(rt.alloc(), words, SECRET, Status::Usage, "error Usage\n"));
+    }
 }
 
 #[test]
