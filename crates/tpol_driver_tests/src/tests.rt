@@ -543,38 +543,39 @@ fn is_made(made: Result<Blob, NoMemory>, command: &[u8]) -> bool {
 
 fn at_start(alloc: Global, plan: Plan, step: &Step) -> Option<Next> {
     if !plan.complete() || plan.path.moves.len() > 512 {
+        drop(plan);
         return None;
     }
     let state = Planned::new(plan);
     if is_made(state.next(alloc), step.command) {
-        state.take(alloc, step.reply).ok()
-    } else {
-        None
+        return state.take(alloc, step.reply).ok();
     }
+    drop(state);
+    None
 }
 
 fn on_path(alloc: Global, state: Asserting, step: &Step) -> Option<Next> {
     if is_made(state.next(alloc), step.command) {
-        state.take(alloc, step.reply).ok()
-    } else {
-        None
+        return state.take(alloc, step.reply).ok();
     }
+    drop(state);
+    None
 }
 
 fn at_goal(alloc: Global, state: Ready, step: &Step) -> Option<Next> {
     if is_made(state.next(alloc), step.command) {
-        state.take(alloc, step.reply).ok()
-    } else {
-        None
+        return state.take(alloc, step.reply).ok();
     }
+    drop(state);
+    None
 }
 
 fn at_end(alloc: Global, state: Closing, step: &Step) -> Option<Next> {
     if is_made(state.next(alloc), step.command) {
-        state.take(alloc, step.reply).ok()
-    } else {
-        None
+        return state.take(alloc, step.reply).ok();
     }
+    drop(state);
+    None
 }
 
 fn turn(alloc: Global, state: Next, step: &Step) -> Option<Next> {
@@ -667,12 +668,17 @@ fn failed(state: &Option<Next>, code: u32, stage: Stage) -> bool {
 // A test names the tables of its run, and leaves the states to these functions: a proof about both at once is long.
 
 fn serves(alloc: Global, run: &Run, wanted: &[u8]) -> bool {
-    served(&state_after(alloc, run, None), wanted)
+    let state = state_after(alloc, run, None);
+    let answer = served(&state, wanted);
+    drop(state);
+    answer
 }
 
 fn fails(alloc: Global, run: &Run, failing: &Failing) -> bool {
     let state = state_after(alloc, run, Some(failing));
-    failed(&state, failing.code, failing.stage)
+    let answer = failed(&state, failing.code, failing.stage);
+    drop(state);
+    answer
 }
 
 /// The number of the first of these replies by which the run does not fail as it is told; none where each does.

@@ -2,7 +2,7 @@
 
 use serde_json::Value;
 use std::alloc::Global;
-use tpol_base::NoMemory;
+use tpol_base::{Digest32, NoMemory};
 use tpol_json::{
     MemberFault, MemberKind, Notes, ParseFault, Place, PlaceRef, bytes_of, digest, member, name,
     needed, note_unknown, number_of, parse, place_text, same_word, text, text_of, truth_of,
@@ -206,19 +206,35 @@ const DOCUMENT: &[u8] =
 
 fn has_name(alloc: Global, document: &Value, place: &PlaceRef<'_>) -> Result<bool, MemberFault> {
     let (owner, at) = needed(alloc, document, "name", place)?;
-    let bytes = name(alloc, owner, &at)?.to_bytes(alloc)?;
+    let read = name(alloc, owner, &at);
+    drop(at);
+    let bytes = read?.to_bytes(alloc)?;
     Ok(bytes.as_slice() == b"\x40\x00\x00\x01".as_slice())
 }
 
 fn has_text(alloc: Global, document: &Value, place: &PlaceRef<'_>) -> Result<bool, MemberFault> {
     let (owner, at) = needed(alloc, document, "name", place)?;
-    let text = text(alloc, owner, &at)?;
-    Ok(text.as_str() == "40000001")
+    let read = text(alloc, owner, &at);
+    drop(at);
+    Ok(read?.as_str() == "40000001")
 }
 
 fn has_size(alloc: Global, document: &Value, place: &PlaceRef<'_>) -> Result<bool, MemberFault> {
     let (size, at) = needed(alloc, document, "size", place)?;
-    Ok(unsigned_32(alloc, size, &at)? == 32)
+    let read = unsigned_32(alloc, size, &at);
+    drop(at);
+    Ok(read? == 32)
+}
+
+// Whether what was read is no hex, at the member `size`.
+fn is_bad_hex(alloc: Global, read: &Result<Digest32, MemberFault>) -> Result<bool, NoMemory> {
+    match read {
+        Err(MemberFault::Bad { kind, place }) => {
+            let written = place_text(alloc, place)?;
+            Ok(*kind == MemberKind::BadHex && written.as_str() == "size")
+        }
+        _ => Ok(false),
+    }
 }
 
 // A digest of one byte is none.
@@ -228,19 +244,19 @@ fn has_no_digest(
     place: &PlaceRef<'_>,
 ) -> Result<bool, MemberFault> {
     let (size, at) = needed(alloc, document, "size", place)?;
-    match digest(alloc, size, &at) {
-        Err(MemberFault::Bad { kind, place }) => {
-            let written = place_text(alloc, &place)?;
-            Ok(kind == MemberKind::BadHex && written.as_str() == "size")
-        }
-        _ => Ok(false),
-    }
+    let read = digest(alloc, size, &at);
+    drop(at);
+    let answer = is_bad_hex(alloc, &read);
+    drop(read);
+    answer.map_err(MemberFault::from)
 }
 
 fn has_scheme(alloc: Global, document: &Value, place: &PlaceRef<'_>) -> Result<bool, MemberFault> {
     let (scheme, at) = needed(alloc, document, "type", place)?;
     let schemes = [("HMAC", 5), ("NULL", 16)];
-    Ok(word(alloc, scheme, "TPM2_ALG_", &schemes, &at)? == Some(5))
+    let read = word(alloc, scheme, "TPM2_ALG_", &schemes, &at);
+    drop(at);
+    Ok(read? == Some(5))
 }
 
 fn has_members(alloc: Global, document: &Value, place: &PlaceRef<'_>) -> bool {

@@ -56,14 +56,15 @@ const NO_FAILURES: Failures = Failures {
     shelf: &[],
 };
 
-fn push_words(list: &mut Vec<String>, alloc: Global, words: &[&str]) -> Result<(), NoMemory> {
-    for word in words {
+fn push_words(list: &mut Vec<String>, alloc: Global, words: &str) -> Result<(), NoMemory> {
+    for word in words.split_ascii_whitespace() {
         list.push(String::from_str(alloc, word)?)?;
     }
     Ok(())
 }
 
-fn words_of(alloc: Global, words: &[&str]) -> Result<Vec<String>, NoMemory> {
+// The words of a command line, which blanks part.
+fn words_of(alloc: Global, words: &str) -> Result<Vec<String>, NoMemory> {
     let mut list = Vec::new(alloc);
     push_words(&mut list, alloc, words)?;
     Ok(list)
@@ -138,7 +139,7 @@ fn answer_to(
 // What a run answers that prints to this sink.
 fn answer(
     alloc: Global,
-    words: &[&str],
+    words: &str,
     input: &[u8],
     failures: &Failures,
     sink: &mut Failing<MemorySink>,
@@ -157,7 +158,7 @@ fn has_printed(sink: &Failing<MemorySink>, text: &str) -> bool {
 // Whether a run with these failures answers so, and prints this text.
 fn ends(
     alloc: Global,
-    words: &[&str],
+    words: &str,
     input: &str,
     failures: &Failures,
     status: Status,
@@ -173,14 +174,14 @@ fn ends(
 }
 
 // Whether a run answers so, and prints this text.
-fn prints(alloc: Global, words: &[&str], input: &str, status: Status, text: &str) -> bool {
+fn prints(alloc: Global, words: &str, input: &str, status: Status, text: &str) -> bool {
     ends(alloc, words, input, &NO_FAILURES, status, text)
 }
 
 // The input of the first row on which a run does not answer so, and print the row's text; none where all do.
 fn first_other<'a>(
     alloc: Global,
-    words: &[&str],
+    words: &str,
     status: Status,
     rows: &[(&'a str, &str)],
 ) -> Option<&'a str> {
@@ -210,98 +211,102 @@ fn ors(alloc: Global, count: usize) -> Result<String, AllocError> {
     Ok(text)
 }
 
+static NO_COMMANDS: [&str; 7] = [
+    "",
+    "compile x",
+    "gen 0 0",
+    "canon --scene m",
+    "import",
+    "compile --scene .m",
+    "compile --scene m x",
+];
+
 #[test]
 fn words_outside_the_grammar_are_usage(rt: HostRuntime) {
-    let table: [&[&str]; 7] = [
-        &[],
-        &["compile", "x"],
-        &["gen", "0", "0"],
-        &["canon", "--scene", "m"],
-        &["import"],
-        &["compile", "--scene", ".m"],
-        &["compile", "--scene", "m", "x"],
-    ];
-    for words in table {
+    for words in &NO_COMMANDS {
         assert!(rt; prints(rt.alloc(), words, SECRET, Status::Usage, "error Usage\n"));
     }
 }
 
+static DIGESTS: [(&str, &str); 7] = [
+    (SECRET, SECRET_DIGEST),
+    (r#"{"policy":[{"type":"POLICYAUTHVALUE"}]}"#, VALUE_DIGEST),
+    (r#"{"policy":[{"type":"PolicyPassword"}]}"#, VALUE_DIGEST),
+    (
+        TWO_BRANCHES,
+        "digest ca3d0a99a2b93906f7a3342414efcfb3a385d44cd1fd459089d19b5071c0b7a0\n",
+    ),
+    (
+        SECOND_BRANCH,
+        "digest 3767e2edd43ff45a3a7e1eaefcef78643dca964632e7aad82c673a30d8633fde\n",
+    ),
+    (
+        r#"{"policy":[{"type":"authvalue","x":1}]}"#,
+        "note policy[0].x\n\
+        digest 8fcd2169ab92694e0c633f1ab772842b8241bbc20288981fc7ac1eddc1fddb0e\n",
+    ),
+    (PCR_23, PCR_23_DIGEST),
+];
+
 #[test]
 fn documents_compile(rt: HostRuntime) {
-    let rows = [
-        (SECRET, SECRET_DIGEST),
-        (r#"{"policy":[{"type":"POLICYAUTHVALUE"}]}"#, VALUE_DIGEST),
-        (r#"{"policy":[{"type":"PolicyPassword"}]}"#, VALUE_DIGEST),
-        (
-            TWO_BRANCHES,
-            "digest ca3d0a99a2b93906f7a3342414efcfb3a385d44cd1fd459089d19b5071c0b7a0\n",
-        ),
-        (
-            SECOND_BRANCH,
-            "digest 3767e2edd43ff45a3a7e1eaefcef78643dca964632e7aad82c673a30d8633fde\n",
-        ),
-        (
-            r#"{"policy":[{"type":"authvalue","x":1}]}"#,
-            "note policy[0].x\n\
-            digest 8fcd2169ab92694e0c633f1ab772842b8241bbc20288981fc7ac1eddc1fddb0e\n",
-        ),
-        (PCR_23, PCR_23_DIGEST),
-    ];
     assert_eq!(rt;
-        first_other(rt.alloc(), &["compile"], Status::Done, &rows),
+        first_other(rt.alloc(), "compile", Status::Done, &DIGESTS),
         None
     );
 }
+
+static REFUSALS: [(&str, &str); 7] = [
+    ("{", "error BadPolicy NotJson\n"),
+    (
+        r#"{"description":"","policy":[]}"#,
+        "error BadPolicy EmptyPolicy at policy\n",
+    ),
+    (
+        r#"{"policy":[{"type":"OR"}]}"#,
+        "error BadPolicy Missing at policy[0].branches\n",
+    ),
+    (
+        r#"{"policy":[{"type":"POLICYAUTHVALUE"},{"type":"POLICYAUTHORIZE","keyPath":"/k"}]}"#,
+        "error BadPolicy VoidPrefix at policy[1]\n",
+    ),
+    (
+        r#"{"policy":[{"type":"POLICYAUTHORIZE","keyPath":"/k"}]}"#,
+        "error BadPolicy NoSuchPath at policy[0].keyPath\n",
+    ),
+    (
+        PCR_24,
+        "error BadPolicy NoSuchPcr at policy[0].pcrs[0].pcr\n",
+    ),
+    (
+        CURRENT_PCR,
+        "error BadPolicy NoSuchPcr at policy[0].currentPCRs[0]\n",
+    ),
+];
 
 #[test]
 fn documents_are_refused_at_a_place(rt: HostRuntime) {
-    let rows = [
-        ("{", "error BadPolicy NotJson\n"),
-        (
-            r#"{"description":"","policy":[]}"#,
-            "error BadPolicy EmptyPolicy at policy\n",
-        ),
-        (
-            r#"{"policy":[{"type":"OR"}]}"#,
-            "error BadPolicy Missing at policy[0].branches\n",
-        ),
-        (
-            r#"{"policy":[{"type":"POLICYAUTHVALUE"},{"type":"POLICYAUTHORIZE","keyPath":"/k"}]}"#,
-            "error BadPolicy VoidPrefix at policy[1]\n",
-        ),
-        (
-            r#"{"policy":[{"type":"POLICYAUTHORIZE","keyPath":"/k"}]}"#,
-            "error BadPolicy NoSuchPath at policy[0].keyPath\n",
-        ),
-        (
-            PCR_24,
-            "error BadPolicy NoSuchPcr at policy[0].pcrs[0].pcr\n",
-        ),
-        (
-            CURRENT_PCR,
-            "error BadPolicy NoSuchPcr at policy[0].currentPCRs[0]\n",
-        ),
-    ];
     assert_eq!(rt;
-        first_other(rt.alloc(), &["compile"], Status::BadPolicy, &rows),
+        first_other(rt.alloc(), "compile", Status::BadPolicy, &REFUSALS),
         None
     );
 }
 
+static CANONICAL_TEXTS: [(&str, &str); 2] = [
+    (
+        r#"{"policy":[{"type":"authvalue","x":1}]}"#,
+        "{\"description\":\"\",\"policy\":[{\"type\":\"POLICYAUTHVALUE\"}]}\n",
+    ),
+    (
+        r#"{"policy":[{"type":"CommandCode","code":"unseal"}],"z":0,"a":0}"#,
+        "{\"description\":\"\",\"policy\":[{\"code\":\"Unseal\",\"type\":\"POLICYCOMMANDCODE\"}]}\n",
+    ),
+];
+
 #[test]
 fn canonical_texts_are_printed(rt: HostRuntime) {
-    let rows = [
-        (
-            r#"{"policy":[{"type":"authvalue","x":1}]}"#,
-            "{\"description\":\"\",\"policy\":[{\"type\":\"POLICYAUTHVALUE\"}]}\n",
-        ),
-        (
-            r#"{"policy":[{"type":"CommandCode","code":"unseal"}],"z":0,"a":0}"#,
-            "{\"description\":\"\",\"policy\":[{\"code\":\"Unseal\",\"type\":\"POLICYCOMMANDCODE\"}]}\n",
-        ),
-    ];
     assert_eq!(rt;
-        first_other(rt.alloc(), &["canon"], Status::Done, &rows),
+        first_other(rt.alloc(), "canon", Status::Done, &CANONICAL_TEXTS),
         None
     );
 }
@@ -322,25 +327,26 @@ fn paths_of_more_than_eight_branches(rt: HostRuntime) {
         path 8 \"#1\"/\"b8\" AuthValue,Or,Or\n\
         path 9 \"b9\" AuthValue,Or\n\
         digest 7ca6b9b627651db7cbbd1773c5ad340ed5b8b39caeaea71f27a2ca4459954abe\n";
-    assert!(rt; prints(rt.alloc(), &["paths"], NINE_BRANCHES, Status::Done, want));
+    assert!(rt; prints(rt.alloc(), "paths", NINE_BRANCHES, Status::Done, want));
 }
+
+static PATHS: [(&str, &str); 2] = [
+    (
+        TWO_BRANCHES,
+        "path 1 \"A\" Secret,Or\npath 2 \"C\"/@* ApproveNv,Or\n\
+        digest ca3d0a99a2b93906f7a3342414efcfb3a385d44cd1fd459089d19b5071c0b7a0\n",
+    ),
+    (
+        BEFORE_AN_OR,
+        "path 1 \"a\" CommandCode,AuthValue,Or\npath 2 \"b\" CommandCode,Locality,Or\n\
+        digest ad58f886e7950910e34b952493d1c9ee0639e4aa31c0c201360a41bcd380eb96\n",
+    ),
+];
 
 #[test]
 fn paths_are_listed_in_document_order(rt: HostRuntime) {
-    let rows = [
-        (
-            TWO_BRANCHES,
-            "path 1 \"A\" Secret,Or\npath 2 \"C\"/@* ApproveNv,Or\n\
-            digest ca3d0a99a2b93906f7a3342414efcfb3a385d44cd1fd459089d19b5071c0b7a0\n",
-        ),
-        (
-            BEFORE_AN_OR,
-            "path 1 \"a\" CommandCode,AuthValue,Or\npath 2 \"b\" CommandCode,Locality,Or\n\
-            digest ad58f886e7950910e34b952493d1c9ee0639e4aa31c0c201360a41bcd380eb96\n",
-        ),
-    ];
     assert_eq!(rt;
-        first_other(rt.alloc(), &["paths"], Status::Done, &rows),
+        first_other(rt.alloc(), "paths", Status::Done, &PATHS),
         None
     );
 }
@@ -349,7 +355,7 @@ fn are_too_many(alloc: Global, count: usize) -> bool {
     match ors(alloc, count) {
         Ok(text) => {
             let want = "error PathLimit TooManyPaths\n";
-            prints(alloc, &["paths"], text.as_str(), Status::PathLimit, want)
+            prints(alloc, "paths", text.as_str(), Status::PathLimit, want)
         }
         Err(_) => false,
     }
@@ -360,23 +366,24 @@ fn too_many_paths_are_refused(rt: HostRuntime) {
     assert!(rt; are_too_many(rt.alloc(), 17));
 }
 
+static SCENES: [(&str, Status, &str); 3] = [
+    ("compile --scene m", Status::Done, PCR_23_DIGEST),
+    (
+        "compile --scene /policy/none",
+        Status::BadScene,
+        "error BadScene NoSuchScene\n",
+    ),
+    (
+        "paths --scene bad",
+        Status::BadScene,
+        "error BadScene NotJson\n",
+    ),
+];
+
 #[test]
 fn scenes_give_current_values(rt: HostRuntime) {
-    let table: [(&[&str], Status, &str); 3] = [
-        (&["compile", "--scene", "m"], Status::Done, PCR_23_DIGEST),
-        (
-            &["compile", "--scene", "/policy/none"],
-            Status::BadScene,
-            "error BadScene NoSuchScene\n",
-        ),
-        (
-            &["paths", "--scene", "bad"],
-            Status::BadScene,
-            "error BadScene NotJson\n",
-        ),
-    ];
-    for (words, status, want) in table {
-        assert!(rt; prints(rt.alloc(), words, CURRENT_PCR, status, want));
+    for (words, status, want) in &SCENES {
+        assert!(rt; prints(rt.alloc(), words, CURRENT_PCR, *status, want));
     }
 }
 
@@ -389,7 +396,7 @@ fn failures_of_the_source_are_told(rt: HostRuntime) {
     assert!(rt;
         ends(
             rt.alloc(),
-            &["compile"],
+            "compile",
             SECRET,
             &failures,
             Status::ReadFault,
@@ -407,7 +414,7 @@ fn failures_of_the_sink_are_told(rt: HostRuntime) {
     assert!(rt;
         ends(
             rt.alloc(),
-            &["compile"],
+            "compile",
             SECRET,
             &failures,
             Status::WriteFault,
@@ -422,17 +429,8 @@ fn failures_of_the_shelf_are_told(rt: HostRuntime) {
         shelf: &[1],
         ..NO_FAILURES
     };
-    let words = ["compile", "--scene", "m"];
-    assert!(rt;
-        ends(
-            rt.alloc(),
-            &words,
-            SECRET,
-            &failures,
-            Status::ShelfFault,
-            ""
-        )
-    );
+    let words = "compile --scene m";
+    assert!(rt; ends(rt.alloc(), words, SECRET, &failures, Status::ShelfFault, ""));
 }
 
 // The source is called until it answers that it is at its end, and the shelf for the scene and for the names of
@@ -444,11 +442,11 @@ fn nothing_is_called_again(rt: HostRuntime) {
         sink: &[],
         shelf: &[3],
     };
-    let words = ["compile", "--scene", "m"];
+    let words = "compile --scene m";
     assert!(rt;
         ends(
             rt.alloc(),
-            &words,
+            words,
             CURRENT_PCR,
             &failures,
             Status::Done,
@@ -464,11 +462,11 @@ fn import_neither_lists_nor_fetches(rt: HostRuntime) {
         shelf: &[2, 3, 4],
         ..NO_FAILURES
     };
-    let words = ["import", "/policy/disk"];
+    let words = "import /policy/disk";
     assert!(rt;
         ends(
             rt.alloc(),
-            &words,
+            words,
             SECRET,
             &failures,
             Status::Done,
@@ -487,7 +485,7 @@ fn each_line_is_one_write(rt: HostRuntime) {
     assert!(rt;
         ends(
             rt.alloc(),
-            &["paths"],
+            "paths",
             BEFORE_AN_OR,
             &failures,
             Status::WriteFault,
@@ -499,9 +497,7 @@ fn each_line_is_one_write(rt: HostRuntime) {
 // Whether `compile` of so many blanks answers so.
 fn blanks_answer(alloc: Global, blanks: &[u8], status: Status) -> bool {
     match sink(alloc, &[]) {
-        Ok(mut sink) => {
-            answer(alloc, &["compile"], blanks, &NO_FAILURES, &mut sink) == Ok(status)
-        }
+        Ok(mut sink) => { answer(alloc, "compile", blanks, &NO_FAILURES, &mut sink) == Ok(status) }
         Err(_) => false,
     }
 }

@@ -10,11 +10,11 @@ use Rattle.tpol_wire.specs.declared.fault.WireFault.{WireFault}
 use Rattle.tpol_wire.specs.declared.fault.WireFault.TheVariants.{Refused, NoMemory}
 use Rattle.tpol_wire.specs.declared.command.Command.{Command}
 use Rattle.tpol_base.specs.declared.command_code.CommandCode.{CommandCode}
-use Rattle.tpol_wire.specs.Authorizations.{authorization, authorization_at}
+use Rattle.tpol_wire.specs.Authorizations.{AreaOf, AuthorizationFits, authorization, authorization_at}
 use Rattle.tpol_base.specs.CommandCode.{number_of_code, code_of_number}
-use Rattle.tpol_wire.specs.Commands.{Fields, spell_values, code_of_command, fields_of, command_of, tag, body, layout, FieldsFit, Spells}
-use Rattle.tpol_wire.specs.Kinds.{limit, number_at}
-use Rattle.tpol_wire.specs.Reading.{values_at, body_at, number_in, known, header_of, reading, wire_refusal}
+use Rattle.tpol_wire.specs.Commands.{Fields, Values, ValuesFit, spell_values, code_of_command, fields_of, command_of, tag, body, layout, FieldsFit, Spells}
+use Rattle.tpol_wire.specs.Kinds.{Kind, limit, number_at}
+use Rattle.tpol_wire.specs.Reading.{values_at, front_at, body_at, number_in, known, header_of, reading, wire_refusal}
 use Rattle.tpol_base.specs.Answers.{◌>>=◌}
 use Rattle.tpol_base.specs.ResponseCode.{of_handle, of_parameter, rc_size, rc_bad_tag, rc_command_size}
 use Rattle.tpol_wire.specs.Answers.{Gives, RefusesBy}
@@ -102,6 +102,31 @@ header_again announced code rest short =
 
 -- ---- the body
 
+record FrontFound (handles : List Kind) (is : Bool) (tagged : Bool) (bytes : List ℕ) (x : (Values handles × AreaOf is) × List ℕ) : Type 0 where
+  taken : Takes bytes (spell_values handles x.0.0 ++ authorization is x.0.1) x.1
+  handles-fit : ValuesFit handles x.0.0
+  area-fits : AuthorizationFits is x.0.1
+  tag-is : tagged ≡ is
+
+front_found : (handles : List Kind) (is : Bool) (tagged : Bool) (bytes : List ℕ) (x : (Values handles × AreaOf is) × List ℕ) → are_sound handles ≡ true → IsBytes bytes → front_at handles is tagged bytes ≡ Ok x → FrontFound handles is tagged bytes x
+unfolding front_at
+front_found handles is tagged bytes x sound fits e =
+    let h = bind_ok (values_at (of_handle 1) handles bytes) (λ values. authorization_at is tagged values.1 >>= λ area. Ok ((values.0, area.0), area.1)) x e in
+    let a = bind_ok (authorization_at is tagged h.0.1) (λ area. Ok ((h.0.0, area.0), area.1)) x h.2 in
+    let ht = values_found handles (of_handle 1) bytes h.0 sound fits h.1 in
+    let at = authorization_found is tagged h.0.1 a.0 ht.0.rest_fits a.1 in
+    let taken = Takes-then bytes (spell_values handles h.0.0) h.0.1 (authorization is a.0.0) a.0.1 ht.0 at.0 in
+    let made : (Values handles × AreaOf is) × List ℕ = ((h.0.0, a.0.0), a.0.1) in
+    subst (FrontFound handles is tagged bytes) (ok_is made x a.2) (record { taken = taken; handles-fit = ht.1; area-fits = at.1; tag-is = at.2 })
+
+front_again : (handles : List Kind) (is : Bool) (values : Values handles) (area : AreaOf is) (rest : List ℕ) → are_sound handles ≡ true → ValuesFit handles values → AuthorizationFits is area
+    → front_at handles is is (spell_values handles values ++ (authorization is area ++ rest)) ≡ Ok ((values, area), rest)
+unfolding front_at
+front_again handles is values area rest sound values-fit area-fits =
+    let one = values_again handles (of_handle 1) values (authorization is area ++ rest) sound values-fit in
+    let two = authorization_again is area rest area-fits in
+    rw (one, two) refl
+
 record BodyFound (code : CommandCode) (tagged : Bool) (bytes : List ℕ) (x : Command × List ℕ) : Type 0 where
   fields : Fields (row code)
   made : command_of code fields ≡ x.0
@@ -117,22 +142,19 @@ body_found code tagged bytes x fits e =
     let is = (row code).is_authorized in
     let s = both (are_sound h-kinds) (are_sound p-kinds && leb (greatest_lengths h-kinds + greatest_lengths p-kinds) 3900) (sound_row code) in
     let t = both (are_sound p-kinds) (leb (greatest_lengths h-kinds + greatest_lengths p-kinds) 3900) s.1 in
-    let h = bind_ok (values_at (of_handle 1) h-kinds bytes) (λ handles. authorization_at is tagged handles.1 >>= λ area. values_at (of_parameter 1) p-kinds area.1 >>= λ parameters. Ok (command_of code (record { handles = handles.0; area = area.0; parameters = parameters.0 }), parameters.1)) x e in
-    let a = bind_ok (authorization_at is tagged h.0.1) (λ area. values_at (of_parameter 1) p-kinds area.1 >>= λ parameters. Ok (command_of code (record { handles = h.0.0; area = area.0; parameters = parameters.0 }), parameters.1)) x h.2 in
-    let p = bind_ok (values_at (of_parameter 1) p-kinds a.0.1) (λ parameters. Ok (command_of code (record { handles = h.0.0; area = a.0.0; parameters = parameters.0 }), parameters.1)) x a.2 in
-    let ht = values_found h-kinds (of_handle 1) bytes h.0 s.0 fits h.1 in
-    let at = authorization_found is tagged h.0.1 a.0 ht.0.rest_fits a.1 in
-    let pt = values_found p-kinds (of_parameter 1) a.0.1 p.0 t.0 at.0.rest_fits p.1 in
-    let fields : Fields (row code) = record { handles = h.0.0; area = a.0.0; parameters = p.0.0 } in
-    let front = Takes-then bytes (spell_values h-kinds h.0.0) h.0.1 (authorization is a.0.0) a.0.1 ht.0 at.0 in
-    let all = Takes-then bytes (spell_values h-kinds h.0.0 ++ authorization is a.0.0) a.0.1 (spell_values p-kinds p.0.0) p.0.1 front pt.0 in
+    let f = bind_ok (front_at h-kinds is tagged bytes) (λ front. values_at (of_parameter 1) p-kinds front.1 >>= λ parameters. Ok (command_of code (record { handles = front.0.0; area = front.0.1; parameters = parameters.0 }), parameters.1)) x e in
+    let p = bind_ok (values_at (of_parameter 1) p-kinds f.0.1) (λ parameters. Ok (command_of code (record { handles = f.0.0.0; area = f.0.0.1; parameters = parameters.0 }), parameters.1)) x f.2 in
+    let front = front_found h-kinds is tagged bytes f.0 s.0 fits f.1 in
+    let pt = values_found p-kinds (of_parameter 1) f.0.1 p.0 t.0 front.taken.rest_fits p.1 in
+    let fields : Fields (row code) = record { handles = f.0.0.0; area = f.0.0.1; parameters = p.0.0 } in
+    let all = Takes-then bytes (spell_values h-kinds f.0.0.0 ++ authorization is f.0.0.1) f.0.1 (spell_values p-kinds p.0.0) p.0.1 front.taken pt.0 in
     let same = ok_is (command_of code fields, p.0.1) x p.2 in
     record {
       fields = fields;
       made = ap (λ (y : Command × List ℕ). y.0) same;
       taken = subst (λ (r : List ℕ). Takes bytes (body code fields) r) (ap (λ (y : Command × List ℕ). y.1) same) all;
-      fits = record { handles = ht.1; area = at.1; parameters = pt.1 };
-      tag-is = at.2;
+      fits = record { handles = front.handles-fit; area = front.area-fits; parameters = pt.1 };
+      tag-is = front.tag-is;
     }
 
 body_again : (code : CommandCode) (fields : Fields (row code)) → FieldsFit code fields → body_at code (row code).is_authorized (body code fields) ≡ Ok (command_of code fields, [])
@@ -147,10 +169,9 @@ body_again code fields fits =
     let A = authorization is fields.area in
     let P = spell_values p-kinds fields.parameters in
     let regrouped : body code fields ≡ H ++ (A ++ (P ++ [])) = append_assoc H A P ∙ ap (λ (r : List ℕ). H ++ (A ++ r)) (sym (append-nil P)) in
-    let one = values_again h-kinds (of_handle 1) fields.handles (A ++ (P ++ [])) s.0 fits.handles in
-    let two = authorization_again is fields.area (P ++ []) fits.area in
-    let three = values_again p-kinds (of_parameter 1) fields.parameters [] t.0 fits.parameters in
-    ap (body_at code is) regrouped ∙ rw (one, two, three) refl
+    let one = front_again h-kinds is fields.handles fields.area (P ++ []) s.0 fits.handles fits.area in
+    let two = values_again p-kinds (of_parameter 1) fields.parameters [] t.0 fits.parameters in
+    ap (body_at code is) regrouped ∙ rw (one, two) refl
 
 body_length : (code : CommandCode) (fields : Fields (row code)) → FieldsFit code fields → length (body code fields) ≤ 4009
 body_length code fields fits =

@@ -173,6 +173,7 @@ record Answered (o : Option CommandCode) (t : ℕ) (rest : List ℕ) (x : Reply 
   served : served_at code (row code).is_authorized rest ≡ Some x
 
 answer_ok : (o : Option CommandCode) (t : ℕ) (rest : List ℕ) (x : Reply × Option ReplyAuth) → answer_of o t rest ≡ Some x → Answered o t rest x
+unfolding answer_of
 answer_ok None t rest x e = absurd cc
 answer_ok (Some code) t rest x e =
     let g = chosen_some (eqb t (tag (row code).is_authorized)) (served_at code (row code).is_authorized rest) x e in
@@ -198,6 +199,7 @@ served_spells number bytes rest t x fits whole e =
     spells_reply number bytes x.0 x.1 (subst (λ (p : Parts). IsReply number bytes x.1 p) parts (spelled, (f.fits, f.auth-fits), code_found number a.code a.known))
 
 refused_spells : (number : ℕ) (bytes rest : List ℕ) (t n : ℕ) (x : Reply × Option ReplyAuth) → n < 2 ^ 32 → n ≢ 0 → bytes ≡ reply_layout t n rest → refusal_of t n rest ≡ Some x → SpellsReply number bytes x.0 x.1
+unfolding refusal_of
 refused_spells number bytes rest t n x below not-zero whole e =
     let made : Reply × Option ReplyAuth = (replies.Refused (record { code = n }), None) in
     let g = chosen_some (eqb t (refusal_tag n) && eqb (length rest) 0) (Some made) x e in
@@ -252,7 +254,7 @@ body_short code values true (Some auth) fits auth-fits =
 body_short code values false (Some auth) fits auth-fits = absurd cc
 
 parts_read : (number : ℕ) (parts : Parts) (auth : Option ReplyAuth) → PartsFit parts auth → PartsAnswer number parts → reply_reading number (spell_parts parts auth) ≡ Some (whole_of parts, auth)
-unfolding reply_reading
+unfolding reply_reading answer_of refusal_of
 parts_read number (Served code values) auth fits answers =
     let B = reply_body (spell_values (row code).reply values) auth in
     let is = (row code).is_authorized in

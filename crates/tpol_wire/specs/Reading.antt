@@ -5,7 +5,7 @@ use Rattle.std.specs.Int.{Width, w16, w32, byte_len, from_be_bytes}
 use Rattle.tpol_wire.specs.declared.command.Command.{Command}
 use Rattle.tpol_wire.specs.declared.reply.Reply.{Reply}
 use Rattle.tpol_base.specs.declared.command_code.CommandCode.{CommandCode}
-use Rattle.tpol_wire.specs.Authorizations.{authorization_at}
+use Rattle.tpol_wire.specs.Authorizations.{AreaOf, authorization_at}
 use Rattle.tpol_base.specs.CommandCode.{code_of_number}
 use Rattle.tpol_wire.specs.Commands.{Values, command_of, tag}
 use Rattle.tpol_wire.specs.Kinds.{Kind, read}
@@ -22,13 +22,19 @@ values_at position (kind ∷ kinds) bytes = do
   others ← values_at (position + 0x100) kinds first.1
   Ok ((first.0, others.0), others.1)
 
--- what stands behind the header of a command: handles, the authorization where the tag says that there is one, parameters
+-- what stands behind the header of a command before its parameters: handles, and the authorization where the tag says that there is one
+unfoldable pub front_at : (handles : List Kind) (authorized : Bool) → Bool → List ℕ → Result ((Values handles × AreaOf authorized) × List ℕ) ℕ
+front_at handles authorized tagged bytes = do
+  values ← values_at (of_handle 1) handles bytes
+  area ← authorization_at authorized tagged values.1
+  Ok ((values.0, area.0), area.1)
+
+-- what stands behind the header of a command
 unfoldable pub body_at : CommandCode → Bool → List ℕ → Result (Command × List ℕ) ℕ
 body_at code tagged bytes = do
-  handles ← values_at (of_handle 1) (row code).handles bytes
-  area ← authorization_at (row code).is_authorized tagged handles.1
-  parameters ← values_at (of_parameter 1) (row code).parameters area.1
-  Ok (command_of code (record { handles = handles.0; area = area.0; parameters = parameters.0 }), parameters.1)
+  front ← front_at (row code).handles (row code).is_authorized tagged bytes
+  parameters ← values_at (of_parameter 1) (row code).parameters front.1
+  Ok (command_of code (record { handles = front.0.0; area = front.0.1; parameters = parameters.0 }), parameters.1)
 
 -- the fields of a reply
 unfoldable pub reply_at : CommandCode → List ℕ → Result (Reply × List ℕ) ℕ

@@ -45,11 +45,11 @@ served_at code true bytes = do
   Some (reply, Some auth)
 
 -- a refusal with this tag and code, and nothing behind
-abbrev pub refusal_of : ℕ → ℕ → List ℕ → Option (Reply × Option ReplyAuth)
+unfoldable pub refusal_of : ℕ → ℕ → List ℕ → Option (Reply × Option ReplyAuth)
 refusal_of tag code rest = if tag == refusal_tag code && length rest == 0 then Some (replies.Refused (record { code = code }), None) else None
 
 -- a reply with the code 0 and this tag to a command
-abbrev pub answer_of : Option CommandCode → ℕ → List ℕ → Option (Reply × Option ReplyAuth)
+unfoldable pub answer_of : Option CommandCode → ℕ → List ℕ → Option (Reply × Option ReplyAuth)
 answer_of None found rest = None
 answer_of (Some code) found rest = if found == tag (row code).is_authorized then served_at code (row code).is_authorized rest else None
 

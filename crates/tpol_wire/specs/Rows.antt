@@ -80,6 +80,14 @@ signature = Behind w16 alg_hmac rc_value (Behind w16 alg_sha256 rc_hash Digest)
 abbrev pub context : Kind
 context = Together (Number w64 is_any_number 0) (Together (handle PolicySession) (Behind w32 rh_null rc_value sized_digest))
 
+-- operandB, offset and operation
+abbrev pub comparison : List Kind
+comparison = Sized 64 ∷ short ∷ Operation ∷ []
+
+-- policyRef, the Name of the key or the entity, and the ticket
+abbrev pub ticketed : List Kind
+ticketed = Sized 64 ∷ Named ∷ Ticketed ∷ []
+
 -- ---- the rows
 
 -- the handles of a command, whether the first of them is authorized, its parameters, and the fields of a reply to it
@@ -112,21 +120,21 @@ row codes.NvRead = authorized (handle Authority ∷ handle Index ∷ []) (read_s
 row codes.NvWrite = authorized (handle Authority ∷ handle Index ∷ []) (Sized 1024 ∷ short ∷ []) []
 row codes.NvIncrement = authorized (handle Authority ∷ handle Index ∷ []) [] []
 row codes.Duplicate = authorized (handle Object ∷ handle Parent ∷ []) (empty ∷ fixed alg_null rc_value ∷ []) (empty ∷ Sized 1024 ∷ empty ∷ [])
-row codes.PolicyNv = authorized (handle Authority ∷ handle Index ∷ handle PolicySession ∷ []) (Sized 64 ∷ short ∷ Operation ∷ []) []
+row codes.PolicyNv = authorized (handle Authority ∷ handle Index ∷ handle PolicySession ∷ []) comparison []
 row codes.PolicyCpHash = plain (handle PolicySession ∷ []) (sized_digest ∷ []) []
 row codes.PolicyNameHash = plain (handle PolicySession ∷ []) (sized_digest ∷ []) []
 row codes.PolicyAuthValue = plain (handle PolicySession ∷ []) [] []
 row codes.PolicyPassword = plain (handle PolicySession ∷ []) [] []
 row codes.PolicyPhysicalPresence = plain (handle PolicySession ∷ []) [] []
 row codes.PolicyCommandCode = plain (handle PolicySession ∷ []) (long ∷ []) []
-row codes.PolicyCounterTimer = plain (handle PolicySession ∷ []) (Sized 64 ∷ short ∷ Operation ∷ []) []
+row codes.PolicyCounterTimer = plain (handle PolicySession ∷ []) comparison []
 row codes.PolicyLocality = plain (handle PolicySession ∷ []) (byte ∷ []) []
 row codes.PolicyPcr = plain (handle PolicySession ∷ []) (Optional ∷ selection ∷ []) []
 row codes.PolicyDuplicationSelect = plain (handle PolicySession ∷ []) (Named ∷ Named ∷ Truth ∷ []) []
 row codes.PolicyNvWritten = plain (handle PolicySession ∷ []) (Truth ∷ []) []
 row codes.PolicySigned = plain (handle Object ∷ handle PolicySession ∷ []) (Sized 32 ∷ Optional ∷ Sized 64 ∷ Signed ∷ signature ∷ []) (TimedTicket st_auth_signed ∷ [])
 row codes.PolicySecret = authorized (handle Entity ∷ handle PolicySession ∷ []) (Sized 32 ∷ Optional ∷ Sized 64 ∷ Signed ∷ []) (TimedTicket st_auth_secret ∷ [])
-row codes.PolicyTicket = plain (handle PolicySession ∷ []) (timeout ∷ Optional ∷ Sized 64 ∷ Named ∷ Ticketed ∷ []) []
-row codes.PolicyAuthorize = plain (handle PolicySession ∷ []) (sized_digest ∷ Sized 64 ∷ Named ∷ Ticketed ∷ []) []
+row codes.PolicyTicket = plain (handle PolicySession ∷ []) (timeout ∷ Optional ∷ ticketed) []
+row codes.PolicyAuthorize = plain (handle PolicySession ∷ []) (sized_digest ∷ ticketed) []
 row codes.PolicyOr = plain (handle PolicySession ∷ []) (Digests 2 8 ∷ []) []
 row codes.PolicyAuthorizeNv = authorized (handle Authority ∷ handle Index ∷ handle PolicySession ∷ []) [] []

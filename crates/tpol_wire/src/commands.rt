@@ -1,6 +1,9 @@
 //! The commands, each in a file of its own under its standard name: handles, parameters and reply (TPM 2.0 Part 3).
-#![tactic(auto, unfolding(crate::specs::Reading::body_at, crate::specs::Reading::reply_at, crate::specs::Reading::values_at, crate::specs::Commands::spell_values, crate::specs::Kinds::spell))]
+//! What several have in common stands in `assertion`, `comparison`, `session` and `ticketed`.
+#![tactic(auto, unfolding(crate::specs::Reading::body_at, crate::specs::Reading::front_at, crate::specs::Reading::reply_at, crate::specs::Reading::values_at, crate::specs::Commands::spell_values, crate::specs::Kinds::spell))]
 
+mod assertion;
+mod comparison;
 pub(crate) mod context_load;
 pub(crate) mod context_save;
 pub(crate) mod duplicate;
@@ -31,6 +34,8 @@ pub(crate) mod policy_restart;
 pub(crate) mod policy_secret;
 pub(crate) mod policy_signed;
 pub(crate) mod policy_ticket;
+mod session;
 pub(crate) mod start_auth_session;
+mod ticketed;
 pub(crate) mod unseal;
 pub(crate) mod verify_signature;

@@ -118,10 +118,12 @@ fn whole(alloc: Global, bytes: &[u8]) -> Result<Command, WireFault>
     let mut cursor = Cursor::new(bytes);
     let (code, tagged) = header(&mut cursor)?;
     let command = body(alloc, code, tagged, &mut cursor)?;
-    if cursor.left() != 0 {
-        return Err(refused(SIZE));
+    if cursor.left() == 0 {
+        Ok(command)
+    } else {
+        drop(command);
+        Err(refused(SIZE))
     }
-    Ok(command)
 }
 
 /// The command that the bytes spell, or the code of the first rule that they break (TPM 2.0 Part 1,

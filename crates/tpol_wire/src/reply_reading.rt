@@ -71,10 +71,11 @@ fn all_fields(alloc: Global, code: CommandCode, cursor: &mut Cursor) -> Result<R
 {
     match reply_fields(alloc, code, cursor) {
         Ok(reply) => {
-            if cursor.left() != 0 {
-                return Err(ReplyFault::Malformed);
+            if cursor.left() == 0 {
+                return Ok(reply);
             }
-            Ok(reply)
+            drop(reply);
+            Err(ReplyFault::Malformed)
         }
         Err(WireFault::Refused(_)) => Err(ReplyFault::Malformed),
         Err(WireFault::NoMemory) => Err(ReplyFault::NoMemory),
@@ -128,8 +129,13 @@ fn authorized(
         return Err(ReplyFault::Malformed);
     };
     let reply = all_fields(alloc, code, &mut Cursor::new(fields))?;
-    let auth = reply_auth(alloc, cursor)?;
-    Ok((reply, Some(auth)))
+    match reply_auth(alloc, cursor) {
+        Ok(auth) => Ok((reply, Some(auth))),
+        Err(fault) => {
+            drop(reply);
+            Err(fault)
+        }
+    }
 }
 
 /// The tag of a refusal: that of TPM 1.2 where the command's tag was refused.
@@ -144,6 +150,7 @@ pub(crate) fn refusal_tag(code: u32) -> u16
 }
 
 /// A refusal with this code, and nothing behind it.
+#[tactic(auto, unfolding(crate::specs::ReplyReading::refusal_of))]
 fn refusal(tag: u16, code: u32, cursor: &Cursor) -> Result<(Reply, Option<ReplyAuth>), ReplyFault>
     ensures { GivesReply result (refusal_of tag code cursor.now) }
 {
@@ -154,6 +161,7 @@ fn refusal(tag: u16, code: u32, cursor: &Cursor) -> Result<(Reply, Option<ReplyA
 }
 
 /// A reply with the code 0 to this command.
+#[tactic(auto, unfolding(crate::specs::ReplyReading::answer_of))]
 fn answer(
     alloc: Global,
     code: u32,

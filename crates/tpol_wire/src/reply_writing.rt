@@ -1,7 +1,7 @@
 //! Replies as bytes.
 
 ghost use Rattle.std.specs.Prelude.{◌≡◌, List, ℕ, IfOk, option_copied};
-ghost use Rattle.tpol_wire.specs.Replies.{FitsReply, PartsAnswer, SpellsReply, answered_by, parts_of, reply_body, reply_fields_of, reply_layout, spell_reply};
+ghost use Rattle.tpol_wire.specs.Replies.{FitsReply, PartsAnswer, SpellsReply, answered_by, parts_of, reply_body, reply_fields_of, spell_reply};
 ghost use Rattle.tpol_wire.specs.Spellings.{Appends};
 
 use crate::auth_area::ReplyAuth;
@@ -124,19 +124,6 @@ fn authorized(alloc: Global, fields: &Blob, auth: &ReplyAuth) -> Result<Blob, No
     Ok(out)
 }
 
-/// Tag, size, code and what stands behind.
-fn layout(alloc: Global, tag: u16, code: u32, body: &[u8]) -> Result<Blob, NoMemory>
-    ensures { IfOk result (λ bytes. bytes ≡ reply_layout tag code body.now) }
-{
-    let mut out = Blob::new(alloc);
-    spelling::number16(&mut out, tag)?;
-    // The remainder keeps the sum within a usize; of the sum the last four bytes are written.
-    spelling::length32(&mut out, 10 + body.len() % 0x1_0000_0000)?;
-    spelling::number32(&mut out, code)?;
-    out.extend_from_slice(body)?;
-    Ok(out)
-}
-
 /// The one spelling of a reply with its authorization, where there is one (TPM 2.0 Part 1, "Response
 /// Structure"); a reply whose fields are within their bounds is read again as a reply to its command, and a
 /// refusal as a reply to any.
@@ -147,8 +134,8 @@ pub fn write_reply(alloc: Global, reply: &Reply, auth: Option<&ReplyAuth>) -> Re
     match answered(reply) {
         Ok(command) => {
             let body = body(alloc, reply, auth)?;
-            layout(alloc, table::tag_of(command), 0, body.as_slice())
+            spelling::message(alloc, table::tag_of(command), 0, body.as_slice())
         }
-        Err(rc) => layout(alloc, refusal_tag(rc.code), rc.code, &[]),
+        Err(rc) => spelling::message(alloc, refusal_tag(rc.code), rc.code, &[]),
     }
 }

@@ -1,13 +1,13 @@
 //! Writers of single fields, at the end of bytes.
 #![tactic(auto, unfolding(crate::specs::Kinds::spell))]
 
-ghost use Rattle.std.specs.Prelude.{◌≡◌, ◌++◌, ◌∷◌, [], OnOk, List, ℕ, length, true};
+ghost use Rattle.std.specs.Prelude.{◌≡◌, ◌++◌, ◌∷◌, [], IfOk, OnOk, List, ℕ, length, true};
 ghost use Rattle.std.specs.Int.{w16, w32, w64, to_be_bytes};
 ghost use Rattle.std.specs.List.{flat_map};
 ghost use Rattle.tpol_wire.specs.Authorizations.{authorization, spell_tail};
 ghost use Rattle.tpol_wire.specs.Kinds.{spell, sized as sized_bytes, ticket_bytes, timeout_bytes, Signed, Truth, Operation, Digest, Mask, Sized, Optional, Named, Ticketed, Digests};
 ghost use Rattle.tpol_wire.specs.Rows.{byte as byte_kind, short as short_kind, long as long_kind, sized_digest as sized_digest_kind, one_digest as one_digest_kind, selection as selection_kind, signature as signature_kind, timeout as timeout_kind, context as context_kind};
-ghost use Rattle.tpol_wire.specs.Spellings.{Appends};
+ghost use Rattle.tpol_wire.specs.Spellings.{Appends, message_bytes};
 
 use crate::auth_area::AuthArea;
 use crate::ticket::Ticket;
@@ -225,4 +225,18 @@ pub(crate) fn area(alloc: Global, out: &mut Blob, area: &AuthArea) -> Result<(),
     tail(&mut bytes, &area.nonce, area.attributes, &area.hmac)?;
     length32(out, bytes.len())?;
     out.extend_from_slice(bytes.as_slice())
+}
+
+/// A command or a reply: its tag, its size, its code and what stands behind them (TPM 2.0 Part 1, "Command
+/// Structure" and "Response Structure").
+pub(crate) fn message(alloc: Global, tag: u16, code: u32, body: &[u8]) -> Result<Blob, NoMemory>
+    ensures { IfOk result (λ bytes. bytes ≡ message_bytes tag code body.now) }
+{
+    let mut out = Blob::new(alloc);
+    number16(&mut out, tag)?;
+    // The remainder keeps the sum within a usize; of the sum the last four bytes are written.
+    length32(&mut out, 10 + body.len() % 0x1_0000_0000)?;
+    number32(&mut out, code)?;
+    out.extend_from_slice(body)?;
+    Ok(out)
 }

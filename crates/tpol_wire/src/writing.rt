@@ -294,11 +294,5 @@ pub fn write_command(alloc: Global, command: &Command) -> Result<Blob, NoMemory>
     front(alloc, &mut body, command)?;
     parameters(&mut body, command)?;
     let code = command_code(command);
-    let mut out = Blob::new(alloc);
-    spelling::number16(&mut out, table::tag_of(code))?;
-    // The remainder keeps the sum within a usize; of the sum the last four bytes are written.
-    spelling::length32(&mut out, 10 + body.len() % 0x1_0000_0000)?;
-    spelling::number32(&mut out, code.number())?;
-    out.extend_from_slice(body.as_slice())?;
-    Ok(out)
+    spelling::message(alloc, table::tag_of(code), code.number(), body.as_slice())
 }

@@ -7,10 +7,10 @@ ghost use Rattle.tpol_wire.specs.Rows.{row};
 ghost use Rattle.tpol_wire.specs.Spellings.{Appends};
 
 use crate::command::Command;
+use crate::commands::{session, ticketed};
 use crate::fault::WireFault;
-use crate::handle_type::HandleType;
 use crate::ticket::Ticket;
-use crate::{authorization, fields, spelling};
+use crate::{fields, spelling};
 use std::alloc::Global;
 use tpol_base::{Blob, CommandCode, Cursor, Digest32, Name, NoMemory};
 
@@ -18,12 +18,9 @@ use tpol_base::{Blob, CommandCode, Cursor, Digest32, Name, NoMemory};
 pub(crate) fn read(alloc: Global, tagged: bool, cursor: &mut Cursor) -> Result<Command, WireFault>
     ensures { Reads result (body_at CommandCode.PolicyAuthorize tagged cursor.old) cursor.new }
 {
-    let session = fields::handle(cursor, 1, HandleType::PolicySession)?;
-    authorization::none(tagged)?;
+    let session = session::read(tagged, cursor)?;
     let approved = fields::sized_digest(cursor, 1)?;
-    let policy_ref = fields::copied_buffer(alloc, cursor, 2, 64)?;
-    let key = fields::name(cursor, 3)?;
-    let ticket = fields::ticket(alloc, cursor, 4)?;
+    let (policy_ref, key, ticket) = ticketed::read(alloc, cursor, 2)?;
     Ok(Command::PolicyAuthorize {
         session,
         approved,
@@ -44,7 +41,5 @@ pub(crate) fn write(
     ensures { Appends result out.old out.new (spell_values (row CommandCode.PolicyAuthorize).parameters (approved.now, (policy_ref.now, (key.now, (ticket.now, tt))))) }
 {
     spelling::sized_digest(out, approved)?;
-    spelling::sized(out, policy_ref.as_slice())?;
-    spelling::name(out, key)?;
-    spelling::ticket(out, ticket)
+    ticketed::write(out, policy_ref, key, ticket)
 }

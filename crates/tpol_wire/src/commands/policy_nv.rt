@@ -1,17 +1,16 @@
 //! TPM2_PolicyNV (TPM 2.0 Part 3).
 
 ghost use Rattle.tpol_wire.specs.Answers.{Reads};
-ghost use Rattle.tpol_wire.specs.Commands.{spell_values};
 ghost use Rattle.tpol_wire.specs.Reading.{body_at};
-ghost use Rattle.tpol_wire.specs.Rows.{row};
-ghost use Rattle.tpol_wire.specs.Spellings.{Appends};
 
 use crate::command::Command;
+use crate::commands::comparison;
+pub(crate) use crate::commands::comparison::write;
 use crate::fault::WireFault;
 use crate::handle_type::HandleType;
-use crate::{authorization, fields, spelling};
+use crate::{authorization, fields};
 use std::alloc::Global;
-use tpol_base::{Blob, CommandCode, Compare, Cursor, NoMemory};
+use tpol_base::{CommandCode, Cursor};
 
 /// Reads the handles, the authorization and the parameters.
 pub(crate) fn read(alloc: Global, tagged: bool, cursor: &mut Cursor) -> Result<Command, WireFault>
@@ -21,9 +20,7 @@ pub(crate) fn read(alloc: Global, tagged: bool, cursor: &mut Cursor) -> Result<C
     let index = fields::handle(cursor, 2, HandleType::Index)?;
     let session = fields::handle(cursor, 3, HandleType::PolicySession)?;
     let auth = authorization::read(alloc, tagged, cursor)?;
-    let operand = fields::copied_buffer(alloc, cursor, 1, 64)?;
-    let offset = fields::number16(cursor, 2)?;
-    let operation = fields::operation(cursor, 3)?;
+    let (operand, offset, operation) = comparison::read(alloc, cursor)?;
     Ok(Command::PolicyNv {
         authority,
         index,
@@ -33,18 +30,4 @@ pub(crate) fn read(alloc: Global, tagged: bool, cursor: &mut Cursor) -> Result<C
         offset,
         operation,
     })
-}
-
-/// Writes the parameters.
-pub(crate) fn write(
-    out: &mut Blob,
-    operand: &Blob,
-    offset: u16,
-    operation: Compare,
-) -> Result<(), NoMemory>
-    ensures { Appends result out.old out.new (spell_values (row CommandCode.PolicyNv).parameters (operand.now, (offset, (operation, tt)))) }
-{
-    spelling::sized(out, operand.as_slice())?;
-    spelling::number16(out, offset)?;
-    spelling::operation(out, operation)
 }

@@ -7,9 +7,9 @@ ghost use Rattle.tpol_wire.specs.Rows.{row};
 ghost use Rattle.tpol_wire.specs.Spellings.{Appends};
 
 use crate::command::Command;
+use crate::commands::session;
 use crate::fault::WireFault;
-use crate::handle_type::HandleType;
-use crate::{authorization, fields, spelling};
+use crate::{fields, spelling};
 use std::alloc::Global;
 use tpol_base::{Blob, CommandCode, Cursor, Digests, NoMemory};
 
@@ -17,8 +17,7 @@ use tpol_base::{Blob, CommandCode, Cursor, Digests, NoMemory};
 pub(crate) fn read(alloc: Global, tagged: bool, cursor: &mut Cursor) -> Result<Command, WireFault>
     ensures { Reads result (body_at CommandCode.PolicyOr tagged cursor.old) cursor.new }
 {
-    let session = fields::handle(cursor, 1, HandleType::PolicySession)?;
-    authorization::none(tagged)?;
+    let session = session::read(tagged, cursor)?;
     let digests = fields::digests(alloc, cursor, 1, 2, 8)?;
     Ok(Command::PolicyOr { session, digests })
 }

@@ -7,17 +7,16 @@ ghost use Rattle.tpol_wire.specs.Rows.{row};
 ghost use Rattle.tpol_wire.specs.Spellings.{Appends};
 
 use crate::command::Command;
+use crate::commands::session;
 use crate::fault::WireFault;
-use crate::handle_type::HandleType;
-use crate::{authorization, fields, spelling};
+use crate::{fields, spelling};
 use tpol_base::{Blob, CommandCode, Cursor, Digest32, NoMemory};
 
 /// Reads the handle and the parameters.
 pub(crate) fn read(tagged: bool, cursor: &mut Cursor) -> Result<Command, WireFault>
     ensures { Reads result (body_at CommandCode.PolicyPcr tagged cursor.old) cursor.new }
 {
-    let session = fields::handle(cursor, 1, HandleType::PolicySession)?;
-    authorization::none(tagged)?;
+    let session = session::read(tagged, cursor)?;
     let given = fields::optional(cursor, 1)?;
     let mask = fields::selection(cursor, 2)?;
     Ok(Command::PolicyPcr {

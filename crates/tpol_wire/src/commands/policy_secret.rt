@@ -7,6 +7,8 @@ ghost use Rattle.tpol_wire.specs.Rows.{row};
 ghost use Rattle.tpol_wire.specs.Spellings.{Appends};
 
 use crate::command::Command;
+pub(crate) use crate::commands::assertion::write;
+use crate::commands::assertion::{self, Assertion};
 use crate::fault::WireFault;
 use crate::handle_type::HandleType;
 use crate::reply::Reply;
@@ -23,10 +25,12 @@ pub(crate) fn read(alloc: Global, tagged: bool, cursor: &mut Cursor) -> Result<C
     let entity = fields::handle(cursor, 1, HandleType::Entity)?;
     let session = fields::handle(cursor, 2, HandleType::PolicySession)?;
     let auth = authorization::read(alloc, tagged, cursor)?;
-    let nonce = fields::copied_buffer(alloc, cursor, 1, 32)?;
-    let cp_hash = fields::optional(cursor, 2)?;
-    let policy_ref = fields::copied_buffer(alloc, cursor, 3, 64)?;
-    let expiration = fields::signed(cursor, 4)?;
+    let Assertion {
+        nonce,
+        cp_hash,
+        policy_ref,
+        expiration,
+    } = assertion::read(alloc, cursor)?;
     Ok(Command::PolicySecret {
         entity,
         session,
@@ -36,22 +40,6 @@ pub(crate) fn read(alloc: Global, tagged: bool, cursor: &mut Cursor) -> Result<C
         policy_ref,
         expiration,
     })
-}
-
-/// Writes the parameters.
-pub(crate) fn write(
-    out: &mut Blob,
-    nonce: &Blob,
-    cp_hash: &Option<Digest32>,
-    policy_ref: &Blob,
-    expiration: &i32,
-) -> Result<(), NoMemory>
-    ensures { Appends result out.old out.new (spell_values (row CommandCode.PolicySecret).parameters (nonce.now, (cp_hash.now, (policy_ref.now, (expiration.now, tt))))) }
-{
-    spelling::sized(out, nonce.as_slice())?;
-    spelling::optional(out, cp_hash)?;
-    spelling::sized(out, policy_ref.as_slice())?;
-    spelling::signed(out, *expiration)
 }
 
 /// Reads the fields of the reply.

@@ -7,6 +7,7 @@ ghost use Rattle.tpol_wire.specs.Rows.{row};
 ghost use Rattle.tpol_wire.specs.Spellings.{Appends};
 
 use crate::command::Command;
+use crate::commands::assertion::{self, Assertion};
 use crate::fault::WireFault;
 use crate::handle_type::HandleType;
 use crate::reply::Reply;
@@ -23,10 +24,12 @@ pub(crate) fn read(alloc: Global, tagged: bool, cursor: &mut Cursor) -> Result<C
     let key = fields::handle(cursor, 1, HandleType::Object)?;
     let session = fields::handle(cursor, 2, HandleType::PolicySession)?;
     authorization::none(tagged)?;
-    let nonce = fields::copied_buffer(alloc, cursor, 1, 32)?;
-    let cp_hash = fields::optional(cursor, 2)?;
-    let policy_ref = fields::copied_buffer(alloc, cursor, 3, 64)?;
-    let expiration = fields::signed(cursor, 4)?;
+    let Assertion {
+        nonce,
+        cp_hash,
+        policy_ref,
+        expiration,
+    } = assertion::read(alloc, cursor)?;
     let signature = fields::signature(cursor, 5)?;
     Ok(Command::PolicySigned {
         key,
@@ -50,10 +53,7 @@ pub(crate) fn write(
 ) -> Result<(), NoMemory>
     ensures { Appends result out.old out.new (spell_values (row CommandCode.PolicySigned).parameters (nonce.now, (cp_hash.now, (policy_ref.now, (expiration.now, (signature.now, tt)))))) }
 {
-    spelling::sized(out, nonce.as_slice())?;
-    spelling::optional(out, cp_hash)?;
-    spelling::sized(out, policy_ref.as_slice())?;
-    spelling::signed(out, *expiration)?;
+    assertion::write(out, nonce, cp_hash, policy_ref, expiration)?;
     spelling::signature(out, signature)
 }
 

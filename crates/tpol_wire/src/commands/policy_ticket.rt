@@ -7,10 +7,10 @@ ghost use Rattle.tpol_wire.specs.Rows.{row};
 ghost use Rattle.tpol_wire.specs.Spellings.{Appends};
 
 use crate::command::Command;
+use crate::commands::{session, ticketed};
 use crate::fault::WireFault;
-use crate::handle_type::HandleType;
 use crate::ticket::Ticket;
-use crate::{authorization, fields, spelling};
+use crate::{fields, spelling};
 use std::alloc::Global;
 use tpol_base::{Blob, CommandCode, Cursor, Digest32, Name, NoMemory};
 
@@ -18,13 +18,10 @@ use tpol_base::{Blob, CommandCode, Cursor, Digest32, Name, NoMemory};
 pub(crate) fn read(alloc: Global, tagged: bool, cursor: &mut Cursor) -> Result<Command, WireFault>
     ensures { Reads result (body_at CommandCode.PolicyTicket tagged cursor.old) cursor.new }
 {
-    let session = fields::handle(cursor, 1, HandleType::PolicySession)?;
-    authorization::none(tagged)?;
+    let session = session::read(tagged, cursor)?;
     let timeout = fields::timeout(cursor, 1)?;
     let cp_hash = fields::optional(cursor, 2)?;
-    let policy_ref = fields::copied_buffer(alloc, cursor, 3, 64)?;
-    let key = fields::name(cursor, 4)?;
-    let ticket = fields::ticket(alloc, cursor, 5)?;
+    let (policy_ref, key, ticket) = ticketed::read(alloc, cursor, 3)?;
     Ok(Command::PolicyTicket {
         session,
         timeout,
@@ -48,7 +45,5 @@ pub(crate) fn write(
 {
     spelling::timeout(out, timeout)?;
     spelling::optional(out, cp_hash)?;
-    spelling::sized(out, policy_ref.as_slice())?;
-    spelling::name(out, key)?;
-    spelling::ticket(out, ticket)
+    ticketed::write(out, policy_ref, key, ticket)
 }

@@ -1,0 +1,20 @@
+//! The front of a policy command that takes no authorization: the policy session alone (TPM 2.0 Part 3).
+
+ghost use Rattle.std.specs.Prelude.{[], ◌∷◌, false};
+ghost use Rattle.tpol_wire.specs.Answers.{ReadsAs};
+ghost use Rattle.tpol_wire.specs.Reading.{front_at};
+ghost use Rattle.tpol_wire.specs.Rows.{handle as handle_type};
+
+use crate::fault::WireFault;
+use crate::handle_type::HandleType;
+use crate::{authorization, fields};
+use tpol_base::Cursor;
+
+/// Reads the policy session; `tagged` says whether the tag announces an authorization, which there is not to be.
+pub(crate) fn read(tagged: bool, cursor: &mut Cursor) -> Result<u32, WireFault>
+    ensures { ReadsAs (λ session. ((session, tt), tt)) result (front_at (handle_type HandleType.PolicySession ∷ []) false tagged cursor.old) cursor.new }
+{
+    let session = fields::handle(cursor, 1, HandleType::PolicySession)?;
+    authorization::none(tagged)?;
+    Ok(session)
+}
