@@ -11,7 +11,7 @@ use Rattle.tpol_name.specs.declared.entries.IndexEntry.{IndexEntry}
 use Rattle.tpol_wire.specs.declared.auth_area.AuthArea.{AuthArea}
 use Rattle.tpol_wire.specs.declared.command.Command.TheVariants as commands
 use Rattle.tpol_wire.specs.Commands.{FitsCommand, ValuesFit}
-use Rattle.tpol_wire.specs.Kinds.{Fits}
+use Rattle.tpol_fields.specs.Kinds.{Fits}
 use Rattle.tpm_nv.specs.Indices.{index_of}
 use Rattle.tpm_world.specs.Entities.{entity_of_kind, name_at, name_of_entity}
 use Rattle.tpm_world.specs.World.{WorldState}

@@ -14,7 +14,7 @@ use Rattle.tpol_tree.specs.declared.path.Move.{Move}
 use Rattle.tpol_tree.specs.declared.path.Move.TheVariants.{Assert}
 use Rattle.tpol_wire.specs.declared.command.Command.{Command}
 use Rattle.tpol_wire.specs.declared.command.Command.TheVariants as commands
-use Rattle.tpol_wire.specs.declared.ticket.Ticket.{Ticket}
+use Rattle.tpol_fields.specs.declared.ticket.Ticket.{Ticket}
 use Rattle.tpm_bindings.specs.Facts.{is_pcr}
 use Rattle.tpm_bindings.specs.State.{SessionState}
 use Rattle.tpm_context.specs.Saved.{AreApart}

@@ -12,7 +12,7 @@ use Rattle.tpol_wire.specs.declared.auth_area.ReplyAuth.{ReplyAuth}
 use Rattle.tpol_wire.specs.declared.reply.Reply.{Reply}
 use Rattle.tpol_wire.specs.declared.reply.Reply.TheVariants as replies
 use Rattle.tpol_wire.specs.Commands.{ValuesFit}
-use Rattle.tpol_wire.specs.Kinds.{Fits}
+use Rattle.tpol_fields.specs.Kinds.{Fits}
 use Rattle.tpol_wire.specs.Replies.{FitsReply, spell_reply}
 use Rattle.tpol_wire.specs.ReplyReading.{reply_reading}
 use Rattle.tpol_wire.proofs.ReplyLaws.{reply_read}

@@ -20,7 +20,7 @@ use Rattle.tpol_tree.specs.declared.path.Move.TheVariants.{Assert}
 use Rattle.tpol_wire.specs.declared.command.Command.{Command}
 use Rattle.tpol_wire.specs.declared.command.Command.TheVariants as commands
 use Rattle.tpol_wire.specs.declared.reply.Reply.TheVariants as replies
-use Rattle.tpol_wire.specs.declared.ticket.Ticket.{Ticket}
+use Rattle.tpol_fields.specs.declared.ticket.Ticket.{Ticket}
 use Rattle.tpol_wire.specs.Reading.{reading}
 use Rattle.tpol_wire.specs.ReplyReading.{reply_reading}
 use Rattle.tpm_auth.specs.Tickets.{auth_ticket}

@@ -14,7 +14,7 @@ use Rattle.tpol_wire.specs.declared.command.Command.{Command}
 use Rattle.tpol_wire.specs.declared.command.Command.TheVariants as commands
 use Rattle.tpol_wire.specs.declared.reply.Reply.{Reply}
 use Rattle.tpol_wire.specs.declared.reply.Reply.TheVariants as replies
-use Rattle.tpol_wire.specs.declared.ticket.Ticket.{Ticket}
+use Rattle.tpol_fields.specs.declared.ticket.Ticket.{Ticket}
 use Rattle.tpm_auth.specs.Tickets.{auth_ticket}
 use Rattle.tpm_bindings.specs.State.{SessionState}
 use Rattle.tpm_pcr.specs.Pcrs.{selection_digest}

@@ -9,7 +9,7 @@ use Rattle.tpol_wire.specs.declared.auth_area.AuthArea.{AuthArea}
 use Rattle.tpol_wire.specs.declared.command.Command.TheVariants.{Unseal as UnsealCommand}
 use Rattle.tpol_wire.specs.declared.reply.Reply.TheVariants.{Unseal as UnsealReply}
 use Rattle.tpol_wire.specs.Commands.{spell_values}
-use Rattle.tpol_wire.specs.Kinds.{spell}
+use Rattle.tpol_fields.specs.Kinds.{spell}
 use Rattle.tpm_world.specs.Duplicate.{sensitive_of}
 use Rattle.tpm_world.specs.Hashes.{context_mac, cp_hash, joined_names, name_hash, nonce_of_event, proof_of, rp_hash}
 use Rattle.tpm_world.specs.PcrRead.{mask_of, read_pcrs, selected_pcrs}

@@ -9,7 +9,7 @@ use Rattle.tpol_name.specs.Areas.{object_name}
 use Rattle.tpol_name.specs.declared.entries.ObjectEntry.{ObjectEntry}
 use Rattle.tpol_wire.specs.declared.reply.Reply.{Reply}
 use Rattle.tpol_wire.specs.declared.reply.Reply.TheVariants.{VerifySignature}
-use Rattle.tpol_wire.specs.declared.ticket.Ticket.{Ticket}
+use Rattle.tpol_fields.specs.declared.ticket.Ticket.{Ticket}
 use Rattle.tpm_auth.specs.Signatures.{signature_of}
 use Rattle.tpm_auth.specs.Tickets.{verified_ticket}
 use Rattle.tpm_rules.specs.Objects.{verify_signature_rule}

@@ -7,7 +7,7 @@ use Rattle.tpol_base.specs.Sized.{sized}
 use Rattle.tpol_goal.specs.declared.goal.Goal.{Goal}
 use Rattle.tpol_goal.specs.declared.goal.Goal.TheVariants.{Unseal, Hmac, NvRead, NvWrite, NvIncrement, Duplicate}
 use Rattle.tpol_wire.specs.Commands.{spell_parameters, spell_values}
-use Rattle.tpol_wire.specs.Kinds.{spell}
+use Rattle.tpol_fields.specs.Kinds.{spell}
 use Rattle.tpol_choose.specs.Goals.{goal_command, parameter_bytes}
 
 pub parameters_are : (goal : Goal) → parameter_bytes goal ≡ spell_parameters (goal_command goal)

@@ -30,7 +30,7 @@ use Rattle.tpol_wire.proofs.RowLaws.{code_again}
 use Rattle.tpol_wire.specs.declared.auth_area.ReplyAuth.{ReplyAuth}
 use Rattle.tpol_wire.specs.declared.reply.Reply.{Reply}
 use Rattle.tpol_wire.specs.declared.reply.Reply.TheVariants as replies
-use Rattle.tpol_wire.specs.declared.ticket.Ticket.{Ticket}
+use Rattle.tpol_fields.specs.declared.ticket.Ticket.{Ticket}
 use Rattle.tpol_wire.specs.Commands.{code_of_command}
 use Rattle.tpol_wire.specs.Replies.{AuthFits, Parts, PartsAnswer, PartsFit, Refusal, Served, SpellsReply, parts_of}
 use Rattle.tpol_wire.specs.ReplyReading.{reply_reading}

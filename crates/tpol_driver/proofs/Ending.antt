@@ -15,7 +15,7 @@ use Rattle.tpol_tree.specs.declared.path.Move.TheVariants.{Approve}
 use Rattle.tpol_wire.specs.declared.auth_area.ReplyAuth.{ReplyAuth}
 use Rattle.tpol_wire.specs.declared.reply.Reply.{Reply}
 use Rattle.tpol_wire.specs.declared.reply.Reply.TheVariants as replies
-use Rattle.tpol_wire.specs.declared.ticket.Ticket.{Ticket}
+use Rattle.tpol_fields.specs.declared.ticket.Ticket.{Ticket}
 
 -- how many commands are left at most, with so many moves left; with a ticket a move is left in each run, and
 -- where none were, two commands would be

@@ -19,7 +19,7 @@ use Rattle.tpol_tree.specs.declared.path.Move.TheVariants.{Assert, Or, Approve, 
 use Rattle.tpol_wire.specs.declared.auth_area.AuthArea.{AuthArea}
 use Rattle.tpol_wire.specs.declared.command.Command.{Command}
 use Rattle.tpol_wire.specs.declared.command.Command.TheVariants as commands
-use Rattle.tpol_wire.specs.declared.ticket.Ticket.{Ticket}
+use Rattle.tpol_fields.specs.declared.ticket.Ticket.{Ticket}
 
 -- the nonce of the caller of the command with this number, from 0: H(seed || number)
 abbrev pub caller_nonce : Digest32 → ℕ → Digest32

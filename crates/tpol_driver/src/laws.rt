@@ -17,7 +17,7 @@ ghost use Rattle.tpol_goal.specs.declared.grants.Grants.{Grants};
 ghost use Rattle.tpol_goal.specs.Goals.{code_of_goal};
 ghost use Rattle.tpol_name.specs.declared.entries.DirEntry.{DirEntry};
 ghost use Rattle.tpol_tree.specs.declared.path.Move.{Move};
-ghost use Rattle.tpol_wire.specs.declared.ticket.Ticket.{Ticket};
+ghost use Rattle.tpol_fields.specs.declared.ticket.Ticket.{Ticket};
 ghost use Rattle.tpol_wire.specs.Commands.{code_of_command};
 ghost use Rattle.tpol_wire.specs.ReplyReading.{reply_reading};
 

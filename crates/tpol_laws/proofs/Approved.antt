@@ -26,9 +26,9 @@ use Rattle.tpol_wire.specs.declared.auth_area.ReplyAuth.{ReplyAuth}
 use Rattle.tpol_wire.specs.declared.command.Command.{Command}
 use Rattle.tpol_wire.specs.declared.command.Command.TheVariants as commands
 use Rattle.tpol_wire.specs.declared.reply.Reply.{Reply}
-use Rattle.tpol_wire.specs.declared.ticket.Ticket.{Ticket}
+use Rattle.tpol_fields.specs.declared.ticket.Ticket.{Ticket}
 use Rattle.tpol_wire.specs.Commands.{spelling}
-use Rattle.tpol_wire.specs.Kinds.{TicketFits}
+use Rattle.tpol_fields.specs.Kinds.{TicketFits}
 use Rattle.tpol_wire.specs.ReplyReading.{reply_reading}
 use Rattle.tpm_auth.specs.Signatures.{signature_of}
 use Rattle.tpm_bindings.specs.State.{SessionState}

@@ -63,7 +63,7 @@ use Rattle.tpol_tree.specs.declared.path.Move.{Move}
 use Rattle.tpol_tree.specs.declared.path.Move.TheVariants.{Assert, Or, Approve, ApproveNv}
 use Rattle.tpol_wire.specs.declared.command.Command.{Command}
 use Rattle.tpol_wire.specs.declared.command.Command.TheVariants as commands
-use Rattle.tpol_wire.specs.declared.ticket.Ticket.{Ticket}
+use Rattle.tpol_fields.specs.declared.ticket.Ticket.{Ticket}
 use Rattle.tpol_laws.specs.Chances.{SignsByChance}
 use Rattle.tpol_laws.proofs.Alike.{authorize-alike, authorize_nv-alike, code-alike, cp_hash-alike, duplication-alike, locality-alike, name_hash-alike, or-alike, pcr-alike, secret-alike, written-alike}
 use Rattle.tpol_laws.proofs.Answered.{own-passed}

@@ -44,7 +44,7 @@ use Rattle.tpol_wire.specs.declared.auth_area.ReplyAuth.{ReplyAuth}
 use Rattle.tpol_wire.specs.declared.command.Command.{Command}
 use Rattle.tpol_wire.specs.declared.command.Command.TheVariants as commands
 use Rattle.tpol_wire.specs.declared.reply.Reply.{Reply}
-use Rattle.tpol_wire.specs.declared.ticket.Ticket.{Ticket}
+use Rattle.tpol_fields.specs.declared.ticket.Ticket.{Ticket}
 use Rattle.tpol_wire.specs.Commands.{FitsCommand, code_of_command}
 use Rattle.tpol_wire.specs.ReplyReading.{reply_reading}
 use Rattle.tpol_laws.specs.Acts.{Run, Turn, after_act, after_acts, answer_in, begun, succeeds}
@@ -59,7 +59,7 @@ use Rattle.tpol_laws.proofs.Step.{is-of}
 use Rattle.std.proofs.lemmas.Bool.Decides.{nat_tests}
 use Rattle.tpm_bindings.specs.Facts.{last_auth}
 use Rattle.tpm_world.specs.VerifySignature as verification
-use Rattle.tpol_wire.specs.Kinds.{TicketFits}
+use Rattle.tpol_fields.specs.Kinds.{TicketFits}
 use Rattle.tpm_rules.specs.Objects.{verify_signature_rule}
 use Rattle.tpol_laws.proofs.Approved.{Ticketed, authorized-moved, verified-with, verify_of}
 use Rattle.tpol_laws.proofs.BlockedGoal.{goal-fits, goal-found, goal-opens}

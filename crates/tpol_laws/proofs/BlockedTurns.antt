@@ -21,7 +21,7 @@ use Rattle.tpol_wire.specs.declared.auth_area.ReplyAuth.{ReplyAuth}
 use Rattle.tpol_wire.specs.declared.command.Command.{Command}
 use Rattle.tpol_wire.specs.declared.reply.Reply.{Reply}
 use Rattle.tpol_wire.specs.declared.reply.Reply.TheVariants as replies
-use Rattle.tpol_wire.specs.declared.ticket.Ticket.{Ticket}
+use Rattle.tpol_fields.specs.declared.ticket.Ticket.{Ticket}
 use Rattle.tpol_wire.specs.Commands.{FitsCommand, code_of_command, spelling}
 use Rattle.tpol_wire.specs.Replies.{spell_reply}
 use Rattle.tpol_wire.specs.ReplyReading.{reply_reading}

@@ -18,10 +18,10 @@ use Rattle.tpol_driver.specs.Commands.{password_area, start_command}
 use Rattle.tpol_tree.specs.Bounds.{NameHasBounds}
 use Rattle.tpol_wire.specs.declared.auth_area.AuthArea.{AuthArea}
 use Rattle.tpol_wire.specs.declared.command.Command.TheVariants as commands
-use Rattle.tpol_wire.specs.declared.ticket.Ticket.{Ticket}
+use Rattle.tpol_fields.specs.declared.ticket.Ticket.{Ticket}
 use Rattle.tpol_wire.specs.Authorizations.{AreaFits}
 use Rattle.tpol_wire.specs.Commands.{FitsCommand, ValuesFit}
-use Rattle.tpol_wire.specs.Kinds.{Fits, NameFits, TicketFits}
+use Rattle.tpol_fields.specs.Kinds.{Fits, NameFits, TicketFits}
 use Rattle.tpm_session.specs.Slots.{IsSlotHandle}
 use Rattle.tpol_laws.proofs.Finds.{find-each}
 use Rattle.tpol_laws.proofs.Named.{FoundEntity, FoundIndex, FoundObject}

@@ -38,7 +38,7 @@ use Rattle.tpol_wire.specs.declared.reply.Reply.{Reply}
 use Rattle.tpol_wire.specs.declared.reply.Reply.TheVariants as replies
 use Rattle.tpol_wire.specs.Authorizations.{AreaFits, ReplyAuthFits}
 use Rattle.tpol_wire.specs.Commands.{FitsCommand, ValuesFit}
-use Rattle.tpol_wire.specs.Kinds.{Fits}
+use Rattle.tpol_fields.specs.Kinds.{Fits}
 use Rattle.tpol_wire.specs.Replies.{FitsReply, PartsAnswer, parts_of}
 use Rattle.tpm_engine.specs.Stops.{handle_stop, handles_from}
 use Rattle.tpm_engine.specs.Tables.{TableState}

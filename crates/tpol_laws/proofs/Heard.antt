@@ -28,10 +28,10 @@ use Rattle.tpol_wire.specs.declared.command.Command.{Command}
 use Rattle.tpol_wire.specs.declared.command.Command.TheVariants as commands
 use Rattle.tpol_wire.specs.declared.reply.Reply.{Reply}
 use Rattle.tpol_wire.specs.declared.reply.Reply.TheVariants as replies
-use Rattle.tpol_wire.specs.declared.ticket.Ticket.{Ticket}
+use Rattle.tpol_fields.specs.declared.ticket.Ticket.{Ticket}
 use Rattle.tpol_wire.specs.Authorizations.{ReplyAuthFits}
 use Rattle.tpol_wire.specs.Commands.{FitsCommand, ValuesFit, code_of_command, spell_values, spelling, tag}
-use Rattle.tpol_wire.specs.Kinds.{Fits, TimedTicket, sized, spell, ticket_bytes, timeout_bytes}
+use Rattle.tpol_fields.specs.Kinds.{Fits, TimedTicket, sized, spell, ticket_bytes, timeout_bytes}
 use Rattle.tpol_wire.specs.Replies.{FitsReply, PartsAnswer, parts_of, reply_body, reply_layout, spell_reply}
 use Rattle.tpol_wire.specs.ReplyReading.{reply_reading}
 use Rattle.tpol_wire.proofs.ReplyLaws.{reply_read}

@@ -39,9 +39,9 @@ use Rattle.tpol_tree.specs.declared.path.Move.TheVariants.{Assert, Or, Approve, 
 use Rattle.tpol_tree.specs.Bounds.{AssertionHasBounds}
 use Rattle.tpol_wire.specs.declared.command.Command.{Command}
 use Rattle.tpol_wire.specs.declared.command.Command.TheVariants as commands
-use Rattle.tpol_wire.specs.declared.ticket.Ticket.{Ticket}
+use Rattle.tpol_fields.specs.declared.ticket.Ticket.{Ticket}
 use Rattle.tpol_wire.specs.Commands.{FitsCommand}
-use Rattle.tpol_wire.specs.Kinds.{TicketFits}
+use Rattle.tpol_fields.specs.Kinds.{TicketFits}
 use Rattle.tpm_auth.specs.Signatures.{signature_of, signed_hash}
 use Rattle.tpm_bindings.specs.State.{SessionState}
 use Rattle.tpm_nv.specs.Indices.{index_of}

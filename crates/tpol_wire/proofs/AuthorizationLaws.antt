@@ -8,10 +8,10 @@ use Rattle.tpol_base.specs.Answers.{◌>>=◌}
 use Rattle.tpol_base.specs.Handle.{is_policy_session, rs_pw}
 use Rattle.tpol_base.specs.ResponseCode.{of_session, rc_authsize, rc_attributes, rc_nonce, rc_size, rc_value}
 use Rattle.tpol_wire.specs.Answers.{with_code}
-use Rattle.tpol_wire.specs.Kinds.{sized, number_at, bytes_at, sized_at, is_any_length}
+use Rattle.tpol_fields.specs.Kinds.{sized, number_at, bytes_at, sized_at, is_any_length}
 use Rattle.tpol_wire.specs.Authorizations.{spell_tail, spell_area, is_auth_session, AreaFits, AreaOf, authorization, AuthorizationFits, area_with, tail_of, area_of, sized_area, judged, area_at, authorization_at}
-use Rattle.tpol_wire.proofs.Takes.{IsBytes, bind_ok, chosen_ok, passed, neither, unnot, ok_is, Takes, Takes-then, wide8, wide32, number_takes, number_again, bytes_take, bytes_again, sized_takes, sized_again}
-use Rattle.tpol_wire.proofs.KindLaws.{either}
+use Rattle.tpol_fields.proofs.Takes.{IsBytes, bind_ok, chosen_ok, passed, neither, unnot, ok_is, Takes, Takes-then, wide8, wide32, number_takes, number_again, bytes_take, bytes_again, sized_takes, sized_again}
+use Rattle.tpol_fields.proofs.KindLaws.{either}
 
 abbrev Tail : Type 0
 Tail = List ℕ × ℕ × List ℕ

@@ -6,21 +6,22 @@ use Rattle.std.proofs.lemmas.List.{append-nil, length-append, length-drop, drop-
 use Rattle.tpol_base.specs.Cursor.{NumberTaken}
 use Rattle.std.specs.Prelude.{IfOk}
 use Rattle.std.specs.Result.{result_err}
-use Rattle.tpol_wire.specs.declared.fault.WireFault.{WireFault}
-use Rattle.tpol_wire.specs.declared.fault.WireFault.TheVariants.{Refused, NoMemory}
+use Rattle.tpol_fields.specs.declared.fault.WireFault.{WireFault}
+use Rattle.tpol_fields.specs.declared.fault.WireFault.TheVariants.{Refused, NoMemory}
 use Rattle.tpol_wire.specs.declared.command.Command.{Command}
 use Rattle.tpol_base.specs.declared.command_code.CommandCode.{CommandCode}
 use Rattle.tpol_wire.specs.Authorizations.{AreaOf, AuthorizationFits, authorization, authorization_at}
 use Rattle.tpol_base.specs.CommandCode.{number_of_code, code_of_number}
 use Rattle.tpol_wire.specs.Commands.{Fields, Values, ValuesFit, spell_values, code_of_command, fields_of, command_of, tag, body, layout, FieldsFit, Spells}
-use Rattle.tpol_wire.specs.Kinds.{Kind, limit, number_at}
+use Rattle.tpol_fields.specs.Kinds.{Kind, limit, number_at}
 use Rattle.tpol_wire.specs.Reading.{values_at, front_at, body_at, number_in, known, header_of, reading, wire_refusal}
 use Rattle.tpol_base.specs.Answers.{◌>>=◌}
 use Rattle.tpol_base.specs.ResponseCode.{of_handle, of_parameter, rc_size, rc_bad_tag, rc_command_size}
-use Rattle.tpol_wire.specs.Answers.{Gives, RefusesBy}
+use Rattle.tpol_fields.specs.Answers.{Gives}
+use Rattle.tpol_wire.specs.Answers.{RefusesBy}
 use Rattle.tpol_wire.specs.Rows.{row}
-use Rattle.tpol_wire.proofs.Takes.{IsBytes, IsBytes-drop, bind_ok, chosen_ok, passed, neither, unnot, ok_is, Takes, Takes-then, IsWide, wide16, wide32, number_takes}
-use Rattle.tpol_wire.proofs.KindLaws.{both}
+use Rattle.tpol_fields.proofs.Takes.{IsBytes, IsBytes-drop, bind_ok, chosen_ok, passed, neither, unnot, ok_is, Takes, Takes-then, IsWide, wide16, wide32, number_takes}
+use Rattle.tpol_fields.proofs.KindLaws.{both}
 use Rattle.tpol_wire.proofs.AuthorizationLaws.{authorization_found, authorization_again, authorization_length}
 use Rattle.tpol_wire.proofs.RowLaws.{are_sound, values_found, values_again, values_length, greatest_lengths, sound_row, code_again, code_found, code_below, command_again, of_command}
 use Rattle.tpol_wire.proofs.Header.{header_taken}

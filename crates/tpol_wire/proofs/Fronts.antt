@@ -4,7 +4,7 @@ use Rattle.tpol_wire.specs.declared.command.Command.{Command}
 use Rattle.tpol_wire.specs.declared.command.Command.TheVariants as commands
 use Rattle.tpol_wire.specs.Authorizations.{authorization}
 use Rattle.tpol_wire.specs.Commands.{code_of_command, fields_of, spell_front, spell_value, spell_values}
-use Rattle.tpol_wire.specs.Kinds.{spell}
+use Rattle.tpol_fields.specs.Kinds.{spell}
 use Rattle.tpol_wire.specs.Rows.{row}
 
 -- the bytes of all handles, of the handle at a position, and of the authorization

@@ -1,12 +1,8 @@
 pub mod AuthorizationLaws
 pub mod CommandLaws
-pub mod DigestLists
 pub mod Fronts
 pub mod Header
-pub mod Joined
-pub mod KindLaws
 pub mod Lengths
 pub mod RowLaws
-pub mod Takes
 pub mod ReplyLaws
 pub mod ReplyWriting

@@ -17,13 +17,13 @@ use Rattle.tpol_wire.specs.declared.reply.Reply.TheVariants as replies
 use Rattle.tpol_wire.specs.Answers.{GivesReply}
 use Rattle.tpol_wire.specs.Authorizations.{spell_reply_auth, ReplyAuthFits, tail_of}
 use Rattle.tpol_wire.specs.Commands.{Values, spell_values, ValuesFit, tag}
-use Rattle.tpol_wire.specs.Kinds.{number_at, bytes_at}
+use Rattle.tpol_fields.specs.Kinds.{number_at, bytes_at}
 use Rattle.tpol_wire.specs.Reading.{reply_at}
 use Rattle.tpol_wire.specs.Replies.{Parts, Served, Refusal, parts_of, reply_of, reply_body, reply_layout, refusal_tag, spell_parts, AuthFits, PartsFit, PartsAnswer, SpellsReply}
 use Rattle.tpol_wire.specs.ReplyReading.{◌>>=◌, all_fields_of, reply_auth_of, served_at, refusal_of, answer_of, reply_reading}
 use Rattle.tpol_wire.specs.Rows.{row}
-use Rattle.tpol_wire.proofs.Takes.{IsBytes, neither, wide16, wide32, number_takes, number_again, bytes_take, bytes_again}
-use Rattle.tpol_wire.proofs.KindLaws.{both}
+use Rattle.tpol_fields.proofs.Takes.{IsBytes, neither, wide16, wide32, number_takes, number_again, bytes_take, bytes_again}
+use Rattle.tpol_fields.proofs.KindLaws.{both}
 use Rattle.tpol_wire.proofs.AuthorizationLaws.{tail_found, tail_again, tail_length}
 use Rattle.tpol_wire.proofs.RowLaws.{are_sound, values_length, greatest_lengths, code_again, code_found, reply_found_at, reply_again_at}
 

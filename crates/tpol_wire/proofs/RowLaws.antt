@@ -8,15 +8,15 @@ use Rattle.tpol_base.specs.declared.command_code.CommandCode.{CommandCode}
 use Rattle.tpol_base.specs.declared.command_code.CommandCode.TheVariants as codes
 use Rattle.tpol_base.specs.CommandCode.{number_of_code, code_of_number, commands as all_commands}
 use Rattle.tpol_base.specs.Answers.{◌>>=◌}
-use Rattle.tpol_wire.specs.Kinds.{Kind, spell, Fits, read}
+use Rattle.tpol_fields.specs.Kinds.{Kind, spell, Fits, read}
 use Rattle.tpol_wire.specs.Rows.{row}
 use Rattle.tpol_wire.specs.Commands.{Values, Fields, spell_values, ValuesFit, code_of_command, fields_of, command_of}
 use Rattle.tpol_base.specs.ResponseCode.{of_parameter}
 use Rattle.tpol_wire.specs.declared.reply.Reply.{Reply}
 use Rattle.tpol_wire.specs.Reading.{reply_at, values_at}
 use Rattle.tpol_wire.specs.Replies.{reply_of}
-use Rattle.tpol_wire.proofs.Takes.{IsBytes, bind_ok, ok_is, Takes, Takes-then}
-use Rattle.tpol_wire.proofs.KindLaws.{both, find_passes, is_sound, greatest_length, kind_found, kind_again, kind_length}
+use Rattle.tpol_fields.proofs.Takes.{IsBytes, bind_ok, ok_is, Takes, Takes-then}
+use Rattle.tpol_fields.proofs.KindLaws.{both, find_passes, is_sound, greatest_length, kind_found, kind_again, kind_length}
 
 -- ---- values one after the other
 

@@ -3,7 +3,7 @@ use Rattle.std.specs.Prelude.{◌≡◌, ◌<◌, ◌≤◌, ◌+◌, ◌^◌, �
 use Rattle.std.specs.Int.{w8, w32, to_be_bytes}
 use Rattle.tpol_wire.specs.declared.auth_area.AuthArea.{AuthArea}
 use Rattle.tpol_wire.specs.declared.auth_area.ReplyAuth.{ReplyAuth}
-use Rattle.tpol_wire.specs.Kinds.{sized, number_at, sized_at, bytes_at, is_any_length}
+use Rattle.tpol_fields.specs.Kinds.{sized, number_at, sized_at, bytes_at, is_any_length}
 use Rattle.tpol_base.specs.Answers.{◌>>=◌}
 use Rattle.tpol_base.specs.Handle.{is_policy_session, rs_pw}
 use Rattle.tpol_base.specs.ResponseCode.{of_session, rc_auth_missing, rc_auth_context, rc_authsize, rc_attributes, rc_nonce, rc_size, rc_value}

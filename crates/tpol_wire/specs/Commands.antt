@@ -8,7 +8,7 @@ use Rattle.tpol_base.specs.declared.command_code.CommandCode.{CommandCode}
 use Rattle.tpol_base.specs.declared.command_code.CommandCode.TheVariants as codes
 use Rattle.tpol_wire.specs.Authorizations.{AreaOf, authorization, AuthorizationFits}
 use Rattle.tpol_base.specs.CommandCode.{number_of_code}
-use Rattle.tpol_wire.specs.Kinds.{Kind, ValueOf, spell, Fits}
+use Rattle.tpol_fields.specs.Kinds.{Kind, ValueOf, spell, Fits}
 use Rattle.tpol_wire.specs.Rows.{Row, row}
 
 -- ---- the fields of a row

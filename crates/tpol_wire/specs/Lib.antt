@@ -1,8 +1,6 @@
 pub mod Answers
 pub mod Authorizations
 pub mod Commands
-pub mod HandleTypes
-pub mod Kinds
 pub mod Reading
 pub mod Replies
 pub mod ReplyReading

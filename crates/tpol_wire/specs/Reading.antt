@@ -8,7 +8,7 @@ use Rattle.tpol_base.specs.declared.command_code.CommandCode.{CommandCode}
 use Rattle.tpol_wire.specs.Authorizations.{AreaOf, authorization_at}
 use Rattle.tpol_base.specs.CommandCode.{code_of_number}
 use Rattle.tpol_wire.specs.Commands.{Values, command_of, tag}
-use Rattle.tpol_wire.specs.Kinds.{Kind, read}
+use Rattle.tpol_fields.specs.Kinds.{Kind, read}
 use Rattle.tpol_base.specs.Answers.{◌>>=◌}
 use Rattle.tpol_base.specs.ResponseCode.{of_handle, of_parameter, rc_size, rc_bad_tag, rc_command_code, rc_command_size}
 use Rattle.tpol_wire.specs.Replies.{reply_of}

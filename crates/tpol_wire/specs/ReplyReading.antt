@@ -9,7 +9,7 @@ use Rattle.tpol_wire.specs.declared.reply.Reply.{Reply}
 use Rattle.tpol_wire.specs.declared.reply.Reply.TheVariants as replies
 use Rattle.tpol_wire.specs.Authorizations.{tail_of}
 use Rattle.tpol_wire.specs.Commands.{tag}
-use Rattle.tpol_wire.specs.Kinds.{number_at, bytes_at}
+use Rattle.tpol_fields.specs.Kinds.{number_at, bytes_at}
 use Rattle.tpol_wire.specs.Reading.{reply_at}
 use Rattle.tpol_wire.specs.Replies.{refusal_tag}
 use Rattle.tpol_wire.specs.Rows.{row}

@@ -1,13 +1,8 @@
--- What a writer adds.
-use Rattle.std.specs.Prelude.{◌≡◌, ◌+◌, ℕ, List, [], ◌++◌, length, true, Option, Some, None, Result, OnOk}
+-- What a writer of messages adds.
+use Rattle.std.specs.Prelude.{◌+◌, ℕ, List, [], ◌++◌, length, true, Option, Some, None}
 use Rattle.std.specs.Int.{w16, w32, to_be_bytes}
 use Rattle.tpol_wire.specs.declared.auth_area.AuthArea.{AuthArea}
 use Rattle.tpol_wire.specs.Authorizations.{authorization}
-use Rattle.tpol_base.specs.declared.no_memory.NoMemory.{NoMemory}
-
--- unless memory runs out, these bytes were added at the end
-abbrev pub Appends : Result (Unit {0}) NoMemory → List ℕ → List ℕ → List ℕ → Type 0
-Appends result old new bytes = OnOk result (new ≡ old ++ bytes)
 
 -- an authorization, where there is one
 abbrev pub spell_optional_area : Option AuthArea → List ℕ

@@ -1,21 +1,22 @@
-//! Readers of authorizations (TPM 2.0 Part 2, TPMS_AUTH_COMMAND and TPMS_AUTH_RESPONSE).
-#![tactic(auto, unfolding(crate::specs::Authorizations::tail_of, crate::specs::Authorizations::area_of, crate::specs::Authorizations::sized_area, crate::specs::Authorizations::judged, crate::specs::Authorizations::area_at, crate::specs::Kinds::sized_at))]
+//! Authorizations as they are read and written (TPM 2.0 Part 2, TPMS_AUTH_COMMAND and TPMS_AUTH_RESPONSE).
+#![tactic(auto, unfolding(crate::specs::Authorizations::tail_of, crate::specs::Authorizations::area_of, crate::specs::Authorizations::sized_area, crate::specs::Authorizations::judged, crate::specs::Authorizations::area_at, tpol_fields::specs::Kinds::sized_at))]
 
-ghost use Rattle.std.specs.Prelude.{◌≡◌, ◌==◌, ◌||◌, length, Bool, true, false};
-ghost use Rattle.tpol_wire.specs.Answers.{Finds, FindsFront, FindsSlice, Gives, Judges, Reads};
-ghost use Rattle.tpol_wire.specs.Authorizations.{area_at, area_of, area_with, is_auth_session, judged, no_area, sized_area, tail_of};
-ghost use Rattle.tpol_wire.specs.Kinds.{is_any_length, sized_at};
+ghost use Rattle.std.specs.Prelude.{◌≡◌, ◌==◌, ◌||◌, length, List, ℕ, Bool, true, false};
+ghost use Rattle.tpol_fields.specs.Answers.{Gives, Reads};
+ghost use Rattle.tpol_wire.specs.Answers.{Finds, FindsFront, FindsSlice, Judges};
+ghost use Rattle.tpol_wire.specs.Authorizations.{area_at, area_of, area_with, authorization, is_auth_session, judged, no_area, sized_area, spell_tail, tail_of};
+ghost use Rattle.tpol_fields.specs.Kinds.{is_any_length, sized_at};
+ghost use Rattle.tpol_fields.specs.Spellings.{Appends};
 
 use crate::auth_area::AuthArea;
-use crate::fault::WireFault;
-use crate::fields::refused;
-use crate::handle_type::HandleType;
 use std::alloc::Global;
 use tpol_base::handle::TPM_RS_PW;
 use tpol_base::response_code::{
     ATTRIBUTES, AUTH_CONTEXT, AUTH_MISSING, AUTHSIZE, NONCE, SIZE, VALUE, of_session,
 };
-use tpol_base::{Blob, Cursor};
+use tpol_base::{Blob, Cursor, NoMemory};
+use tpol_fields::fields::refused;
+use tpol_fields::{HandleType, WireFault, spelling};
 
 /// The end of an area, lent: all of it.
 #[derive(Drop)]
@@ -116,4 +117,29 @@ pub(crate) fn none(tagged: bool) -> Result<(), WireFault>
         return Err(refused(AUTH_CONTEXT));
     }
     Ok(())
+}
+
+/// The nonce, the attributes and the hmac of an authorization.
+pub(crate) fn write_tail(
+    out: &mut Blob,
+    nonce: &Blob,
+    attributes: u8,
+    hmac: &Blob,
+) -> Result<(), NoMemory>
+    ensures { Appends result out.old out.new (spell_tail nonce.now attributes hmac.now) }
+{
+    spelling::sized(out, nonce.as_slice())?;
+    out.push(attributes)?;
+    spelling::sized(out, hmac.as_slice())
+}
+
+/// The size of an authorization, and the authorization.
+pub(crate) fn write_area(alloc: Global, out: &mut Blob, area: &AuthArea) -> Result<(), NoMemory>
+    ensures { Appends result out.old out.new (authorization true area.now) }
+{
+    let mut bytes = Blob::new(alloc);
+    spelling::number32(&mut bytes, area.session)?;
+    write_tail(&mut bytes, &area.nonce, area.attributes, &area.hmac)?;
+    spelling::length32(out, bytes.len())?;
+    out.extend_from_slice(bytes.as_slice())
 }

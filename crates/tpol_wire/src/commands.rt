@@ -1,6 +1,6 @@
 //! The commands, each in a file of its own under its standard name: handles, parameters and reply (TPM 2.0 Part 3).
 //! What several have in common stands in `assertion`, `comparison`, `session` and `ticketed`.
-#![tactic(auto, unfolding(crate::specs::Reading::body_at, crate::specs::Reading::front_at, crate::specs::Reading::reply_at, crate::specs::Reading::values_at, crate::specs::Commands::spell_values, crate::specs::Kinds::spell))]
+#![tactic(auto, unfolding(crate::specs::Reading::body_at, crate::specs::Reading::front_at, crate::specs::Reading::reply_at, crate::specs::Reading::values_at, crate::specs::Commands::spell_values, tpol_fields::specs::Kinds::spell))]
 
 mod assertion;
 mod comparison;

@@ -1,42 +1,7 @@
 ghost use Rattle.std.specs.Prelude.{◌≡◌};
 ghost use Rattle.tpol_wire.specs.declared.fault.ReplyFault.TheVariants.{NoMemory as ReplyNoMemory};
-ghost use Rattle.tpol_wire.specs.declared.fault.WireFault.TheVariants.{NoMemory as WireNoMemory};
 
-use std::alloc::{AllocError, AllocFailed};
-use tpol_base::{NoMemory, Rc};
-
-/// Why bytes were not read as a command.
-#[derive(Clone, Copy, Debug, PartialEq, Eq)]
-pub enum WireFault {
-    /// The TPM's answer to these bytes: the code of the first rule that they break.
-    Refused(Rc),
-    /// Memory ran out.
-    NoMemory,
-}
-
-impl From<NoMemory> for WireFault {
-    ghost from_gives = { λ _ e. e ≡ WireNoMemory };
-
-    fn from(_: NoMemory) -> WireFault {
-        WireFault::NoMemory
-    }
-}
-
-impl From<AllocError> for WireFault {
-    ghost from_gives = { λ _ e. e ≡ WireNoMemory };
-
-    fn from(_: AllocError) -> WireFault {
-        WireFault::NoMemory
-    }
-}
-
-impl<T: Drop> From<AllocFailed<T>> for WireFault {
-    ghost from_gives = { λ _ e. e ≡ WireNoMemory };
-
-    fn from(_: AllocFailed<T>) -> WireFault {
-        WireFault::NoMemory
-    }
-}
+use tpol_base::NoMemory;
 
 /// Why bytes were not read as a reply.
 #[derive(Clone, Copy, Debug, PartialEq, Eq)]

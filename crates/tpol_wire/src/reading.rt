@@ -2,7 +2,8 @@
 
 ghost use Rattle.std.specs.Prelude.{◌≡◌, IfOk, OnOk, Ok, drop, length, List, ℕ};
 ghost use Rattle.tpol_base.specs.CommandCode.{code_of_number};
-ghost use Rattle.tpol_wire.specs.Answers.{Gives, Reads, RefusesBy};
+ghost use Rattle.tpol_fields.specs.Answers.{Gives, Reads};
+ghost use Rattle.tpol_wire.specs.Answers.{RefusesBy};
 ghost use Rattle.tpol_wire.specs.Commands.{Spells};
 ghost use Rattle.tpol_wire.specs.declared.command.Command.{Command as CommandOf};
 ghost use Rattle.tpol_wire.specs.Reading.{body_at, header_of, known as known_code, reading, wire_refusal};
@@ -16,12 +17,12 @@ use crate::commands::{
     policy_password, policy_pcr, policy_physical_presence, policy_restart, policy_secret,
     policy_signed, policy_ticket, start_auth_session, unseal, verify_signature,
 };
-use crate::fault::WireFault;
-use crate::fields::refused;
 use std::alloc::Global;
 use tpol_base::constants::{TPM_ST_NO_SESSIONS, TPM_ST_SESSIONS};
 use tpol_base::response_code::{BAD_TAG, COMMAND_CODE, COMMAND_SIZE, SIZE};
 use tpol_base::{CommandCode, Cursor};
+use tpol_fields::WireFault;
+use tpol_fields::fields::refused;
 
 /// The longest command.
 const MOST: usize = 4096;

@@ -2,7 +2,8 @@
 
 ghost use Rattle.std.specs.Prelude.{◌≡◌, true, false, IfOk, Option, Some};
 ghost use Rattle.tpol_base.specs.CommandCode.{code_of_number};
-ghost use Rattle.tpol_wire.specs.Answers.{GivesReply, Reads};
+ghost use Rattle.tpol_fields.specs.Answers.{Reads};
+ghost use Rattle.tpol_wire.specs.Answers.{GivesReply};
 ghost use Rattle.tpol_wire.specs.Reading.{reply_at};
 ghost use Rattle.tpol_wire.specs.Replies.{SpellsReply, refusal_tag};
 ghost use Rattle.tpol_wire.specs.declared.auth_area.ReplyAuth.{ReplyAuth as AuthOf};
@@ -15,13 +16,14 @@ use crate::commands::{
     context_load, context_save, duplicate, hmac, nv_read, pcr_read, policy_get_digest,
     policy_secret, policy_signed, start_auth_session, unseal, verify_signature,
 };
-use crate::fault::{ReplyFault, WireFault};
+use crate::fault::ReplyFault;
 use crate::reply::Reply;
 use crate::table;
 use std::alloc::Global;
 use tpol_base::constants::{TPM_ST_NO_SESSIONS, TPM_ST_RSP_COMMAND};
 use tpol_base::response_code::BAD_TAG;
 use tpol_base::{Blob, CommandCode, Cursor, Rc};
+use tpol_fields::WireFault;
 
 /// The fields of a reply to this command.
 fn reply_fields(alloc: Global, code: CommandCode, cursor: &mut Cursor) -> Result<Reply, WireFault>

@@ -2,7 +2,7 @@
 
 ghost use Rattle.std.specs.Prelude.{◌≡◌, List, ℕ, IfOk, option_copied};
 ghost use Rattle.tpol_wire.specs.Replies.{FitsReply, PartsAnswer, SpellsReply, answered_by, parts_of, reply_body, reply_fields_of, spell_reply};
-ghost use Rattle.tpol_wire.specs.Spellings.{Appends};
+ghost use Rattle.tpol_fields.specs.Spellings.{Appends};
 
 use crate::auth_area::ReplyAuth;
 use crate::commands::{
@@ -11,9 +11,10 @@ use crate::commands::{
 };
 use crate::reply::Reply;
 use crate::reply_reading::refusal_tag;
-use crate::{spelling, table};
+use crate::{authorization, message, table};
 use std::alloc::Global;
 use tpol_base::{Blob, CommandCode, NoMemory, Rc};
+use tpol_fields::spelling;
 
 /// The fields of a reply; most have none.
 fn fields(out: &mut Blob, reply: &Reply) -> Result<(), NoMemory>
@@ -120,7 +121,7 @@ fn authorized(alloc: Global, fields: &Blob, auth: &ReplyAuth) -> Result<Blob, No
     let mut out = Blob::new(alloc);
     spelling::length32(&mut out, fields.len())?;
     out.extend_from_slice(fields.as_slice())?;
-    spelling::tail(&mut out, &auth.nonce, auth.attributes, &auth.hmac)?;
+    authorization::write_tail(&mut out, &auth.nonce, auth.attributes, &auth.hmac)?;
     Ok(out)
 }
 
@@ -134,8 +135,8 @@ pub fn write_reply(alloc: Global, reply: &Reply, auth: Option<&ReplyAuth>) -> Re
     match answered(reply) {
         Ok(command) => {
             let body = body(alloc, reply, auth)?;
-            spelling::message(alloc, table::tag_of(command), 0, body.as_slice())
+            message::write(alloc, table::tag_of(command), 0, body.as_slice())
         }
-        Err(rc) => spelling::message(alloc, refusal_tag(rc.code), rc.code, &[]),
+        Err(rc) => message::write(alloc, refusal_tag(rc.code), rc.code, &[]),
     }
 }

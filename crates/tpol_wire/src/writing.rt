@@ -5,7 +5,8 @@ ghost use Rattle.tpol_base.specs.CommandCode.{number_of_code};
 ghost use Rattle.tpol_wire.specs.Authorizations.{authorization};
 ghost use Rattle.tpol_wire.specs.Commands.{code_of_command, FitsCommand, fields_of, is_assertion, spelling as spelled, Spells, spell_front, spell_parameters, spell_value, spell_values, tag};
 ghost use Rattle.tpol_wire.specs.Rows.{row};
-ghost use Rattle.tpol_wire.specs.Spellings.{Appends, spell_handle, spell_optional_area};
+ghost use Rattle.tpol_fields.specs.Spellings.{Appends};
+ghost use Rattle.tpol_wire.specs.Spellings.{spell_handle, spell_optional_area};
 
 use crate::auth_area::AuthArea;
 use crate::command::Command;
@@ -16,9 +17,10 @@ use crate::commands::{
     policy_or, policy_pcr, policy_secret, policy_signed, policy_ticket, start_auth_session,
     verify_signature,
 };
-use crate::{spelling, table};
+use crate::{authorization, message, table};
 use std::alloc::Global;
 use tpol_base::{Blob, CommandCode, NoMemory};
+use tpol_fields::spelling;
 
 /// Which command it is.
 fn command_code(command: &Command) -> CommandCode
@@ -69,7 +71,7 @@ pub fn code_of(command: &Command) -> u32
 }
 
 /// The first handle of a command.
-#[tactic(auto, unfolding(crate::specs::Commands::spell_value, crate::specs::Kinds::spell))]
+#[tactic(auto, unfolding(crate::specs::Commands::spell_value, tpol_fields::specs::Kinds::spell))]
 fn first_handle(command: &Command) -> Option<u32>
     ensures { spell_handle result ≡ spell_value 0 (row (code_of_command command.now)).handles (fields_of command.now).handles }
 {
@@ -109,7 +111,7 @@ fn first_handle(command: &Command) -> Option<u32>
 }
 
 /// The second handle of a command that has one.
-#[tactic(auto, unfolding(crate::specs::Commands::spell_value, crate::specs::Kinds::spell))]
+#[tactic(auto, unfolding(crate::specs::Commands::spell_value, tpol_fields::specs::Kinds::spell))]
 fn second_handle(command: &Command) -> Option<u32>
     ensures { spell_handle result ≡ spell_value 1 (row (code_of_command command.now)).handles (fields_of command.now).handles }
 {
@@ -129,7 +131,7 @@ fn second_handle(command: &Command) -> Option<u32>
 }
 
 /// The third handle of a command that has one.
-#[tactic(auto, unfolding(crate::specs::Commands::spell_value, crate::specs::Kinds::spell))]
+#[tactic(auto, unfolding(crate::specs::Commands::spell_value, tpol_fields::specs::Kinds::spell))]
 fn third_handle(command: &Command) -> Option<u32>
     ensures { spell_handle result ≡ spell_value 2 (row (code_of_command command.now)).handles (fields_of command.now).handles }
 {
@@ -142,7 +144,7 @@ fn third_handle(command: &Command) -> Option<u32>
 }
 
 /// The authorization of a command that takes one.
-#[tactic(auto, unfolding(crate::specs::Commands::spell_values, crate::specs::Kinds::spell))]
+#[tactic(auto, unfolding(crate::specs::Commands::spell_values, tpol_fields::specs::Kinds::spell))]
 fn authorization(command: &Command) -> Option<&AuthArea>
     ensures { spell_optional_area (option_copied result) ≡ authorization (row (code_of_command command.now)).is_authorized (fields_of command.now).area }
 {
@@ -179,7 +181,7 @@ fn front(alloc: Global, out: &mut Blob, command: &Command) -> Result<(), NoMemor
     handle(out, second_handle(command))?;
     handle(out, third_handle(command))?;
     match authorization(command) {
-        Some(area) => spelling::area(alloc, out, area),
+        Some(area) => authorization::write_area(alloc, out, area),
         None => Ok(()),
     }
 }
@@ -294,5 +296,5 @@ pub fn write_command(alloc: Global, command: &Command) -> Result<Blob, NoMemory>
     front(alloc, &mut body, command)?;
     parameters(&mut body, command)?;
     let code = command_code(command);
-    spelling::message(alloc, table::tag_of(code), code.number(), body.as_slice())
+    message::write(alloc, table::tag_of(code), code.number(), body.as_slice())
 }

@@ -2,18 +2,18 @@
 //! expiration (TPM 2.0 Part 3).
 
 ghost use Rattle.tpol_base.specs.ResponseCode.{of_parameter};
-ghost use Rattle.tpol_wire.specs.Answers.{ReadsAs, ReadsBefore};
+ghost use Rattle.tpol_fields.specs.Answers.{ReadsAs, ReadsBefore};
 ghost use Rattle.tpol_wire.specs.Commands.{spell_values};
-ghost use Rattle.tpol_wire.specs.Kinds.{read as read_kind};
+ghost use Rattle.tpol_fields.specs.Kinds.{read as read_kind};
 ghost use Rattle.tpol_wire.specs.Reading.{values_at};
 ghost use Rattle.tpol_base.specs.declared.command_code.CommandCode.TheVariants as CommandCode;
-ghost use Rattle.tpol_wire.specs.Rows.{row, signature as signature_kind};
-ghost use Rattle.tpol_wire.specs.Spellings.{Appends};
+ghost use Rattle.tpol_fields.specs.FieldKinds.{signature as signature_kind};
+ghost use Rattle.tpol_wire.specs.Rows.{row};
+ghost use Rattle.tpol_fields.specs.Spellings.{Appends};
 
-use crate::fault::WireFault;
-use crate::{fields, spelling};
 use std::alloc::Global;
 use tpol_base::{Blob, Cursor, Digest32, NoMemory};
+use tpol_fields::{WireFault, fields, spelling};
 
 /// The common parameters.
 #[derive(Drop)]

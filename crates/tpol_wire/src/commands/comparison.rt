@@ -2,16 +2,15 @@
 //! operation (TPM 2.0 Part 3).
 
 ghost use Rattle.tpol_base.specs.ResponseCode.{of_parameter};
-ghost use Rattle.tpol_wire.specs.Answers.{ReadsAs};
+ghost use Rattle.tpol_fields.specs.Answers.{ReadsAs};
 ghost use Rattle.tpol_wire.specs.Commands.{spell_values};
 ghost use Rattle.tpol_wire.specs.Reading.{values_at};
 ghost use Rattle.tpol_wire.specs.Rows.{comparison};
-ghost use Rattle.tpol_wire.specs.Spellings.{Appends};
+ghost use Rattle.tpol_fields.specs.Spellings.{Appends};
 
-use crate::fault::WireFault;
-use crate::{fields, spelling};
 use std::alloc::Global;
 use tpol_base::{Blob, Compare, Cursor, NoMemory};
+use tpol_fields::{WireFault, fields, spelling};
 
 /// Reads the operand, the offset and the operation.
 pub(crate) fn read(alloc: Global, cursor: &mut Cursor) -> Result<(Blob, u16, Compare), WireFault>

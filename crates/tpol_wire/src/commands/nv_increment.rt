@@ -1,14 +1,13 @@
 //! TPM2_NV_Increment (TPM 2.0 Part 3).
 
-ghost use Rattle.tpol_wire.specs.Answers.{Reads};
+ghost use Rattle.tpol_fields.specs.Answers.{Reads};
 ghost use Rattle.tpol_wire.specs.Reading.{body_at};
 
+use crate::authorization;
 use crate::command::Command;
-use crate::fault::WireFault;
-use crate::handle_type::HandleType;
-use crate::{authorization, fields};
 use std::alloc::Global;
 use tpol_base::{CommandCode, Cursor};
+use tpol_fields::{HandleType, WireFault, fields};
 
 /// Reads the handles and the authorization.
 pub(crate) fn read(alloc: Global, tagged: bool, cursor: &mut Cursor) -> Result<Command, WireFault>

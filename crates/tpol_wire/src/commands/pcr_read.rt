@@ -1,17 +1,17 @@
 //! TPM2_PCR_Read (TPM 2.0 Part 3).
 
-ghost use Rattle.tpol_wire.specs.Answers.{Reads};
+ghost use Rattle.tpol_fields.specs.Answers.{Reads};
 ghost use Rattle.tpol_wire.specs.Commands.{spell_values};
 ghost use Rattle.tpol_wire.specs.Reading.{body_at, reply_at};
 ghost use Rattle.tpol_wire.specs.Rows.{row};
-ghost use Rattle.tpol_wire.specs.Spellings.{Appends};
+ghost use Rattle.tpol_fields.specs.Spellings.{Appends};
 
+use crate::authorization;
 use crate::command::Command;
-use crate::fault::WireFault;
 use crate::reply::Reply;
-use crate::{authorization, fields, spelling};
 use std::alloc::Global;
 use tpol_base::{Blob, CommandCode, Cursor, Digests, NoMemory};
+use tpol_fields::{WireFault, fields, spelling};
 
 /// Reads the parameter.
 pub(crate) fn read(tagged: bool, cursor: &mut Cursor) -> Result<Command, WireFault>

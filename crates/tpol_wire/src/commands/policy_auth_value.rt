@@ -1,12 +1,12 @@
 //! TPM2_PolicyAuthValue (TPM 2.0 Part 3).
 
-ghost use Rattle.tpol_wire.specs.Answers.{Reads};
+ghost use Rattle.tpol_fields.specs.Answers.{Reads};
 ghost use Rattle.tpol_wire.specs.Reading.{body_at};
 
 use crate::command::Command;
 use crate::commands::session;
-use crate::fault::WireFault;
 use tpol_base::{CommandCode, Cursor};
+use tpol_fields::WireFault;
 
 /// Reads the handle.
 pub(crate) fn read(tagged: bool, cursor: &mut Cursor) -> Result<Command, WireFault>

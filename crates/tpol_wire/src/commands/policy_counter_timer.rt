@@ -1,14 +1,14 @@
 //! TPM2_PolicyCounterTimer (TPM 2.0 Part 3).
 
-ghost use Rattle.tpol_wire.specs.Answers.{Reads};
+ghost use Rattle.tpol_fields.specs.Answers.{Reads};
 ghost use Rattle.tpol_wire.specs.Reading.{body_at};
 
 use crate::command::Command;
 pub(crate) use crate::commands::comparison::write;
 use crate::commands::{comparison, session};
-use crate::fault::WireFault;
 use std::alloc::Global;
 use tpol_base::{CommandCode, Cursor};
+use tpol_fields::WireFault;
 
 /// Reads the handle and the parameters.
 pub(crate) fn read(alloc: Global, tagged: bool, cursor: &mut Cursor) -> Result<Command, WireFault>

@@ -1,16 +1,15 @@
 //! TPM2_PolicyNV (TPM 2.0 Part 3).
 
-ghost use Rattle.tpol_wire.specs.Answers.{Reads};
+ghost use Rattle.tpol_fields.specs.Answers.{Reads};
 ghost use Rattle.tpol_wire.specs.Reading.{body_at};
 
+use crate::authorization;
 use crate::command::Command;
 use crate::commands::comparison;
 pub(crate) use crate::commands::comparison::write;
-use crate::fault::WireFault;
-use crate::handle_type::HandleType;
-use crate::{authorization, fields};
 use std::alloc::Global;
 use tpol_base::{CommandCode, Cursor};
+use tpol_fields::{HandleType, WireFault, fields};
 
 /// Reads the handles, the authorization and the parameters.
 pub(crate) fn read(alloc: Global, tagged: bool, cursor: &mut Cursor) -> Result<Command, WireFault>

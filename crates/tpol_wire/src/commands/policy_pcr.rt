@@ -1,16 +1,15 @@
 //! TPM2_PolicyPCR (TPM 2.0 Part 3).
 
-ghost use Rattle.tpol_wire.specs.Answers.{Reads};
+ghost use Rattle.tpol_fields.specs.Answers.{Reads};
 ghost use Rattle.tpol_wire.specs.Commands.{spell_values};
 ghost use Rattle.tpol_wire.specs.Reading.{body_at};
 ghost use Rattle.tpol_wire.specs.Rows.{row};
-ghost use Rattle.tpol_wire.specs.Spellings.{Appends};
+ghost use Rattle.tpol_fields.specs.Spellings.{Appends};
 
 use crate::command::Command;
 use crate::commands::session;
-use crate::fault::WireFault;
-use crate::{fields, spelling};
 use tpol_base::{Blob, CommandCode, Cursor, Digest32, NoMemory};
+use tpol_fields::{WireFault, fields, spelling};
 
 /// Reads the handle and the parameters.
 pub(crate) fn read(tagged: bool, cursor: &mut Cursor) -> Result<Command, WireFault>

@@ -1,18 +1,16 @@
 //! TPM2_PolicyTicket (TPM 2.0 Part 3).
 
-ghost use Rattle.tpol_wire.specs.Answers.{Reads};
+ghost use Rattle.tpol_fields.specs.Answers.{Reads};
 ghost use Rattle.tpol_wire.specs.Commands.{spell_values};
 ghost use Rattle.tpol_wire.specs.Reading.{body_at};
 ghost use Rattle.tpol_wire.specs.Rows.{row};
-ghost use Rattle.tpol_wire.specs.Spellings.{Appends};
+ghost use Rattle.tpol_fields.specs.Spellings.{Appends};
 
 use crate::command::Command;
 use crate::commands::{session, ticketed};
-use crate::fault::WireFault;
-use crate::ticket::Ticket;
-use crate::{fields, spelling};
 use std::alloc::Global;
 use tpol_base::{Blob, CommandCode, Cursor, Digest32, Name, NoMemory};
+use tpol_fields::{Ticket, WireFault, fields, spelling};
 
 /// Reads the handle and the parameters.
 pub(crate) fn read(alloc: Global, tagged: bool, cursor: &mut Cursor) -> Result<Command, WireFault>

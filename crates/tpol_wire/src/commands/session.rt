@@ -1,14 +1,13 @@
 //! The front of a policy command that takes no authorization: the policy session alone (TPM 2.0 Part 3).
 
 ghost use Rattle.std.specs.Prelude.{[], ◌∷◌, false};
-ghost use Rattle.tpol_wire.specs.Answers.{ReadsAs};
+ghost use Rattle.tpol_fields.specs.Answers.{ReadsAs};
 ghost use Rattle.tpol_wire.specs.Reading.{front_at};
-ghost use Rattle.tpol_wire.specs.Rows.{handle as handle_type};
+ghost use Rattle.tpol_fields.specs.FieldKinds.{handle as handle_type};
 
-use crate::fault::WireFault;
-use crate::handle_type::HandleType;
-use crate::{authorization, fields};
+use crate::authorization;
 use tpol_base::Cursor;
+use tpol_fields::{HandleType, WireFault, fields};
 
 /// Reads the policy session; `tagged` says whether the tag announces an authorization, which there is not to be.
 pub(crate) fn read(tagged: bool, cursor: &mut Cursor) -> Result<u32, WireFault>

@@ -3,17 +3,15 @@
 
 ghost use Rattle.std.specs.Prelude.{◌≤◌};
 ghost use Rattle.tpol_base.specs.ResponseCode.{of_parameter};
-ghost use Rattle.tpol_wire.specs.Answers.{ReadsAs};
+ghost use Rattle.tpol_fields.specs.Answers.{ReadsAs};
 ghost use Rattle.tpol_wire.specs.Commands.{spell_values};
 ghost use Rattle.tpol_wire.specs.Reading.{values_at};
 ghost use Rattle.tpol_wire.specs.Rows.{ticketed};
-ghost use Rattle.tpol_wire.specs.Spellings.{Appends};
+ghost use Rattle.tpol_fields.specs.Spellings.{Appends};
 
-use crate::fault::WireFault;
-use crate::ticket::Ticket;
-use crate::{fields, spelling};
 use std::alloc::Global;
 use tpol_base::{Blob, Cursor, Name, NoMemory};
+use tpol_fields::{Ticket, WireFault, fields, spelling};
 
 /// Reads them as the parameters `n`, `n + 1` and `n + 2`.
 pub(crate) fn read(

@@ -1,6 +1,6 @@
 use Rattle.std.proofs.Common.{sym, ap, ◌∙◌}
 use Rattle.std.specs.Result.{result_err}
-use Rattle.tpol_wire.proofs.Takes.{ok_is}
+use Rattle.tpol_fields.proofs.Takes.{ok_is}
 use Rattle.tpol_wire.proofs.CommandLaws.{command_read}
 use Rattle.tpol_wire.proofs.ReplyLaws.{reply_read, some_is}
 use Rattle.tpol_wire.proofs.laws.one_spelling.Goals as goal

@@ -1,5 +1,5 @@
 use Rattle.std.proofs.Common.{arith, subst}
-use Rattle.tpol_wire.specs.Answers.{Gives}
+use Rattle.tpol_fields.specs.Answers.{Gives}
 use Rattle.tpol_wire.proofs.CommandLaws.{command_read, given_found, given_refusal}
 use Rattle.tpol_wire.proofs.reading.read_command.Goals as goal
 

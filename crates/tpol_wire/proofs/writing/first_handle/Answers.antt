@@ -1,7 +1,7 @@
 use Rattle.std.proofs.Common.{ℕ, List, ap, sym, ⊎_elim}
 use Rattle.tpol_wire.specs.declared.command.Command.{Command}
 use Rattle.tpol_wire.specs.Commands.{code_of_command, fields_of, spell_value}
-use Rattle.tpol_wire.specs.Kinds.{spell}
+use Rattle.tpol_fields.specs.Kinds.{spell}
 use Rattle.tpol_wire.specs.Rows.{row}
 use Rattle.tpol_wire.proofs.writing.first_handle.Goals as goal
 

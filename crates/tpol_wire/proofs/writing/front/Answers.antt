@@ -11,7 +11,7 @@ returns-in-Some c =
     let e : c.handle-3.new.out ++ authorization true c.in-Some.area.now ≡ c.args.out.now ++ spell_front c.args.command.now =
     front_written c.args.out.now c.handle.new.out c.handle-2.new.out c.handle-3.new.out (spell_handle c.first_handle.result) (spell_handle c.second_handle.result) (spell_handle c.third_handle.result) (authorization true c.in-Some.area.now) c.args.command.now
     c.in_ok-handle.ensures c.in_ok-handle-2.ensures c.in_ok-handle-3.ensures c.first_handle.ensures c.second_handle.ensures c.third_handle.ensures c.in-Some.ensures in
-    subst (λ bytes. OnOk c.area.result (c.area.new.out ≡ bytes)) e c.area.ensures
+    subst (λ bytes. OnOk c.write_area.result (c.write_area.new.out ≡ bytes)) e c.write_area.ensures
 
 pub returns-in-None : goal.returns-in-None
 returns-in-None c =

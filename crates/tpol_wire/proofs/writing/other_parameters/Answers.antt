@@ -1,7 +1,7 @@
 use Rattle.std.proofs.Common.{rules, ◌≡◌, ◌++◌, [], sym, subst, append-nil}
 use Rattle.tpol_wire.specs.declared.command.Command.{Command}
 use Rattle.tpol_wire.specs.Commands.{spell_parameters, spell_values}
-use Rattle.tpol_wire.specs.Spellings.{Appends}
+use Rattle.tpol_fields.specs.Spellings.{Appends}
 use Rattle.tpol_wire.proofs.writing.other_parameters.Goals as goal
 
 pub returns-in-StartAuthSession : goal.returns-in-StartAuthSession

@@ -1,7 +1,7 @@
 use Rattle.std.proofs.Common.{sym, subst}
 use Rattle.tpol_wire.specs.declared.command.Command.{Command}
 use Rattle.tpol_wire.specs.Commands.{spell_parameters}
-use Rattle.tpol_wire.specs.Spellings.{Appends}
+use Rattle.tpol_fields.specs.Spellings.{Appends}
 use Rattle.tpol_wire.proofs.writing.parameters.Goals as goal
 
 pub returns-in-PolicySigned : goal.returns-in-PolicySigned

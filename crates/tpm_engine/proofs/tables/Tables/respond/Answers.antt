@@ -1,6 +1,6 @@
 use Rattle.std.proofs.Common.{subst}
-use Rattle.tpol_wire.specs.declared.fault.WireFault.{WireFault}
-use Rattle.tpol_wire.specs.Answers.{Fails}
+use Rattle.tpol_fields.specs.declared.fault.WireFault.{WireFault}
+use Rattle.tpol_fields.specs.Answers.{Fails}
 use Rattle.tpol_wire.specs.Reading.{reading}
 use Rattle.tpm_engine.specs.declared.stop.Stop.{Stop}
 use Rattle.tpm_engine.proofs.Answering.{IsAnswer, IsStopped, ok-answers, ok-map, on-ok, refusal-answer}

@@ -4,9 +4,10 @@ use Rattle.std.specs.Int.{w32, to_be_bytes}
 use Rattle.std.specs.List.{flat_map}
 use Rattle.tpol_base.specs.declared.command_code.CommandCode.TheVariants.{PcrRead}
 use Rattle.tpol_wire.specs.Commands.{spell_values}
-use Rattle.tpol_wire.specs.Kinds.{sized, spell}
-use Rattle.tpol_wire.specs.Rows.{row, selection}
-use Rattle.tpol_wire.proofs.Joined.{joined_four}
+use Rattle.tpol_fields.specs.Kinds.{sized, spell}
+use Rattle.tpol_fields.specs.FieldKinds.{selection}
+use Rattle.tpol_wire.specs.Rows.{row}
+use Rattle.tpol_fields.proofs.Joined.{joined_four}
 use Rattle.tpol_wire.proofs.commands.pcr_read.write_reply.Goals as goal
 
 pub returns : goal.returns

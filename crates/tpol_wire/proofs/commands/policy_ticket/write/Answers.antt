@@ -2,9 +2,10 @@ use Rattle.std.proofs.Common.{◌≡◌, ◌++◌, List, ℕ, subst}
 use Rattle.std.specs.Prelude.{OnOk}
 use Rattle.tpol_base.specs.declared.command_code.CommandCode.TheVariants.{PolicyTicket}
 use Rattle.tpol_wire.specs.Commands.{spell_values}
-use Rattle.tpol_wire.specs.Kinds.{Optional, spell}
-use Rattle.tpol_wire.specs.Rows.{row, ticketed, timeout}
-use Rattle.tpol_wire.proofs.Joined.{joined_three}
+use Rattle.tpol_fields.specs.Kinds.{Optional, spell}
+use Rattle.tpol_fields.specs.FieldKinds.{timeout}
+use Rattle.tpol_wire.specs.Rows.{row, ticketed}
+use Rattle.tpol_fields.proofs.Joined.{joined_three}
 use Rattle.tpol_wire.proofs.commands.policy_ticket.write.Goals as goal
 
 pub returns : goal.returns

@@ -18,11 +18,11 @@ use Rattle.tpol_base.specs.Digest.{digest_of_bytes}
 use Rattle.tpol_base.specs.Flag.{yes_no}
 use Rattle.tpol_base.specs.Name.{name_bytes, name_of_bytes}
 use Rattle.tpol_base.proofs.Digests.{digest_of_whole, digest_again}
-use Rattle.tpol_wire.specs.declared.ticket.Ticket.{Ticket}
+use Rattle.tpol_fields.specs.declared.ticket.Ticket.{Ticket}
 use Rattle.tpol_base.specs.Answers.{◌>>=◌}
 use Rattle.tpol_base.specs.ResponseCode.{rc_size, rc_value}
-use Rattle.tpol_wire.specs.Kinds.{Kind, Nothing, Number, Signed, Truth, Operation, Digest, Mask, Sized, Optional, Named, Ticketed, TimedTicket, Digests, Behind, Together, ValueOf, sized, optional_bytes, optional_of_bytes, timeout_bytes, timeout_of_bytes, ticket_bytes, goes_with, TimeoutFits, mask_of_bytes, or_refused, spell, NameFits, TicketFits, Fits, limit, number_at, bytes_at, sized_at, is_any_length, is_digest_length, is_optional_length, is_timeout_length, listed_digest, digests_at, ticket_at, timeout_at, read}
-use Rattle.tpol_wire.proofs.Takes.{IsBytes, bind_ok, chosen_ok, ok_is, Takes, Takes-then, is_narrow, wide, wide8, wide16, wide32, wide64, number_takes, number_again, bytes_take, bytes_again, sized_takes, sized_again}
+use Rattle.tpol_fields.specs.Kinds.{Kind, Nothing, Number, Signed, Truth, Operation, Digest, Mask, Sized, Optional, Named, Ticketed, TimedTicket, Digests, Behind, Together, ValueOf, sized, optional_bytes, optional_of_bytes, timeout_bytes, timeout_of_bytes, ticket_bytes, goes_with, TimeoutFits, mask_of_bytes, or_refused, spell, NameFits, TicketFits, Fits, limit, number_at, bytes_at, sized_at, is_any_length, is_digest_length, is_optional_length, is_timeout_length, listed_digest, digests_at, ticket_at, timeout_at, read}
+use Rattle.tpol_fields.proofs.Takes.{IsBytes, bind_ok, chosen_ok, ok_is, Takes, Takes-then, is_narrow, wide, wide8, wide16, wide32, wide64, number_takes, number_again, bytes_take, bytes_again, sized_takes, sized_again}
 
 -- ---- look-ups
 

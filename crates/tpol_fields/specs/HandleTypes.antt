@@ -1,8 +1,8 @@
 -- What a handle of a command may name (TPM 2.0 Part 2, "Interface Types").
 use Rattle.std.specs.Prelude.{ℕ, Bool, ◌==◌, ◌||◌}
 use Rattle.tpol_base.specs.Handle.{is_index, is_object, is_pcr, is_policy_session, rh_endorsement, rh_lockout, rh_null, rh_owner}
-use Rattle.tpol_wire.specs.declared.handle_type.HandleType.{HandleType}
-use Rattle.tpol_wire.specs.declared.handle_type.HandleType.TheVariants.{PolicySession, Object, Index, Entity, Authority, Pcr, Null, Parent}
+use Rattle.tpol_fields.specs.declared.handle_type.HandleType.{HandleType}
+use Rattle.tpol_fields.specs.declared.handle_type.HandleType.TheVariants.{PolicySession, Object, Index, Entity, Authority, Pcr, Null, Parent}
 
 abbrev pub is_of_type : HandleType → ℕ → Bool
 is_of_type PolicySession handle = is_policy_session handle

@@ -2,11 +2,11 @@
 use Rattle.std.proofs.Common.{◌≡◌, ℕ, suc, ◌-◌, ◌+◌, ◌≤◌, ◌<◌, List, [], ◌∷◌, ◌++◌, Result, Ok, Err, refl, sym, ap, ◌∙◌, append_assoc, arith}
 use Rattle.std.proofs.lemmas.List.{append-nil}
 use Rattle.tpol_base.specs.declared.digest.Digest32.{Digest32}
-use Rattle.tpol_wire.specs.declared.fault.WireFault.{WireFault}
-use Rattle.tpol_wire.specs.declared.fault.WireFault.TheVariants.{Refused, NoMemory}
+use Rattle.tpol_fields.specs.declared.fault.WireFault.{WireFault}
+use Rattle.tpol_fields.specs.declared.fault.WireFault.TheVariants.{Refused, NoMemory}
 use Rattle.tpol_base.specs.Answers.{◌>>=◌}
-use Rattle.tpol_wire.specs.Answers.{Fails}
-use Rattle.tpol_wire.specs.Kinds.{listed_digest, digests_at}
+use Rattle.tpol_fields.specs.Answers.{Fails}
+use Rattle.tpol_fields.specs.Kinds.{listed_digest, digests_at}
 
 -- what was read before, and what is still read
 abbrev pub with_front : List Digest32 → Result (List Digest32 × List ℕ) ℕ → Result (List Digest32 × List ℕ) ℕ

@@ -2,10 +2,10 @@ use Rattle.std.proofs.Common.{◌≡◌, ◌++◌, subst}
 use Rattle.std.specs.Prelude.{OnOk}
 use Rattle.std.specs.Int.{w32, w64, to_be_bytes}
 use Rattle.tpol_base.specs.Handle.{rh_null}
-use Rattle.tpol_wire.specs.Kinds.{spell}
-use Rattle.tpol_wire.specs.Rows.{context, sized_digest}
-use Rattle.tpol_wire.proofs.Joined.{joined_four}
-use Rattle.tpol_wire.proofs.spelling.context.Goals as goal
+use Rattle.tpol_fields.specs.Kinds.{spell}
+use Rattle.tpol_fields.specs.FieldKinds.{context, sized_digest}
+use Rattle.tpol_fields.proofs.Joined.{joined_four}
+use Rattle.tpol_fields.proofs.spelling.context.Goals as goal
 
 pub returns : goal.returns
 unfolding spell

@@ -1,11 +1,11 @@
 ghost use Rattle.std.specs.Prelude.{◌≡◌};
-ghost use Rattle.tpol_wire.specs.HandleTypes.{is_of_type};
+ghost use Rattle.tpol_fields.specs.HandleTypes.{is_of_type};
 
 use tpol_base::handle::{TPM_RH_ENDORSEMENT, TPM_RH_LOCKOUT, TPM_RH_NULL, TPM_RH_OWNER};
 
 /// What a handle of a command may name (TPM 2.0 Part 2, "Interface Types").
 #[derive(Clone, Copy)]
-pub(crate) enum HandleType {
+pub enum HandleType {
     /// A policy session (TPMI_SH_POLICY).
     PolicySession,
     /// A loaded object (TPMI_DH_OBJECT).
@@ -26,7 +26,7 @@ pub(crate) enum HandleType {
 
 impl HandleType {
     /// Whether a handle is of this type.
-    pub(crate) fn has(self, handle: u32) -> bool
+    pub fn has(self, handle: u32) -> bool
         ensures { result ≡ is_of_type self handle }
     {
         let range = handle >> 24;

@@ -5,9 +5,9 @@
 ghost use Rattle.std.specs.Prelude.{◌≡◌, ◌≤◌, ◌+◌, ◌*◌, ◌<◌, ◌==◌, ◌^◌, nat_le, nat_eq, length, ℕ, Bool, IfOk};
 ghost use Rattle.std.specs.Int.{w8, w16, w32, w64};
 ghost use Rattle.tpol_base.specs.ResponseCode.{of_handle, of_parameter, rc_value};
-ghost use Rattle.tpol_wire.specs.Answers.{Reads, ReadsSlice};
-ghost use Rattle.tpol_wire.specs.Kinds.{read, number_at, bytes_at, sized_at, digests_at, ticket_at, timeout_at, goes_with, is_any_length, is_digest_length, is_optional_length, Signed, Truth, Operation, Digest, Sized, Optional, Named, Ticketed, TimedTicket, Digests, Mask, listed_digest};
-ghost use Rattle.tpol_wire.specs.Rows.{handle as handle_type, byte as byte_kind, short as short_kind, long as long_kind, read_size as size_kind, hash as hash_kind, fixed as fixed_kind, fixed_byte as fixed_byte_kind, sized_digest as sized_digest_kind, empty as empty_kind, timeout as timeout_kind, context as context_kind, one_digest as one_digest_kind, selection as selection_kind, signature as signature_kind};
+ghost use Rattle.tpol_fields.specs.Answers.{Reads, ReadsSlice};
+ghost use Rattle.tpol_fields.specs.Kinds.{read, number_at, bytes_at, sized_at, digests_at, ticket_at, timeout_at, goes_with, is_any_length, is_digest_length, is_optional_length, Signed, Truth, Operation, Digest, Sized, Optional, Named, Ticketed, TimedTicket, Digests, Mask, listed_digest};
+ghost use Rattle.tpol_fields.specs.FieldKinds.{handle as handle_type, byte as byte_kind, short as short_kind, long as long_kind, read_size as size_kind, hash as hash_kind, fixed as fixed_kind, fixed_byte as fixed_byte_kind, sized_digest as sized_digest_kind, empty as empty_kind, timeout as timeout_kind, context as context_kind, one_digest as one_digest_kind, selection as selection_kind, signature as signature_kind};
 
 use crate::fault::WireFault;
 use crate::handle_type::HandleType;
@@ -19,7 +19,7 @@ use tpol_base::response_code::{self, HASH, INSUFFICIENT, SIZE, VALUE};
 use tpol_base::{Blob, Compare, Cursor, Digest32, Digests, Name, Rc};
 
 /// A refusal with this code.
-pub(crate) fn refused(code: u32) -> WireFault
+pub fn refused(code: u32) -> WireFault
     ensures { result ≡ WireFault.Refused (record { code = code }) }
 {
     WireFault::Refused(Rc { code })
@@ -34,7 +34,7 @@ fn refused_parameter(n: u8, code: u32) -> WireFault
 }
 
 /// Any byte.
-pub(crate) fn number8(cursor: &mut Cursor, n: u8) -> Result<u8, WireFault>
+pub fn number8(cursor: &mut Cursor, n: u8) -> Result<u8, WireFault>
     ensures number { Reads result (number_at (of_parameter n) w8 cursor.old) cursor.new }
     ensures field { Reads result (read (of_parameter n) byte_kind cursor.old) cursor.new }
 {
@@ -45,7 +45,7 @@ pub(crate) fn number8(cursor: &mut Cursor, n: u8) -> Result<u8, WireFault>
 }
 
 /// Any number of two bytes.
-pub(crate) fn number16(cursor: &mut Cursor, n: u8) -> Result<u16, WireFault>
+pub fn number16(cursor: &mut Cursor, n: u8) -> Result<u16, WireFault>
     ensures number { Reads result (number_at (of_parameter n) w16 cursor.old) cursor.new }
     ensures field { Reads result (read (of_parameter n) short_kind cursor.old) cursor.new }
 {
@@ -56,7 +56,7 @@ pub(crate) fn number16(cursor: &mut Cursor, n: u8) -> Result<u16, WireFault>
 }
 
 /// Any number of four bytes.
-pub(crate) fn number32(cursor: &mut Cursor, n: u8) -> Result<u32, WireFault>
+pub fn number32(cursor: &mut Cursor, n: u8) -> Result<u32, WireFault>
     ensures number { Reads result (number_at (of_parameter n) w32 cursor.old) cursor.new }
     ensures field { Reads result (read (of_parameter n) long_kind cursor.old) cursor.new }
 {
@@ -77,7 +77,7 @@ fn number64(cursor: &mut Cursor, n: u8) -> Result<u64, WireFault>
 }
 
 /// So many bytes, lent.
-pub(crate) fn bytes<'a>(cursor: &mut Cursor<'a>, n: u8, count: usize) -> Result<&'a [u8], WireFault>
+pub fn bytes<'a>(cursor: &mut Cursor<'a>, n: u8, count: usize) -> Result<&'a [u8], WireFault>
     ensures read { ReadsSlice result (bytes_at (of_parameter n) count cursor.old) cursor.new }
     ensures length { IfOk result (λ taken. length taken.now ≡ count) }
 {
@@ -107,7 +107,7 @@ fn bounded_buffer<'a>(cursor: &mut Cursor<'a>, n: u8, most: u16) -> Result<&'a [
 }
 
 /// Handle `n` of a command, which is to be of this type.
-pub(crate) fn handle(cursor: &mut Cursor, n: u8, named: HandleType) -> Result<u32, WireFault>
+pub fn handle(cursor: &mut Cursor, n: u8, named: HandleType) -> Result<u32, WireFault>
     ensures { Reads result (read (of_handle n) (handle_type named) cursor.old) cursor.new }
 {
     let Some(handle) = cursor.u32() else {
@@ -120,11 +120,7 @@ pub(crate) fn handle(cursor: &mut Cursor, n: u8, named: HandleType) -> Result<u3
 }
 
 /// A handle of this type among the parameters.
-pub(crate) fn handle_parameter(
-    cursor: &mut Cursor,
-    n: u8,
-    named: HandleType,
-) -> Result<u32, WireFault>
+pub fn handle_parameter(cursor: &mut Cursor, n: u8, named: HandleType) -> Result<u32, WireFault>
     ensures { Reads result (read (of_parameter n) (handle_type named) cursor.old) cursor.new }
 {
     let handle = number32(cursor, n)?;
@@ -135,7 +131,7 @@ pub(crate) fn handle_parameter(
 }
 
 /// A size of at most 1,024.
-pub(crate) fn size(cursor: &mut Cursor, n: u8) -> Result<u16, WireFault>
+pub fn size(cursor: &mut Cursor, n: u8) -> Result<u16, WireFault>
     ensures { Reads result (read (of_parameter n) size_kind cursor.old) cursor.new }
 {
     let size = number16(cursor, n)?;
@@ -146,7 +142,7 @@ pub(crate) fn size(cursor: &mut Cursor, n: u8) -> Result<u16, WireFault>
 }
 
 /// The algorithm SHA-256 or the null algorithm.
-pub(crate) fn hash(cursor: &mut Cursor, n: u8) -> Result<u16, WireFault>
+pub fn hash(cursor: &mut Cursor, n: u8) -> Result<u16, WireFault>
     ensures { Reads result (read (of_parameter n) hash_kind cursor.old) cursor.new }
 {
     let hash = number16(cursor, n)?;
@@ -157,7 +153,7 @@ pub(crate) fn hash(cursor: &mut Cursor, n: u8) -> Result<u16, WireFault>
 }
 
 /// A signed number of four bytes.
-pub(crate) fn signed(cursor: &mut Cursor, n: u8) -> Result<i32, WireFault>
+pub fn signed(cursor: &mut Cursor, n: u8) -> Result<i32, WireFault>
     ensures { Reads result (read (of_parameter n) Signed cursor.old) cursor.new }
 {
     let number = number32(cursor, n)?;
@@ -165,7 +161,7 @@ pub(crate) fn signed(cursor: &mut Cursor, n: u8) -> Result<i32, WireFault>
 }
 
 /// The byte 00 or 01.
-pub(crate) fn truth(cursor: &mut Cursor, n: u8) -> Result<bool, WireFault>
+pub fn truth(cursor: &mut Cursor, n: u8) -> Result<bool, WireFault>
     ensures { Reads result (read (of_parameter n) Truth cursor.old) cursor.new }
 {
     let byte = number8(cursor, n)?;
@@ -176,7 +172,7 @@ pub(crate) fn truth(cursor: &mut Cursor, n: u8) -> Result<bool, WireFault>
 }
 
 /// The number of a comparison.
-pub(crate) fn operation(cursor: &mut Cursor, n: u8) -> Result<Compare, WireFault>
+pub fn operation(cursor: &mut Cursor, n: u8) -> Result<Compare, WireFault>
     ensures { Reads result (read (of_parameter n) Operation cursor.old) cursor.new }
 {
     let number = number16(cursor, n)?;
@@ -187,7 +183,7 @@ pub(crate) fn operation(cursor: &mut Cursor, n: u8) -> Result<Compare, WireFault
 }
 
 /// A number of two bytes that is fixed; another is refused with `code`.
-pub(crate) fn fixed(cursor: &mut Cursor, n: u8, value: u16, code: u32) -> Result<(), WireFault>
+pub fn fixed(cursor: &mut Cursor, n: u8, value: u16, code: u32) -> Result<(), WireFault>
     requires { code < 0x100 }
     ensures { Reads result (read (of_parameter n) (fixed_kind value code) cursor.old) cursor.new }
 {
@@ -198,7 +194,7 @@ pub(crate) fn fixed(cursor: &mut Cursor, n: u8, value: u16, code: u32) -> Result
 }
 
 /// A byte that is fixed; another is refused with `code`.
-pub(crate) fn fixed_byte(cursor: &mut Cursor, n: u8, value: u8, code: u32) -> Result<(), WireFault>
+pub fn fixed_byte(cursor: &mut Cursor, n: u8, value: u8, code: u32) -> Result<(), WireFault>
     requires { code < 0x100 }
     ensures { Reads result (read (of_parameter n) (fixed_byte_kind value code) cursor.old) cursor.new }
 {
@@ -209,7 +205,7 @@ pub(crate) fn fixed_byte(cursor: &mut Cursor, n: u8, value: u8, code: u32) -> Re
 }
 
 /// A 2B of no bytes.
-pub(crate) fn empty(cursor: &mut Cursor, n: u8) -> Result<(), WireFault>
+pub fn empty(cursor: &mut Cursor, n: u8) -> Result<(), WireFault>
     ensures { Reads result (read (of_parameter n) empty_kind cursor.old) cursor.new }
 {
     fixed(cursor, n, 0, SIZE)
@@ -224,7 +220,7 @@ fn digest(cursor: &mut Cursor, n: u8) -> Result<Digest32, WireFault>
 }
 
 /// A 2B of 32 bytes.
-pub(crate) fn sized_digest(cursor: &mut Cursor, n: u8) -> Result<Digest32, WireFault>
+pub fn sized_digest(cursor: &mut Cursor, n: u8) -> Result<Digest32, WireFault>
     ensures field { Reads result (read (of_parameter n) sized_digest_kind cursor.old) cursor.new }
     ensures listed { Reads result (listed_digest (of_parameter n) cursor.old) cursor.new }
 {
@@ -233,7 +229,7 @@ pub(crate) fn sized_digest(cursor: &mut Cursor, n: u8) -> Result<Digest32, WireF
 }
 
 /// A 2B of 0 or 32 bytes.
-pub(crate) fn optional(cursor: &mut Cursor, n: u8) -> Result<Option<Digest32>, WireFault>
+pub fn optional(cursor: &mut Cursor, n: u8) -> Result<Option<Digest32>, WireFault>
     ensures { Reads result (read (of_parameter n) Optional cursor.old) cursor.new }
 {
     let length = number16(cursor, n)?;
@@ -248,7 +244,7 @@ pub(crate) fn optional(cursor: &mut Cursor, n: u8) -> Result<Option<Digest32>, W
 }
 
 /// A 2B of at most `most` bytes, copied.
-pub(crate) fn copied_buffer(
+pub fn copied_buffer(
     alloc: Global,
     cursor: &mut Cursor,
     n: u8,
@@ -261,7 +257,7 @@ pub(crate) fn copied_buffer(
 }
 
 /// A 2B of the bytes of a Name.
-pub(crate) fn name(cursor: &mut Cursor, n: u8) -> Result<Name, WireFault>
+pub fn name(cursor: &mut Cursor, n: u8) -> Result<Name, WireFault>
     ensures { Reads result (read (of_parameter n) Named cursor.old) cursor.new }
 {
     let bytes = any_buffer(cursor, n)?;
@@ -272,7 +268,7 @@ pub(crate) fn name(cursor: &mut Cursor, n: u8) -> Result<Name, WireFault>
 }
 
 /// One digest of SHA-256 behind its count and its algorithm (TPML_DIGEST_VALUES).
-pub(crate) fn digest_values(cursor: &mut Cursor, n: u8) -> Result<Digest32, WireFault>
+pub fn digest_values(cursor: &mut Cursor, n: u8) -> Result<Digest32, WireFault>
     ensures { Reads result (read (of_parameter n) one_digest_kind cursor.old) cursor.new }
 {
     if number32(cursor, n)? != 1 {
@@ -283,7 +279,7 @@ pub(crate) fn digest_values(cursor: &mut Cursor, n: u8) -> Result<Digest32, Wire
 }
 
 /// One selection of SHA-256 PCRs with three bytes of mask (TPML_PCR_SELECTION).
-pub(crate) fn selection(cursor: &mut Cursor, n: u8) -> Result<u32, WireFault>
+pub fn selection(cursor: &mut Cursor, n: u8) -> Result<u32, WireFault>
     ensures { Reads result (read (of_parameter n) selection_kind cursor.old) cursor.new }
 {
     if number32(cursor, n)? != 1 {
@@ -303,7 +299,7 @@ fn mask(cursor: &mut Cursor, n: u8) -> Result<u32, WireFault>
 }
 
 /// An HMAC with SHA-256 (TPMT_SIGNATURE).
-pub(crate) fn signature(cursor: &mut Cursor, n: u8) -> Result<Digest32, WireFault>
+pub fn signature(cursor: &mut Cursor, n: u8) -> Result<Digest32, WireFault>
     ensures { Reads result (read (of_parameter n) signature_kind cursor.old) cursor.new }
 {
     fixed(cursor, n, TPM_ALG_HMAC, VALUE)?;
@@ -312,7 +308,7 @@ pub(crate) fn signature(cursor: &mut Cursor, n: u8) -> Result<Digest32, WireFaul
 }
 
 /// A ticket: tag, hierarchy and a 2B of at most 64 bytes (TPMT_TK_VERIFIED, TPMT_TK_AUTH).
-pub(crate) fn ticket(alloc: Global, cursor: &mut Cursor, n: u8) -> Result<Ticket, WireFault>
+pub fn ticket(alloc: Global, cursor: &mut Cursor, n: u8) -> Result<Ticket, WireFault>
     ensures field { Reads result (read (of_parameter n) Ticketed cursor.old) cursor.new }
     ensures ticket { Reads result (ticket_at (of_parameter n) cursor.old) cursor.new }
 {
@@ -327,7 +323,7 @@ pub(crate) fn ticket(alloc: Global, cursor: &mut Cursor, n: u8) -> Result<Ticket
 }
 
 /// A count from `least` to `most`, and that many 2Bs of 32 bytes.
-pub(crate) fn digests(
+pub fn digests(
     alloc: Global,
     cursor: &mut Cursor,
     n: u8,
@@ -361,7 +357,7 @@ fn counted_digests(
 }
 
 /// A deadline: a 2B of 8 bytes.
-pub(crate) fn timeout(cursor: &mut Cursor, n: u8) -> Result<u64, WireFault>
+pub fn timeout(cursor: &mut Cursor, n: u8) -> Result<u64, WireFault>
     ensures { Reads result (read (of_parameter n) timeout_kind cursor.old) cursor.new }
 {
     fixed(cursor, n, 8, SIZE)?;
@@ -391,7 +387,7 @@ fn goes_with(timeout: Option<u64>, ticket: &Ticket) -> bool
 }
 
 /// A deadline or none, and the ticket of this tag that goes with it (TPM2B_TIMEOUT and TPMT_TK_AUTH).
-pub(crate) fn timed_ticket(
+pub fn timed_ticket(
     alloc: Global,
     cursor: &mut Cursor,
     n: u8,
@@ -409,7 +405,7 @@ pub(crate) fn timed_ticket(
 
 /// The context of a session: its sequence, its handle, the null hierarchy and a 2B of 32 bytes
 /// (TPMS_CONTEXT).
-pub(crate) fn context(cursor: &mut Cursor, n: u8) -> Result<(u64, (u32, Digest32)), WireFault>
+pub fn context(cursor: &mut Cursor, n: u8) -> Result<(u64, (u32, Digest32)), WireFault>
     ensures { Reads result (read (of_parameter n) context_kind cursor.old) cursor.new }
 {
     let sequence = number64(cursor, n)?;

@@ -13,7 +13,7 @@ use Rattle.tpol_base.specs.Flag.{yes_no}
 use Rattle.tpol_base.specs.Handle.{rh_null, rh_owner}
 use Rattle.tpol_base.specs.Name.{name_bytes, name_of_bytes}
 pub use Rattle.tpol_base.specs.Sized.{sized}
-use Rattle.tpol_wire.specs.declared.ticket.Ticket.{Ticket}
+use Rattle.tpol_fields.specs.declared.ticket.Ticket.{Ticket}
 use Rattle.tpol_base.specs.Answers.{◌>>=◌}
 use Rattle.tpol_base.specs.ResponseCode.{rc_value, rc_size, rc_insufficient}
 

@@ -1,8 +1,8 @@
 use Rattle.std.proofs.Common.{◌+◌, ◌*◌}
 use Rattle.std.proofs.lemmas.Result.{err_from_is_err_and}
-use Rattle.tpol_wire.specs.Kinds.{digests_at}
-use Rattle.tpol_wire.proofs.DigestLists.{goes_on, stops, is_done}
-use Rattle.tpol_wire.proofs.fields.counted_digests.Goals as goal
+use Rattle.tpol_fields.specs.Kinds.{digests_at}
+use Rattle.tpol_fields.proofs.DigestLists.{goes_on, stops, is_done}
+use Rattle.tpol_fields.proofs.fields.counted_digests.Goals as goal
 
 pub returns-in_err-digest : goal.returns-in_err-digest
 returns-in_err-digest c =

@@ -1,0 +1,4 @@
+pub mod DigestLists
+pub mod Joined
+pub mod KindLaws
+pub mod Takes

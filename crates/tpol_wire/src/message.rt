@@ -1,0 +1,22 @@
+//! Commands and replies behind their headers.
+
+ghost use Rattle.std.specs.Prelude.{◌≡◌, IfOk, List, ℕ};
+ghost use Rattle.tpol_wire.specs.Spellings.{message_bytes};
+
+use std::alloc::Global;
+use tpol_base::{Blob, NoMemory};
+use tpol_fields::spelling;
+
+/// A command or a reply: its tag, its size, its code and what stands behind them (TPM 2.0 Part 1, "Command
+/// Structure" and "Response Structure").
+pub(crate) fn write(alloc: Global, tag: u16, code: u32, body: &[u8]) -> Result<Blob, NoMemory>
+    ensures { IfOk result (λ bytes. bytes ≡ message_bytes tag code body.now) }
+{
+    let mut out = Blob::new(alloc);
+    spelling::number16(&mut out, tag)?;
+    // The remainder keeps the sum within a usize; of the sum the last four bytes are written.
+    spelling::length32(&mut out, 10 + body.len() % 0x1_0000_0000)?;
+    spelling::number32(&mut out, code)?;
+    out.extend_from_slice(body)?;
+    Ok(out)
+}
