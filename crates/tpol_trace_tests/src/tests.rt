@@ -217,6 +217,27 @@ fn open(
         && is_branch(opening(alloc, policy, approvals, facts), number, numbers)
 }
 
+// The same of facts that were made, if they were.
+fn opens(
+    alloc: Global,
+    policy: &Closed,
+    approvals: &Approvals,
+    facts: Result<Facts, NoMemory>,
+    number: u32,
+    numbers: &[u32],
+) -> bool
+    requires well_formed { IsWellFormed policy.now approvals.now }
+{
+    match facts {
+        Ok(facts) => {
+            let answer = open(alloc, policy, approvals, &facts, number, numbers);
+            drop(facts);
+            answer
+        }
+        Err(_) => false,
+    }
+}
+
 // An OR of two branches, as a policy.
 fn policy_of_two(
     alloc: Global,
@@ -289,9 +310,12 @@ fn reference_facts(alloc: Global) -> Result<Facts, NoMemory> {
 #[test]
 fn policy_ref_like_a_command_code(rt: HostRuntime) -> Result<(), Fail> {
     let policy = reference(rt.alloc())?;
-    let facts = reference_facts(rt.alloc())?;
     let approvals = Approvals::new(rt.alloc());
-    assert!(rt; open(rt.alloc(), &policy, &approvals, &facts, 1, &[2, 3]));
+    let facts = reference_facts(rt.alloc());
+    let answer = opens(rt.alloc(), &policy, &approvals, facts, 1, &[2, 3]);
+    drop(policy);
+    drop(approvals);
+    assert!(rt; answer);
     Ok(())
 }
 
@@ -328,9 +352,12 @@ fn boot_facts(alloc: Global) -> Result<Facts, NoMemory> {
 #[test]
 fn disk_by_its_first_branch(rt: HostRuntime) -> Result<(), Fail> {
     let policy = disk(rt.alloc())?;
-    let facts = boot_facts(rt.alloc())?;
     let approvals = Approvals::new(rt.alloc());
-    assert!(rt; open(rt.alloc(), &policy, &approvals, &facts, 1, &[2, 3, 4]));
+    let facts = boot_facts(rt.alloc());
+    let answer = opens(rt.alloc(), &policy, &approvals, facts, 1, &[2, 3, 4]);
+    drop(policy);
+    drop(approvals);
+    assert!(rt; answer);
     Ok(())
 }
 
@@ -347,9 +374,12 @@ fn owner_facts(alloc: Global) -> Result<Facts, NoMemory> {
 #[test]
 fn disk_by_its_second_branch(rt: HostRuntime) -> Result<(), Fail> {
     let policy = disk(rt.alloc())?;
-    let facts = owner_facts(rt.alloc())?;
     let approvals = Approvals::new(rt.alloc());
-    assert!(rt; open(rt.alloc(), &policy, &approvals, &facts, 2, &[3, 4, 5]));
+    let facts = owner_facts(rt.alloc());
+    let answer = opens(rt.alloc(), &policy, &approvals, facts, 2, &[3, 4, 5]);
+    drop(policy);
+    drop(approvals);
+    assert!(rt; answer);
     Ok(())
 }
 
@@ -420,7 +450,10 @@ fn approved_facts(alloc: Global) -> Result<Facts, NoMemory> {
 fn second_approved_document(rt: HostRuntime) -> Result<(), Fail> {
     let policy = base(rt.alloc())?;
     let approvals = versions(rt.alloc())?;
-    let facts = approved_facts(rt.alloc())?;
-    assert!(rt; open(rt.alloc(), &policy, &approvals, &facts, 2, &[2, 4]));
+    let facts = approved_facts(rt.alloc());
+    let answer = opens(rt.alloc(), &policy, &approvals, facts, 2, &[2, 4]);
+    drop(policy);
+    drop(approvals);
+    assert!(rt; answer);
     Ok(())
 }
