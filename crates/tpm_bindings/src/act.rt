@@ -1,6 +1,6 @@
 // What one move binds.
 
-ghost use Rattle.std.specs.Prelude.{◌≡◌, bit_and};
+ghost use Rattle.std.specs.Prelude.{◌≡◌};
 ghost use Rattle.tpm_bindings.specs.Facts as spec;
 
 use crate::LastAuth;

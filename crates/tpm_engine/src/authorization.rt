@@ -1,6 +1,6 @@
 //! How a command is authorized, and the authorization area of the reply.
 
-ghost use Rattle.std.specs.Prelude.{◌≡◌, ℕ, IfOk, List};
+ghost use Rattle.std.specs.Prelude.{◌≡◌, IfOk};
 ghost use Rattle.tpm_auth.specs.SessionMacs as macs;
 ghost use Rattle.tpm_rules.specs.EntityView.{entity_of};
 ghost use Rattle.tpm_world.specs.Hashes as hashes;

@@ -1,6 +1,6 @@
 //! Room for the bytes of a refusal whose code is not known yet.
 
-ghost use Rattle.std.specs.Prelude.{◌≡◌, None, IfOk};
+ghost use Rattle.std.specs.Prelude.{◌≡◌, None};
 ghost use Rattle.tpol_wire.specs.declared.reply.Reply.TheVariants.{Refused};
 ghost use Rattle.tpol_wire.specs.Replies.{refusal_tag, spell_reply};
 

@@ -1,6 +1,6 @@
 //! The response to a command buffer, over the tables of a machine.
 
-ghost use Rattle.std.specs.Prelude.{◌≡◌, ℕ, None, [], IfErr, IfOk, IfSome, OnErr, OnOk};
+ghost use Rattle.std.specs.Prelude.{◌≡◌, ℕ, None, IfErr, IfOk, IfSome, OnErr, OnOk};
 ghost use Rattle.tpol_digest.specs.Sound.{IsSound};
 ghost use Rattle.tpol_wire.specs.Commands.{FitsCommand};
 ghost use Rattle.tpol_wire.specs.Replies.{spell_reply};

@@ -1,5 +1,5 @@
 -- The values of a set of PCRs, one PCR further.
-use Rattle.std.proofs.Common.{◌≡◌, ℕ, suc, ◌+◌, Bool, true, false, cond, List, [], ◌∷◌, ◌++◌, length, map, filter, refl, sym, ap, subst, ◌∙◌, append_assoc, append-nil, ◌<◌, get_or, take, arith}
+use Rattle.std.proofs.Common.{◌≡◌, ℕ, ◌+◌, Bool, true, false, cond, List, [], ◌∷◌, ◌++◌, length, map, filter, refl, sym, ap, ◌∙◌, append_assoc, append-nil, ◌<◌, get_or, take, arith}
 use Rattle.std.proofs.lemmas.List.{length-take, take_more}
 use Rattle.std.specs.List.{enumerate_from, flat_map}
 use Rattle.tpol_base.specs.declared.digest.Digest32.{Digest32}

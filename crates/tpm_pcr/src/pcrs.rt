@@ -1,6 +1,6 @@
 //! The platform configuration registers.
 
-ghost use Rattle.std.specs.Prelude.{◌≡◌, ◌<◌, ◌+◌, ◌-◌, ◌^◌, ◌↔◌, length, IsErr, OnOk, OnErr};
+ghost use Rattle.std.specs.Prelude.{◌≡◌, ◌<◌, ◌-◌, ◌^◌, ◌↔◌, length, IsErr, OnOk, OnErr};
 ghost use Rattle.tpm_pcr.specs.Pcrs.{cleared, extended, selection_digest, value_of};
 
 use std::marker::Model;

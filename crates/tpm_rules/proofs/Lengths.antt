@@ -1,5 +1,5 @@
 -- A content that is cut short has no digest behind its first two bytes.
-use Rattle.std.specs.Prelude.{◌≡◌, ◌<◌, ◌≤◌, ◌-◌, min, ℕ, Bool, true, false, List, length, take, drop, refl}
+use Rattle.std.specs.Prelude.{◌≡◌, ◌<◌, ◌-◌, min, ℕ, Bool, true, false, List, length, take, drop, refl}
 use Rattle.std.specs.Str.{bytes_eq}
 use Rattle.std.proofs.Common.{ap, arith}
 use Rattle.std.proofs.lemmas.List.{length-drop, length-take}

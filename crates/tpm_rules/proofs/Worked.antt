@@ -1,5 +1,5 @@
 -- Worked values of the rules: each code as a TPM answers it.
-use Rattle.std.proofs.Common.{◌≡◌, ℕ, pos, true, false, List, [], ◌∷◌, replicate, Option, Some, None, refl}
+use Rattle.std.proofs.Common.{◌≡◌, ℕ, pos, true, false, List, [], ◌∷◌, replicate, Some, None, refl}
 use Rattle.tpol_base.specs.declared.check.Check.TheVariants as checks
 use Rattle.tpol_base.specs.declared.compare.Compare.TheVariants.{Eq}
 use Rattle.tpol_base.specs.declared.digest.Digest32.{Digest32}

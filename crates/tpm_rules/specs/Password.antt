@@ -2,7 +2,7 @@
 --   1  the entity's value may not authorize the command     TPM_RC_AUTH_UNAVAILABLE; Duplicate: TPM_RC_AUTH_TYPE
 --   2  the value is wrong                                    TPM_RC_AUTH_FAIL, or TPM_RC_BAD_AUTH without
 --                                                            protection against dictionary attacks, session 1
-use Rattle.std.specs.Prelude.{ℕ, ◌+◌, Bool, List, Option, cond}
+use Rattle.std.specs.Prelude.{ℕ, ◌+◌, List, Option, cond}
 use Rattle.tpol_base.specs.ResponseCode.{of_session, rc_auth_fail, rc_auth_type, rc_auth_unavailable, rc_bad_auth}
 use Rattle.tpm_auth.specs.Passwords.{is_password}
 use Rattle.tpm_rules.specs.declared.outcome.Denial.{Denial}

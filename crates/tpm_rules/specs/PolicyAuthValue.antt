@@ -1,7 +1,7 @@
 -- PolicyAuthValue, PolicyPassword and PolicyPhysicalPresence (TPM 2.0 Part 3, TPM2_PolicyAuthValue,
 -- TPM2_PolicyPassword and TPM2_PolicyPhysicalPresence). They have no rules; what the session keeps of them
 -- is looked at when it is used.
-use Rattle.std.specs.Prelude.{ℕ, Option, None}
+use Rattle.std.specs.Prelude.{ℕ, None}
 use Rattle.tpol_tree.specs.declared.closed.Assertion.TheVariants.{AuthValue, Password, PhysicalPresence}
 use Rattle.tpol_tree.specs.declared.facts.Fact.{Fact}
 use Rattle.tpol_tree.specs.declared.path.Move.TheVariants.{Assert}

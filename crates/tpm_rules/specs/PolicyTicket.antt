@@ -3,7 +3,7 @@
 --   1  the ticket's time has passed                                     TPM_RC_EXPIRED, parameter 1
 --   2  the slot does not take the cpHashA                               TPM_RC_CPHASH
 --   3  the ticket is not one of this machine for these values           TPM_RC_TICKET, parameter 5
-use Rattle.std.specs.Prelude.{ℕ, ◌+◌, ◌==◌, ℤ, pos, Bool, true, false, List, nat_le, Option, Some, cond}
+use Rattle.std.specs.Prelude.{ℕ, ◌+◌, ◌==◌, pos, Bool, List, nat_le, Option, Some, cond}
 use Rattle.tpol_base.specs.declared.digest.Digest32.{Digest32}
 use Rattle.tpol_base.specs.declared.name.Name.{Name}
 use Rattle.tpol_base.specs.Constants.{st_auth_secret}

@@ -1,6 +1,5 @@
 //! PolicyCounterTimer (TPM 2.0 Part 3, TPM2_PolicyCounterTimer).
 
-ghost use Rattle.std.specs.Prelude.{◌≡◌};
 ghost use Rattle.tpm_rules.specs.PolicyCounterTimer.{policy_counter_timer_rule};
 ghost use Rattle.tpm_rules.specs.Rule.{Obeys};
 

@@ -1,4 +1,4 @@
-ghost use Rattle.std.specs.Prelude.{◌≡◌, ℕ, [], ◌∷◌, ◌++◌, ◌+◌, ◌-◌, ◌<◌, ◌≤◌, ◌^◌, length, None, ◌↔◌, IsNone, IfOk, false};
+ghost use Rattle.std.specs.Prelude.{◌≡◌, [], ◌∷◌, ◌++◌, ◌+◌, ◌-◌, ◌<◌, ◌≤◌, ◌^◌, length, None, ◌↔◌, IsNone, IfOk, false};
 ghost use Rattle.tpol_digest.specs.Sound.{IsSound, Meets};
 ghost use Rattle.tpm_bindings.specs.Agreement.{Agree};
 ghost use Rattle.tpm_bindings.specs.Facts.{has_pcr, moves_of};

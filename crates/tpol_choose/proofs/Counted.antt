@@ -1,12 +1,12 @@
 -- Counts of ways, by the laws of extents.
-use Rattle.std.proofs.Common.{◌≡◌, ◌≢◌, ℕ, ◌+◌, ◌-◌, ◌*◌, ◌<◌, ◌≤◌, min, max, List, [], ◌∷◌, true, false, length, get_or, take, refl, sym, ap, ◌∙◌, arith}
+use Rattle.std.proofs.Common.{◌≡◌, ◌≢◌, ℕ, ◌+◌, ◌-◌, ◌*◌, ◌<◌, ◌≤◌, min, max, List, true, false, length, get_or, take, refl, sym, ◌∙◌, arith}
 use Rattle.std.specs.Prelude.{is_some}
 use Rattle.tpol_tree.specs.declared.closed.ClosedElement.{ClosedElement}
 use Rattle.tpol_tree.specs.declared.path.ApprovedDoc.{ApprovedDoc}
 use Rattle.tpol_digest.specs.declared.extent.Extent.{Extent}
-use Rattle.tpol_digest.specs.Extent.{FullExtent, both, either, extent_at, extent_by_approval, document_extent, IsCapped}
+use Rattle.tpol_digest.specs.Extent.{FullExtent, both, extent_at, extent_by_approval, document_extent, IsCapped}
 use Rattle.tpol_digest.specs.Paths.{approval_of}
-use Rattle.tpol_digest.proofs.Extents.{capped_both, capped_start, capped_past, capped_entered, capped_passed}
+use Rattle.tpol_digest.proofs.Extents.{capped_both, capped_past, capped_entered, capped_passed}
 use Rattle.tpol_choose.specs.Counts.{IsCount}
 
 -- a count with the moves of the longest

@@ -1,5 +1,5 @@
 -- The counts of a walk's parts.
-use Rattle.std.proofs.Common.{◌≡◌, ◌≢◌, ℕ, ◌+◌, ◌-◌, ◌<◌, ◌≤◌, ◌++◌, List, map, min, true, length, get_or, refl, sym, ap, ◌∙◌, subst, arith}
+use Rattle.std.proofs.Common.{◌≡◌, ◌≢◌, ℕ, ◌+◌, ◌-◌, ◌<◌, ◌≤◌, ◌++◌, List, map, min, true, length, get_or, ap, ◌∙◌, subst, arith}
 use Rattle.std.specs.Prelude.{All, is_some}
 use Rattle.tpol_base.specs.declared.digest.Digest32.{Digest32}
 use Rattle.tpol_tree.specs.declared.closed.Closed.{Closed}

@@ -1,6 +1,6 @@
 -- What is found in a sight.
 use Rattle.std.proofs.Common.{◌≡◌, ℕ, Bool, true, false, List, [], ◌∷◌, Option, Some, None, inl, inr, sym, subst, arith}
-use Rattle.std.specs.Prelude.{All, IfSome, find, option_map, if◌then◌else◌}
+use Rattle.std.specs.Prelude.{IfSome, find, option_map, if◌then◌else◌}
 use Rattle.std.specs.List.{AllByRecursion}
 use Rattle.std.proofs.lemmas.List.Elements.{recursion_from_All}
 use Rattle.tpm_nv.specs.Contents.{HasContent}

@@ -1,7 +1,6 @@
 -- The way at an index, part by part, as a track goes it.
-use Rattle.std.proofs.Common.{◌≡◌, ◌≢◌, ℕ, zero, suc, ◌+◌, ◌-◌, ◌*◌, ◌<◌, ◌≤◌, ◌++◌, Bool, true, false, List, [], ◌∷◌, map, fold, length, get_or, Option, Some, None, refl, sym, ap, ◌∙◌, subst, length-append, arith}
+use Rattle.std.proofs.Common.{◌≡◌, ℕ, zero, suc, ◌+◌, ◌*◌, ◌<◌, ◌++◌, Bool, true, false, List, [], ◌∷◌, map, fold, length, get_or, refl, sym, ap, ◌∙◌, subst, length-append, arith}
 use Rattle.std.specs.Prelude.{◌||◌}
-use Rattle.std.specs.List.{slice_get}
 use Rattle.std.proofs.lemmas.List.{length-map}
 use Rattle.std.proofs.lemmas.List.Sums.{fold-append, fold_push}
 use Rattle.tpol_base.specs.declared.digest.Digest32.{Digest32}
@@ -12,8 +11,8 @@ use Rattle.tpol_tree.specs.declared.path.ApprovedDoc.{ApprovedDoc}
 use Rattle.tpol_tree.specs.declared.path.Move.{Move}
 use Rattle.tpol_tree.specs.declared.path.Path.{Path}
 use Rattle.tpol_tree.specs.declared.path.PathStep.{PathStep}
-use Rattle.tpol_tree.specs.declared.path.PathStep.TheVariants.{Branch, Document}
-use Rattle.tpol_digest.specs.Paths.{approval_of, approved_paths, between, document_paths, empty_path, followed_by, outside_path, outside_paths, path_of_move, paths_by_approval, product}
+use Rattle.tpol_tree.specs.declared.path.PathStep.TheVariants.{Branch}
+use Rattle.tpol_digest.specs.Paths.{approved_paths, between, document_paths, empty_path, followed_by, outside_path, outside_paths, path_of_move, product}
 use Rattle.tpol_digest.specs.Positions.{GoesOn, approval_ways, branch_ways, element_list_ways, path_of_step}
 use Rattle.tpol_digest.proofs.Positions.{before_document, goes_first, goes_in_document, goes_later, goes_outside, part}
 use Rattle.tpol_digest.proofs.Products.{or_false}

@@ -1,5 +1,5 @@
 -- Moves that bind nothing by themselves.
-use Rattle.std.proofs.Common.{◌≡◌, refl, sym, ◌∙◌, []}
+use Rattle.std.proofs.Common.{sym, ◌∙◌}
 use Rattle.tpol_base.specs.declared.digest.Digest32.{Digest32}
 use Rattle.tpol_base.specs.declared.name.Name.{Name}
 use Rattle.tpol_tree.specs.declared.closed.Assertion.TheVariants as a

@@ -1,15 +1,13 @@
 -- Moves that nothing stands in the way of.
-use Rattle.std.proofs.Common.{◌≡◌, ℕ, suc, ◌+◌, ◌<◌, ◌≤◌, ◌^◌, List, [], ◌∷◌, ◌++◌, Option, Some, None, drop, take, fold, get_or, length, refl, sym, ap, ◌∙◌, subst, add-one, drop-cons, arith}
+use Rattle.std.proofs.Common.{◌≡◌, ℕ, suc, ◌+◌, ◌<◌, ◌≤◌, List, [], ◌∷◌, ◌++◌, Some, None, drop, take, get_or, length, refl, sym, ap, ◌∙◌, add-one, drop-cons}
 use Rattle.std.proofs.lemmas.List.{drop_all, take_more}
 use Rattle.std.proofs.lemmas.List.Sums.{fold_push}
 use Rattle.tpm_bindings.specs.State.{SessionState}
 use Rattle.tpm_rules.specs.declared.standing.Standing.{Standing}
 use Rattle.tpm_rules.specs.Rule.{or_else}
 use Rattle.tpm_rules.specs.Standing.{standing_of}
-use Rattle.tpol_name.specs.declared.sight.Sight.{Sight}
 use Rattle.tpol_tree.specs.declared.path.Move.{Move}
 use Rattle.tpol_choose.specs.declared.block.Block.{Block}
-use Rattle.tpol_choose.specs.declared.block.Why.{Why}
 use Rattle.tpol_choose.specs.Blocks.{block_of, moves_block}
 use Rattle.tpol_choose.specs.Clients.{Client}
 use Rattle.tpol_choose.specs.Facts.{fresh_session, session_after, session_along}

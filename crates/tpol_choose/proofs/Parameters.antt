@@ -1,5 +1,5 @@
 -- The parameters of the goal's command, as the wire spells them.
-use Rattle.std.proofs.Common.{◌≡◌, [], ◌++◌, refl, sym, ap}
+use Rattle.std.proofs.Common.{◌≡◌, ◌++◌, refl, sym, ap}
 use Rattle.std.specs.Int.{to_be_bytes, w16}
 use Rattle.std.proofs.lemmas.List.{append-nil}
 use Rattle.tpol_base.specs.Constants.{alg_sha256}

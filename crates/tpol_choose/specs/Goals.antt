@@ -1,6 +1,6 @@
 -- What stands in the way of the goal: a policy session that may not authorize it, the first deferred check that
 -- it breaks, or the first rule of its own (TPM 2.0 Part 1, "Policy Session Use"; Part 3, under its name).
-use Rattle.std.specs.Prelude.{ℕ, ◌==◌, ◌&&◌, ◌||◌, Bool, true, List, [], ◌++◌, length, map, Option, Some, None, option_map}
+use Rattle.std.specs.Prelude.{ℕ, ◌==◌, ◌&&◌, ◌||◌, Bool, true, List, [], ◌++◌, length, Option, Some, None, option_map}
 use Rattle.std.specs.Int.{to_be_bytes, w16, w32}
 use Rattle.std.specs.List.{flat_map}
 use Rattle.tpm_auth.specs.Passwords.{is_password}
@@ -11,7 +11,7 @@ use Rattle.tpm_nv.specs.Counters.{count_before, greatest_count}
 use Rattle.tpm_nv.specs.Rules.{increment_rule, read_rule, write_rule}
 use Rattle.tpm_rules.specs.declared.checks.Use.{Use}
 use Rattle.tpm_rules.specs.Checks.{first_broken_check}
-use Rattle.tpm_rules.specs.Entity.{Entity, auth_policy_of, auth_value_of, is_duplicate, is_policy_available, written_state}
+use Rattle.tpm_rules.specs.Entity.{auth_policy_of, auth_value_of, is_duplicate, is_policy_available, written_state}
 use Rattle.tpm_rules.specs.NvAuthority.{nv_authority_rule}
 use Rattle.tpm_rules.specs.Objects.{duplicate_rule, hmac_rule, unseal_rule}
 use Rattle.tpm_rules.specs.Rule.{or_else, unless}
@@ -19,7 +19,6 @@ use Rattle.tpol_base.specs.declared.check.Check.{Check}
 use Rattle.tpol_base.specs.declared.command_code.CommandCode.{CommandCode}
 use Rattle.tpol_base.specs.declared.command_code.CommandCode.TheVariants as codes
 use Rattle.tpol_base.specs.declared.digest.Digest32.{Digest32}
-use Rattle.tpol_base.specs.declared.name.Name.{Name}
 use Rattle.tpol_base.specs.CommandCode.{number_of_code}
 use Rattle.tpol_base.specs.Constants.{alg_null, alg_sha256}
 use Rattle.tpol_base.specs.Name.{is_same_name, name_bytes}

@@ -1,5 +1,5 @@
 -- The goal's entity and rule, as the code lends them.
-use Rattle.std.specs.Prelude.{◌≡◌, ℕ, ⊤, Option, Some, None}
+use Rattle.std.specs.Prelude.{◌≡◌, ⊤, Option, Some, None}
 use Rattle.tpm_rules.specs.Rule.{Obeys}
 use Rattle.tpol_choose.specs.declared.goal_rules.Judged.{Judged as LentJudged}
 use Rattle.tpol_choose.specs.Goals.{Judged}

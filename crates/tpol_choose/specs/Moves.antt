@@ -33,7 +33,6 @@ use Rattle.tpol_base.specs.declared.command_code.CommandCode.{CommandCode}
 use Rattle.tpol_base.specs.declared.command_code.CommandCode.TheVariants as codes
 use Rattle.tpol_base.specs.declared.compare.Compare.{Compare}
 use Rattle.tpol_base.specs.declared.digest.Digest32.{Digest32}
-use Rattle.tpol_base.specs.declared.name.Name.{Name}
 use Rattle.tpol_base.specs.declared.rc.Rc.{Rc}
 use Rattle.tpol_base.specs.CommandCode.{number_of_code}
 use Rattle.tpol_choose.specs.declared.block.Why.{Why}

@@ -1,6 +1,6 @@
 // What stands in the way of one path of a policy, by its position, without the path.
 
-ghost use Rattle.std.specs.Prelude.{◌≡◌, ◌-◌, ◌+◌, ◌<◌, ◌≤◌, All, IfSome, ℕ, length};
+ghost use Rattle.std.specs.Prelude.{◌≡◌, ◌-◌, ◌<◌, ◌≤◌, All, IfSome, ℕ, length};
 ghost use Rattle.std.specs.List.{slice_get};
 ghost use Rattle.tpm_rules.specs.Rule.{Breaks};
 ghost use Rattle.tpol_choose.specs.Blocks.{first_block};

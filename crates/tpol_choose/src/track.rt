@@ -1,7 +1,7 @@
 // How far a path was gone, and what stood in its way.
 
 ghost use Rattle.std.specs.Prelude.{◌≡◌, ◌≤◌, ◌^◌};
-ghost use Rattle.tpm_rules.specs.Rule.{Breaks, or_else};
+ghost use Rattle.tpm_rules.specs.Rule.{Breaks};
 ghost use Rattle.tpol_choose.specs.Acts.{move_of};
 ghost use Rattle.tpol_choose.specs.Lent.{client_of_lent};
 ghost use Rattle.tpol_name.specs.Setups.{IsSight};

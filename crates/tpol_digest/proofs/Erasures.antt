@@ -1,6 +1,5 @@
 -- What digests, paths, strings and well-formedness say of a policy, they say of it wherever its boxes lie.
-use Rattle.std.proofs.Common.{◌≡◌, ◌↔◌, ℕ, zero, suc, ◌+◌, ◌<◌, Bool, true, false, List, [], ◌∷◌, ◌++◌, map, length, get_or, Option, Some, None, refl, sym, ap, ◌∙◌, subst}
-use Rattle.std.specs.Prelude.{All}
+use Rattle.std.proofs.Common.{◌≡◌, ℕ, zero, suc, ◌+◌, Bool, true, false, List, [], ◌∷◌, ◌++◌, map, Option, Some, None, refl, sym, ap, ◌∙◌, subst}
 use Rattle.std.specs.List.{flat_map, AllByRecursion}
 use Rattle.std.proofs.lemmas.List.Elements.{All-from_recursion, recursion_from_All}
 use Rattle.tpol_base.specs.declared.digest.Digest32.{Digest32}
@@ -20,11 +19,11 @@ use Rattle.tpol_tree.specs.declared.path.PathStep.TheVariants.{Branch}
 use Rattle.tpol_tree.specs.Closed.{ApprovalsLead, ApprovalsLeadBranches, ApprovalsLeadElement, BranchesHaveBranchCounts, EachAssertion, EachAssertionOfBranches, EachAssertionOfElement, ElementHasBranchCounts, HasBranchCounts, IsBranchCount, branch_count}
 use Rattle.tpol_tree.specs.ClosedErased.{erased, erased_branches, erased_document, erased_element, erased_elements}
 use Rattle.tpol_digest.specs.Digest.{zero_digest, digest_at, digest_at_element, branch_digests, or_digest, policy_digest}
-use Rattle.tpol_digest.specs.Inputs.{inputs_at, inputs_at_element, inputs_at_branches, inputs_of_policy, strings_of}
+use Rattle.tpol_digest.specs.Inputs.{inputs_at, inputs_at_element, inputs_at_branches, strings_of}
 use Rattle.tpol_digest.specs.Laws.{DigestsIgnoreBoxes, InputsIgnoreBoxes, PathsIgnoreBoxes, WellFormedIgnoresBoxes}
 use Rattle.tpol_digest.specs.Paths.{approval_of, approved_paths, between, document_paths, outside_paths, paths_at, paths_at_branches, paths_at_element, paths_by_approval, paths_of, product}
 use Rattle.tpol_digest.specs.Update.{update_of_or}
-use Rattle.tpol_digest.specs.WellFormed.{HasPcrDigest, IsWellFormed, IsWellFormedDocument, IsWellFormedPolicy}
+use Rattle.tpol_digest.specs.WellFormed.{HasPcrDigest, IsWellFormedDocument, IsWellFormedPolicy}
 
 -- ---- digests
 

@@ -1,5 +1,5 @@
 -- What holds of each move of each path, where it holds of the elements.
-use Rattle.std.proofs.Common.{◌≡◌, ℕ, zero, suc, ◌+◌, ◌≤◌, List, [], ◌∷◌, ◌++◌, map, length, Option, Some, None, refl, sym, ap, ◌∙◌, subst, arith}
+use Rattle.std.proofs.Common.{◌≡◌, ℕ, zero, suc, ◌+◌, List, [], ◌∷◌, map, length, Option, Some, None, refl, arith}
 use Rattle.std.specs.Prelude.{⊤, All, IfSome}
 use Rattle.std.specs.List.{AllByRecursion}
 use Rattle.std.proofs.lemmas.List.Elements.{All-from_recursion, recursion_from_All}
@@ -24,7 +24,7 @@ use Rattle.tpol_tree.specs.Closed.{EachAssertion, EachAssertionOfElement, EachAs
 use Rattle.tpol_digest.specs.Digest.{zero_digest, digest_at_element, branch_digests}
 use Rattle.tpol_digest.specs.Laws.{MoveHasPcrDigest, PathsHavePcrDigests, MoveHasBounds, PathsHaveBounds}
 use Rattle.tpol_digest.specs.Paths.{followed_by, between, approval_of, paths_by_approval, approved_paths, outside_paths, paths_at, paths_at_element, paths_at_branches, document_paths, paths_of}
-use Rattle.tpol_digest.specs.WellFormed.{HasPcrDigest, HaveBranchCounts, IsWellFormed, IsWellFormedDocument}
+use Rattle.tpol_digest.specs.WellFormed.{HasPcrDigest, IsWellFormedDocument}
 use Rattle.tpol_digest.proofs.Meeting.{by_key_each, by_index_each}
 use Rattle.tpol_digest.proofs.Products.{Each-append, Each-map, Each-flat_map, Each-product}
 

@@ -1,5 +1,5 @@
 -- What a walk through a policy finds, part by part: for the walks that hold no list of paths.
-use Rattle.std.proofs.Common.{◌≡◌, ℕ, zero, suc, ◌+◌, ◌*◌, ◌<◌, Bool, true, false, List, [], ◌∷◌, ◌++◌, map, length, Option, Some, None, refl, sym, ap, ◌∙◌, append_assoc, length-append, arith}
+use Rattle.std.proofs.Common.{◌≡◌, ℕ, zero, suc, ◌+◌, ◌*◌, Bool, true, false, List, [], ◌∷◌, ◌++◌, map, length, Option, Some, None, refl, sym, ap, ◌∙◌, append_assoc, length-append, arith}
 use Rattle.std.specs.Prelude.{if◌then◌else◌}
 use Rattle.std.specs.List.{slice_get}
 use Rattle.std.specs.Option.{option_and_then}
@@ -8,10 +8,10 @@ use Rattle.std.proofs.lemmas.List.Concat.{flat_map-append}
 use Rattle.tpol_tree.specs.declared.path.Move.{Move}
 use Rattle.tpol_tree.specs.declared.path.Path.{Path}
 use Rattle.tpol_tree.specs.declared.path.PathStep.{PathStep}
-use Rattle.tpol_digest.specs.Paths.{empty_path, path_of_move, followed_by, product, between, outside_path}
+use Rattle.tpol_digest.specs.Paths.{path_of_move, followed_by, product, between}
 use Rattle.tpol_digest.specs.Positions.{path_of_step}
 use Rattle.tpol_digest.specs.Walks.{run_moves, ends_well, first_path, first_way}
-use Rattle.tpol_digest.proofs.Products.{same_path, product_assoc}
+use Rattle.tpol_digest.proofs.Products.{same_path}
 
 -- ---- moves in a row
 

@@ -1,6 +1,6 @@
 // How many paths a policy has and how long they are, without listing them.
 
-ghost use Rattle.std.specs.Prelude.{◌≤◌, All};
+ghost use Rattle.std.specs.Prelude.{All};
 ghost use Rattle.tpol_tree.specs.Closed.{HasBranchCounts, ElementHasBranchCounts, BranchesHaveBranchCounts};
 ghost use Rattle.tpol_digest.specs.Extent as spec;
 

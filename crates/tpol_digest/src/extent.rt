@@ -1,4 +1,4 @@
-ghost use Rattle.std.specs.Prelude.{◌≡◌, ◌+◌, ◌*◌, ◌≤◌, min, max};
+ghost use Rattle.std.specs.Prelude.{◌≡◌, ◌+◌, ◌*◌, min, max};
 
 /// How many paths there are, and how many moves the longest has, each counted no further than one past
 /// its limit.

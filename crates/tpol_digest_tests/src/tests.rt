@@ -1,7 +1,8 @@
-//! Digests that a TPM 2.0 and a FAPI gave for the same policies, and lists of paths.
+//! Digests that a TPM 2.0 and a FAPI gave for the same policies, and lists of paths. `docs/check` compares more such
+//! digests, those of `examples/measured.tsv`, as the built program prints them.
 
-ghost use Rattle.std.specs.Prelude.{◌≡◌, ◌≤◌, IfOk};
-ghost use Rattle.tpol_tree.specs.Closed.{HasBranchCounts, ElementHasBranchCounts};
+ghost use Rattle.std.specs.Prelude.{◌≡◌, ◌+◌, IfOk};
+ghost use Rattle.tpol_tree.specs.Closed.{BranchesHaveBranchCounts, ElementHasBranchCounts, HasBranchCounts, branch_count};
 
 use std::alloc::Global;
 use tpol_base::{Blob, Compare, Digest32, Digests, Name, NoMemory, Text};
@@ -12,7 +13,7 @@ use tpol_digest::{
 use tpol_hash::{Inputs, hash};
 use tpol_tree::{
     Approvals, Assertion, Closed, ClosedBranch, ClosedBranches, ClosedElement, ClosedElements,
-    Fact, Facts, Move,
+    Fact, Facts, Move, Path,
 };
 
 const OWNER: Name = Name::Handle(0x4000_0001);
@@ -22,10 +23,6 @@ const ENDORSEMENT: Name = Name::Handle(0x4000_000b);
 // The digests of policies that a TPM 2.0 gave, named after their assertions.
 const AUTH_VALUE: &[u8; 32] = b"\x8f\xcd\x21\x69\xab\x92\x69\x4e\x0c\x63\x3f\x1a\xb7\x72\x84\x2b\
               \x82\x41\xbb\xc2\x02\x88\x98\x1f\xc7\xac\x1e\xdd\xc1\xfd\xdb\x0e";
-
-const SECRET_ENDORSEMENT: &[u8; 32] =
-    b"\x83\x71\x97\x67\x44\x84\xb3\xf8\x1a\x90\xcc\x8d\x46\xa5\xd7\x24\
-              \xfd\x52\xd7\x6e\x06\x52\x0b\x64\xf2\xa1\xda\x1b\x33\x14\x69\xaa";
 
 const SECRET_OWNER: &[u8; 32] = b"\x0d\x84\xf5\x5d\xaf\x6e\x43\xac\x97\x96\x6e\x62\xc9\xbb\x98\x9d\
               \x33\x97\x77\x7d\x25\xc5\xf7\x49\x86\x80\x55\xd6\x53\x94\xf9\x52";
@@ -37,17 +34,11 @@ const CODE_DUPLICATE: &[u8; 32] =
     b"\xbe\xf5\x6b\x8c\x1c\xc8\x4e\x11\xed\xd7\x17\x52\x8d\x2c\xd9\x93\
               \x56\xbd\x2b\xbf\x8f\x01\x52\x09\xc3\xf8\x4a\xee\xab\xa8\xe8\xa2";
 
-const CODE_NV_WRITE: &[u8; 32] = b"\x1c\x4f\x71\x07\xdc\xaf\x23\xce\x00\x75\x64\x48\x50\x85\x58\x68\
-              \x31\x04\xbd\x9e\x20\x3e\x93\x74\x9c\x22\x7b\x45\x12\x70\x43\x8f";
-
 const COUNTER_TIMER: &[u8; 32] = b"\x20\xda\xd6\x45\x5a\x6b\xa8\x86\xdc\x79\x38\xf1\x0b\x9b\xde\x80\
               \x1d\x59\xe0\x8f\x80\x13\xf4\xff\x5a\x23\x5f\x2b\x80\xb5\x2d\x11";
 
 const CP_HASH: &[u8; 32] = b"\xce\x72\x83\x3f\xb0\x7c\xb3\x30\x16\x36\xcd\xa2\xca\x02\xf2\xc6\
               \x21\x7b\xf5\xda\xe7\xc5\xa3\xce\xda\x86\xa5\x88\xfa\xea\x5c\xb1";
-
-const LOCALITY_0: &[u8; 32] = b"\xdd\xee\x6a\xf1\x4b\xf3\xc4\xe8\x12\x7c\xed\x87\xbc\xf9\xa5\x7e\
-              \x1c\x0c\x8d\xdb\x5e\x67\x73\x5c\x85\x05\xf9\x6f\x07\xb8\xdb\xb8";
 
 const LOCALITY_0_3: &[u8; 32] = b"\x12\x60\x9c\x6a\x0e\x15\x86\x70\x02\x70\x07\x9a\x09\xbe\x09\xdf\
               \xd3\x76\xaf\x86\xcc\x4c\x59\x02\x33\xa5\x5d\xc0\x27\x5d\x87\x4e";
@@ -55,26 +46,17 @@ const LOCALITY_0_3: &[u8; 32] = b"\x12\x60\x9c\x6a\x0e\x15\x86\x70\x02\x70\x07\x
 const NV: &[u8; 32] = b"\xbf\x3b\x68\x99\xa0\x4b\x37\x17\x3e\x68\xb0\x74\x52\x01\x33\x81\
               \xbc\x01\x68\x52\x31\x81\xd5\xf9\xfc\xd2\xf4\x4a\xc2\x2b\xa7\xdd";
 
-const NV_WRITTEN: &[u8; 32] = b"\xf7\x88\x7d\x15\x8a\xe8\xd3\x8b\xe0\xac\x53\x19\xf3\x7a\x9e\x07\
-              \x61\x8b\xf5\x48\x85\x45\x3c\x7a\x54\xdd\xb0\xc6\xa6\x19\x3b\xeb";
-
 const PCR_0: &[u8; 32] = b"\xab\x36\x7c\x16\x98\xdb\xea\x75\x97\xab\x1f\x55\xea\x60\xcc\xc6\
               \x04\xad\xd2\xe0\x6a\x40\x83\x9a\x02\x9b\x9d\x51\x85\x56\x99\xa6";
 
 const PCR_8: &[u8; 32] = b"\x2a\x90\xac\x03\x19\x65\x73\xf1\x29\xe7\x0a\x9e\x04\x48\x5b\xff\
               \x58\x1d\x28\x90\xfe\x58\x82\xd3\xc2\x66\x72\x90\xd8\x4b\x49\x7b";
 
-const NINE: &[u8; 32] = b"\x0a\x00\x3a\x97\x37\x74\x3b\x09\xaa\xeb\xd3\x0f\x10\x6f\xf7\x00\
-              \x74\xc6\x07\x07\xd2\x44\x92\xa9\x25\x29\x25\x4a\x05\x2e\xde\x74";
-
 const OR_OF_INDEX: &[u8; 32] = b"\xca\x3d\x0a\x99\xa2\xb9\x39\x06\xf7\xa3\x34\x24\x14\xef\xcf\xb3\
               \xa3\x85\xd4\x4c\xd1\xfd\x45\x90\x89\xd1\x9b\x50\x71\xc0\xb7\xa0";
 
 const OR_BEHIND: &[u8; 32] = b"\xad\x58\xf8\x86\xe7\x95\x09\x10\xe3\x4b\x95\x24\x93\xd1\xc9\xee\
               \x06\x39\xe4\xaa\x31\xc0\xc2\x01\x36\x0a\x41\xbc\xd3\x80\xeb\x96";
-
-const AUTHORIZE: &[u8; 32] = b"\x34\x05\x2b\xda\xc7\x36\x4d\xd4\xed\xdf\xc2\x83\xdd\xdb\xb4\x75\
-              \xf2\x7f\x4e\x20\x13\x19\x86\x81\x5e\x05\xe7\x1a\x7d\x7f\xe1\x54";
 
 const TWO_STAGES: &[u8; 32] = b"\x99\xc5\x4c\xba\xa2\xe2\x6a\x73\x3c\x27\x93\x05\x58\x87\xea\xb0\
               \xeb\xb5\x75\xf9\x84\xab\x79\x7a\x94\xc4\x3e\x10\x38\xb1\xfc\x78";
@@ -145,11 +127,8 @@ fn gives(assertion: Assertion, digest: &[u8; 32]) -> bool {
 
 #[test]
 fn assertions_of_plain_values(rt: HostRuntime) {
-    assert!(rt; gives(Assertion::AuthValue, AUTH_VALUE));
     assert!(rt; gives(Assertion::Password, AUTH_VALUE));
     assert!(rt; gives(Assertion::CommandCode(0x14b), CODE_DUPLICATE));
-    assert!(rt; gives(Assertion::CommandCode(0x137), CODE_NV_WRITE));
-    assert!(rt; gives(Assertion::Locality(0x01), LOCALITY_0));
     assert!(rt; gives(Assertion::Locality(0x09), LOCALITY_0_3));
     assert!(rt; gives(Assertion::CpHash(Digest32 { bytes: [0xab; 32] }), CP_HASH));
     assert!(rt;
@@ -158,7 +137,6 @@ fn assertions_of_plain_values(rt: HostRuntime) {
             NAME_HASH
         )
     );
-    assert!(rt; gives(Assertion::NvWritten(true), NV_WRITTEN));
     assert!(rt; gives(Assertion::NvWritten(false), NV_NOT_WRITTEN));
 }
 
@@ -171,7 +149,6 @@ fn secret_gives(alloc: Global, entity: Name, policy_ref: &[u8], digest: &[u8; 32
 
 #[test]
 fn assertions_of_secrets(rt: HostRuntime) {
-    assert!(rt; secret_gives(rt.alloc(), ENDORSEMENT, &[], SECRET_ENDORSEMENT));
     assert!(rt; secret_gives(rt.alloc(), OWNER, &[], SECRET_OWNER));
     assert!(rt; secret_gives(rt.alloc(), ENDORSEMENT, &[0x5a; 64], SECRET_REF));
 }
@@ -225,11 +202,6 @@ fn has_digest(policy: &Closed, digest: &[u8; 32]) -> bool {
     digest_of(policy).bytes == *digest
 }
 
-// Whether a policy of these elements has this digest.
-fn digest_is(elements: ClosedElements, digest: &[u8; 32]) -> bool {
-    has_digest(&Closed { elements }, digest)
-}
-
 fn before(
     alloc: Global,
     element: ClosedElement,
@@ -250,14 +222,20 @@ fn assert_before(
     before(alloc, ClosedElement::Assert(assertion), rest)
 }
 
-// A branch; its name is part of no digest.
-fn branch(alloc: Global, elements: ClosedElements) -> ClosedBranch
-    ensures { result.policy.elements ≡ elements }
+// A branch of these elements before others; its name is part of no digest.
+fn branch_before(
+    alloc: Global,
+    elements: ClosedElements,
+    rest: ClosedBranches,
+) -> Result<ClosedBranches, NoMemory>
+    ensures counts { IfOk result (λ all. HasBranchCounts elements → BranchesHaveBranchCounts rest → BranchesHaveBranchCounts all) }
+    ensures count { IfOk result (λ all. branch_count all ≡ branch_count rest + 1) }
 {
-    ClosedBranch {
+    let branch = ClosedBranch {
         name: Text::new(alloc),
         policy: Closed { elements },
-    }
+    };
+    Ok(ClosedBranches::More(Box::new(alloc, branch)?, Box::new(alloc, rest)?))
 }
 
 // An OR of two branches.
@@ -268,64 +246,8 @@ fn either(
 ) -> Result<ClosedElement, NoMemory>
     ensures { IfOk result (λ element. HasBranchCounts first → HasBranchCounts second → ElementHasBranchCounts element) }
 {
-    let first = branch(alloc, first);
-    let second = branch(alloc, second);
-    let last = ClosedBranches::More(
-        Box::new(alloc, second)?,
-        Box::new(alloc, ClosedBranches::End)?,
-    );
-    let branches = ClosedBranches::More(Box::new(alloc, first)?, Box::new(alloc, last)?);
-    Ok(ClosedElement::Or(branches))
-}
-
-// The assertions of a policy of nine, from its last to its first.
-fn assertion_from_last(alloc: Global, number: u8) -> Result<Assertion, NoMemory> {
-    match number {
-        0 => Ok(Assertion::AuthValue),
-        1 => Ok(Assertion::PhysicalPresence),
-        2 => Ok(Assertion::CommandCode(0x15e)),
-        3 => Ok(Assertion::NvWritten(true)),
-        4 => Ok(Assertion::CpHash(Digest32 { bytes: [0x11; 32] })),
-        5 => secret(alloc, ENDORSEMENT, &[]),
-        6 => timer(alloc, &[0], 0),
-        7 => Ok(pcr(alloc, 0x100, &[0; 32])),
-        _ => Ok(Assertion::Locality(31)),
-    }
-}
-
-fn numbered_before(
-    alloc: Global,
-    number: u8,
-    rest: ClosedElements,
-) -> Result<ClosedElements, NoMemory> {
-    let assertion = assertion_from_last(alloc, number)?;
-    assert_before(alloc, assertion, rest)
-}
-
-fn nine(alloc: Global) -> Result<ClosedElements, NoMemory> {
-    let mut elements = ClosedElements::End;
-    for number in 0..9 {
-        elements = numbered_before(alloc, number, elements)?;
-    }
-    Ok(elements)
-}
-
-#[test]
-fn nine_assertions(rt: HostRuntime) -> Result<(), NoMemory> {
-    assert!(rt; digest_is(nine(rt.alloc())?, NINE));
-    Ok(())
-}
-
-#[test]
-fn a_key_approves(rt: HostRuntime) -> Result<(), NoMemory> {
-    let alloc = rt.alloc();
-    let unseal = assert_before(alloc, Assertion::CommandCode(0x15e), ClosedElements::End)?;
-    let authorize = ClosedElement::Authorize {
-        key: Name::Hash(Digest32 { bytes: *KEY }),
-        policy_ref: Blob::new(alloc),
-    };
-    assert!(rt; digest_is(before(alloc, authorize, unseal)?, AUTHORIZE));
-    Ok(())
+    let last = branch_before(alloc, second, ClosedBranches::End)?;
+    Ok(ClosedElement::Or(branch_before(alloc, first, last)?))
 }
 
 fn value_or_locality(alloc: Global) -> Result<ClosedElement, NoMemory>
@@ -345,19 +267,19 @@ fn or_behind_code(alloc: Global) -> Result<Closed, NoMemory>
     })
 }
 
-// The number of ways through a policy where no document approves any.
-fn count_ways(alloc: Global, policy: &Closed) -> Result<u32, PathLimit>
+// The number of ways through a policy where no document approves any, and what walking them is answered.
+fn ways_of(alloc: Global, policy: &Closed) -> (u64, Result<u32, PathLimit>)
     requires { HasBranchCounts policy.now.elements }
 {
     let none = Approvals::new(alloc);
-    check_paths(policy, &none)
+    (count_paths(policy, &none), check_paths(policy, &none))
 }
 
 // The branches of an OR start from the digest before it.
 #[test]
 fn branches_start_behind(rt: HostRuntime) -> Result<(), NoMemory> {
     let policy = or_behind_code(rt.alloc())?;
-    assert!(rt; has_digest(&policy, OR_BEHIND) && count_ways(rt.alloc(), &policy) == Ok(2));
+    assert!(rt; has_digest(&policy, OR_BEHIND) && ways_of(rt.alloc(), &policy) == (2, Ok(2)));
     Ok(())
 }
 
@@ -375,25 +297,22 @@ fn secret_or_index(alloc: Global) -> Result<Closed, NoMemory>
     })
 }
 
-// Whether one of the two ways through a policy is an outside path; `None` where there are not two.
-fn is_outside(alloc: Global, policy: &Closed, position: u32) -> Result<Option<bool>, NoMemory>
-    requires branches { HasBranchCounts policy.now.elements }
-    requires from_one { 1 ≤ position }
-    requires to_two { position ≤ 2 }
-{
-    let none = Approvals::new(alloc);
-    let Ok(2) = check_paths(policy, &none) else {
-        return Ok(None);
-    };
-    let path = path_at(alloc, policy, &none, position)?;
-    Ok(Some(path.outside))
+fn is_outside(path: Result<Path, NoMemory>) -> bool {
+    match path {
+        Ok(path) => path.outside,
+        Err(_) => false,
+    }
 }
 
+// Whether a policy has two ways where no document approves any, and the last is an outside path.
 fn has_last_outside(alloc: Global, policy: &Closed) -> bool
     requires { HasBranchCounts policy.now.elements }
 {
-    is_outside(alloc, policy, 1) == Ok(Some(false))
-        && is_outside(alloc, policy, 2) == Ok(Some(true))
+    let none = Approvals::new(alloc);
+    match check_paths(policy, &none) {
+        Ok(2) => is_outside(path_at(alloc, policy, &none, 2)),
+        _ => false,
+    }
 }
 
 // An AUTHORIZENV that no document meets has its outside path alone.
@@ -414,24 +333,18 @@ fn ors(alloc: Global, count: u8) -> Result<ClosedElements, NoMemory>
     Ok(elements)
 }
 
-// The number of ways through so many ORs of two branches, and what walking them is answered.
+// The same of so many ORs of two branches.
 fn ways_of_ors(alloc: Global, count: u8) -> Result<(u64, Result<u32, PathLimit>), NoMemory> {
     let policy = Closed {
         elements: ors(alloc, count)?,
     };
-    let none = Approvals::new(alloc);
-    Ok((count_paths(&policy, &none), check_paths(&policy, &none)))
+    Ok(ways_of(alloc, &policy))
 }
 
 #[test]
-fn limits(rt: HostRuntime) -> Result<(), NoMemory> {
-    let (ways, answer) = ways_of_ors(rt.alloc(), 16)?;
-    assert!(rt; ways == 65_536);
-    assert!(rt; answer == Ok(65_536));
-    let (ways, answer) = ways_of_ors(rt.alloc(), 17)?;
-    assert!(rt; ways == 65_537);
-    assert!(rt; answer == Err(PathLimit::TooManyPaths));
-    Ok(())
+fn limits(rt: HostRuntime) {
+    assert!(rt; ways_of_ors(rt.alloc(), 16) == Ok((65_536, Ok(65_536))));
+    assert!(rt; ways_of_ors(rt.alloc(), 17) == Ok((65_537, Err(PathLimit::TooManyPaths))));
 }
 
 const POLICY_REF: [u8; 8] = [0x00, 0x00, 0x01, 0x6c, 0x00, 0x00, 0x01, 0x5e];
@@ -539,18 +452,20 @@ fn hash_three_inputs(alloc: Global, facts: &Facts) -> bool {
     }
 }
 
+fn has_two_stages(alloc: Global, facts: &Facts) -> bool {
+    run_facts(facts).bytes == *TWO_STAGES && hash_three_inputs(alloc, facts)
+}
+
+// A session that begins anew has no facts.
+fn has_no_digest_anew(facts: &mut Facts) -> bool {
+    facts.clear();
+    run_facts(facts) == Digest32::ZERO
+}
+
 // A PolicySecret and then a PolicyOR hash three strings.
 #[test]
 fn inputs_of_a_session(rt: HostRuntime) -> Result<(), NoMemory> {
-    let facts = two_facts(rt.alloc())?;
-    assert!(rt; run_facts(&facts).bytes == *TWO_STAGES && hash_three_inputs(rt.alloc(), &facts));
-    Ok(())
-}
-
-#[test]
-fn a_session_without_facts(rt: HostRuntime) -> Result<(), NoMemory> {
     let mut facts = two_facts(rt.alloc())?;
-    facts.clear();
-    assert!(rt; run_facts(&facts) == Digest32::ZERO);
+    assert!(rt; has_two_stages(rt.alloc(), &facts) && has_no_digest_anew(&mut facts));
     Ok(())
 }

@@ -6,7 +6,7 @@ use Rattle.tpol_base.specs.declared.command_code.CommandCode.TheVariants as code
 use Rattle.tpol_driver.specs.Answers.{answer_of, answer_of_reply}
 use Rattle.tpol_driver.specs.Causes.{HasWrongArea, IsBytes}
 use Rattle.tpol_driver.specs.Commands.{command_of_move}
-use Rattle.tpol_driver.specs.Driving.{Standing, Over, goal_done, goal_heard, is_verification, move_heard, stage_of_move, start_heard, verified}
+use Rattle.tpol_driver.specs.Driving.{Over, goal_heard, is_verification, move_heard, stage_of_move, start_heard, verified}
 use Rattle.tpol_driver.specs.GoalUse.{bytes_of_reply, is_right_area}
 use Rattle.tpol_driver.specs.declared.answer.Answer.{Answer}
 use Rattle.tpol_driver.specs.declared.answer.Answer.TheVariants.{Done, Denied, Malformed}

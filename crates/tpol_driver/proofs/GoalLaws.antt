@@ -1,11 +1,11 @@
 -- A session that has all moves of its path hears the reply to the goal's command.
-use Rattle.std.proofs.Common.{◌≡◌, ℕ, ◌∙◌, ap, List, length, Option, Some, None, refl, slice_get, le_refl}
+use Rattle.std.proofs.Common.{◌≡◌, ℕ, ◌∙◌, ap, List, length, Option, None, refl, le_refl}
 use Rattle.std.proofs.lemmas.Option.{slice_get_past}
 use Rattle.tpol_base.specs.CommandCode.{number_of_code}
 use Rattle.tpol_base.specs.declared.command_code.CommandCode.{CommandCode}
 use Rattle.tpol_driver.specs.Answers.{answer_of}
 use Rattle.tpol_driver.specs.Driving.{Standing, Moving, after_goal, goal_heard, heard_on_path, hears, next_command}
-use Rattle.tpol_driver.specs.GoalUse.{command_of_goal, goal_command}
+use Rattle.tpol_driver.specs.GoalUse.{command_of_goal}
 use Rattle.tpol_driver.specs.declared.plan.Plan.{Plan}
 use Rattle.tpol_driver.specs.declared.session.Session.{Session}
 use Rattle.tpol_goal.specs.declared.goal.Goal.{Goal}

@@ -1,6 +1,5 @@
 -- What a reply says of the command that was sent.
 use Rattle.std.specs.Prelude.{Option, Some, None}
-use Rattle.tpol_base.specs.declared.rc.Rc.{Rc}
 use Rattle.tpol_wire.specs.declared.auth_area.ReplyAuth.{ReplyAuth}
 use Rattle.tpol_wire.specs.declared.reply.Reply.{Reply}
 use Rattle.tpol_wire.specs.declared.reply.Reply.TheVariants as replies

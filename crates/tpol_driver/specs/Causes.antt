@@ -1,5 +1,5 @@
 -- What a reply that was read has to be, by the command that it answers.
-use Rattle.std.specs.Prelude.{◌≡◌, ◌<◌, ◌⊎◌, ℕ, Bool, true, false, List, get_or, Option, Some, None}
+use Rattle.std.specs.Prelude.{◌≡◌, ◌<◌, ℕ, false, List, get_or, Option, Some}
 use Rattle.tpol_driver.specs.declared.plan.Plan.{Plan}
 use Rattle.tpol_driver.specs.GoalUse.{is_right_area}
 use Rattle.tpol_wire.specs.declared.auth_area.ReplyAuth.{ReplyAuth}

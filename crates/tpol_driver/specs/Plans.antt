@@ -1,5 +1,5 @@
 -- Plans whose commands can all be made.
-use Rattle.std.specs.Prelude.{ℕ, Bool, true, false, not, ◌&&◌, List, Option, Some, None, is_some}
+use Rattle.std.specs.Prelude.{Bool, true, false, not, ◌&&◌, List, Option, Some, None, is_some}
 use Rattle.std.specs.List.{list_all}
 use Rattle.tpol_goal.specs.declared.grants.Grants.{Grants}
 use Rattle.tpol_goal.specs.Entities.{entity_of_name, index_of_name, object_of_name}

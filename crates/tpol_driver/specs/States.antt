@@ -3,7 +3,7 @@ use Rattle.std.specs.Prelude.{◌≡◌, ℕ, Bool, true, false, List}
 use Rattle.tpol_driver.specs.declared.next.Next.{Next}
 use Rattle.tpol_driver.specs.declared.next.Next.TheVariants as states
 use Rattle.tpol_driver.specs.declared.plan.Plan.{Plan}
-use Rattle.tpol_driver.specs.Driving.{Driving, Drive, Sends, Ends, Standing, Starting, Moving, Closing, Over}
+use Rattle.tpol_driver.specs.Driving.{Drive, Sends, Ends, Standing, Over}
 use Rattle.tpol_wire.specs.Commands.{spelling}
 
 -- the bytes spell the command that is sent; at the end there are none

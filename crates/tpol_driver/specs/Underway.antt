@@ -2,7 +2,7 @@
 use Rattle.std.specs.Prelude.{◌≡◌, ◌<◌, ◌≤◌, ℕ, ◌+◌, ◌*◌, length, Option, Some, None}
 use Rattle.tpol_driver.specs.declared.plan.Plan.{Plan}
 use Rattle.tpol_driver.specs.declared.step.Heard.{Heard}
-use Rattle.tpol_driver.specs.declared.step.Heard.TheVariants.{Verified, Accepted, Failed}
+use Rattle.tpol_driver.specs.declared.step.Heard.TheVariants.{Verified}
 use Rattle.tpol_fields.specs.declared.ticket.Ticket.{Ticket}
 
 -- how many commands of the move were sent, and the start

@@ -595,20 +595,24 @@ fn begun(alloc: Global, run: &Run, step: &Step) -> Option<Next> {
     }
 }
 
+/// The step of a run at this place with another reply.
+fn answered_by(run: &Run, place: usize, reply: &'static [u8]) -> Option<Step> {
+    let step = run.steps.get(place)?;
+    Some(Step {
+        command: step.command,
+        reply,
+    })
+}
+
 /// The step of a run at this place, behind the steps before the one that is to fail.
 fn failing_step(run: &Run, failing: &Failing, place: usize) -> Option<Step> {
-    if place == failing.place {
-        Some(Step {
-            command: run.steps.get(place)?.command,
-            reply: failing.reply,
-        })
-    } else if failing.place > 0 && place == failing.place.saturating_add(1) {
-        Some(Step {
+    match place.checked_sub(failing.place) {
+        Some(0) => answered_by(run, place, failing.reply),
+        Some(1) if failing.place > 0 => Some(Step {
             command: run.flush,
             reply: b"",
-        })
-    } else {
-        None
+        }),
+        _ => None,
     }
 }
 
@@ -621,14 +625,25 @@ fn step_at(run: &Run, failing: Option<&Failing>, place: usize) -> Option<Step> {
     }
 }
 
+/// The state behind one more step, where there is one at this place.
+fn turn_at(
+    alloc: Global,
+    state: Next,
+    run: &Run,
+    failing: Option<&Failing>,
+    place: usize,
+) -> Option<Next> {
+    match step_at(run, failing, place) {
+        Some(step) => turn(alloc, state, &step),
+        None => Some(state),
+    }
+}
+
 /// The state of a run behind its steps.
 fn state_after(alloc: Global, run: &Run, failing: Option<&Failing>) -> Option<Next> {
     let mut state = begun(alloc, run, &step_at(run, failing, 0)?)?;
     for place in 1..=run.steps.len() {
-        match step_at(run, failing, place) {
-            Some(step) => state = turn(alloc, state, &step)?,
-            None => return Some(state),
-        }
+        state = turn_at(alloc, state, run, failing, place)?;
     }
     Some(state)
 }

@@ -1,6 +1,5 @@
 //! Public areas of keys and of indices.
 
-ghost use Rattle.std.specs.Prelude.{◌≡◌};
 ghost use Rattle.serde_json.specs.View.{view};
 ghost use Rattle.tpol_elements.specs.Faults.{Gives};
 ghost use Rattle.tpol_elements.specs.Publics.{key_type_member, name_hash_member, attributes_member, auth_policy_member, scheme_member, unique_member, nv_index_member, data_size_member, object_public, index_public, object_public_in, index_public_in, through};

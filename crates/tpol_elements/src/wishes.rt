@@ -1,6 +1,6 @@
 //! Keys, indices, entities, parents and Names as they are asked for.
 
-ghost use Rattle.std.specs.Prelude.{[], codes};
+ghost use Rattle.std.specs.Prelude.{[]};
 ghost use Rattle.serde_json.specs.View.{view, items_view};
 ghost use Rattle.tpol_elements.specs.Faults.{Gives, cause};
 ghost use Rattle.tpol_base.specs.Answers as answers;

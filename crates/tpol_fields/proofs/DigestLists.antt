@@ -2,10 +2,7 @@
 use Rattle.std.proofs.Common.{◌≡◌, ℕ, suc, ◌-◌, ◌+◌, ◌≤◌, ◌<◌, List, [], ◌∷◌, ◌++◌, Result, Ok, Err, refl, sym, ap, ◌∙◌, append_assoc, arith}
 use Rattle.std.proofs.lemmas.List.{append-nil}
 use Rattle.tpol_base.specs.declared.digest.Digest32.{Digest32}
-use Rattle.tpol_fields.specs.declared.fault.WireFault.{WireFault}
-use Rattle.tpol_fields.specs.declared.fault.WireFault.TheVariants.{Refused, NoMemory}
 use Rattle.tpol_base.specs.Answers.{◌>>=◌}
-use Rattle.tpol_fields.specs.Answers.{Fails}
 use Rattle.tpol_fields.specs.Kinds.{listed_digest, digests_at}
 
 -- what was read before, and what is still read
@@ -24,13 +21,12 @@ goes_on position front count i bytes d after total lt h so_far =
     let one : with_front front (digests_at position (count - i) bytes) ≡ with_front (front ++ d ∷ []) (digests_at position (count - (i + 1)) after) = rw (k, h) (regroup front d (digests_at position (count - (i + 1)) after)) in
     sym one ∙ so_far
 
-pub stops : (e : WireFault) (position : ℕ) (front : List Digest32) (count i : ℕ) (bytes : List ℕ) (total : Result (List Digest32 × List ℕ) ℕ) → i < count → Fails e (listed_digest position bytes)
-    → with_front front (digests_at position (count - i) bytes) ≡ total → Fails e total
+pub stops : (code position : ℕ) (front : List Digest32) (count i : ℕ) (bytes : List ℕ) (total : Result (List Digest32 × List ℕ) ℕ) → i < count → listed_digest position bytes ≡ Err code
+    → with_front front (digests_at position (count - i) bytes) ≡ total → total ≡ Err code
 unfolding digests_at
-stops NoMemory position front count i bytes total lt h so_far = tt
-stops (Refused rc) position front count i bytes total lt h so_far =
+stops code position front count i bytes total lt h so_far =
     let k : count - i ≡ suc (count - (i + 1)) = omega arith in
-    let one : with_front front (digests_at position (count - i) bytes) ≡ Err rc.code = rw (k, h) refl in
+    let one : with_front front (digests_at position (count - i) bytes) ≡ Err code = rw (k, h) refl in
     sym so_far ∙ one
 
 pub is_done : (position : ℕ) (front : List Digest32) (count i : ℕ) (bytes : List ℕ) (total : Result (List Digest32 × List ℕ) ℕ) → count ≤ i → with_front front (digests_at position (count - i) bytes) ≡ total → total ≡ Ok (front, bytes)

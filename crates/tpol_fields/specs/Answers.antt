@@ -2,6 +2,7 @@
 use Rattle.std.specs.Prelude.{◌≡◌, ℕ, List, Option, Some, None, Result, Ok, Err}
 use Rattle.std.specs.Borrow.{Bor}
 use Rattle.tpol_base.specs.Answers.{◌>>=◌, FailsWith, Gives as GivesBy}
+use Rattle.tpol_base.specs.declared.rc.Rc.{Rc}
 use Rattle.tpol_fields.specs.declared.fault.WireFault.{WireFault}
 use Rattle.tpol_fields.specs.declared.fault.WireFault.TheVariants.{Refused, NoMemory}
 
@@ -31,6 +32,10 @@ abbrev pub ReadsBefore : {X A B : Type 0} → (X → B → A) → (List ℕ → 
 ReadsBefore join last (Ok x) reading left = reading ≡ (last left >>= λ y. Ok (join x y.0, y.1))
 ReadsBefore join last (Err fault) reading left = Fails fault reading
 
+-- The same of a call that takes no memory: what is read, or the code that refuses it, and nothing else.
+abbrev pub ReadsInPlace : {A : Type 0} → Result A Rc → Result (A × List ℕ) ℕ → List ℕ → Type 0
+ReadsInPlace result reading left = GivesBy (λ x. (x, left)) (λ rc. Some rc.code) result reading
+
 -- The same of a call that lends the bytes that it takes.
-abbrev pub ReadsSlice : Result (Bor (List ℕ)) WireFault → Result (List ℕ × List ℕ) ℕ → List ℕ → Type 0
-ReadsSlice result reading left = GivesBy (λ x. (x.now, left)) code_of_fault result reading
+abbrev pub LendsInPlace : Result (Bor (List ℕ)) Rc → Result (List ℕ × List ℕ) ℕ → List ℕ → Type 0
+LendsInPlace result reading left = GivesBy (λ x. (x.now, left)) (λ rc. Some rc.code) result reading

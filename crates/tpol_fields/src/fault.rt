@@ -1,5 +1,5 @@
 ghost use Rattle.std.specs.Prelude.{◌≡◌};
-ghost use Rattle.tpol_fields.specs.declared.fault.WireFault.TheVariants.{NoMemory as WireNoMemory};
+ghost use Rattle.tpol_fields.specs.declared.fault.WireFault.TheVariants.{NoMemory as WireNoMemory, Refused as WireRefused};
 
 use std::alloc::{AllocError, AllocFailed};
 use tpol_base::{NoMemory, Rc};
@@ -11,6 +11,14 @@ pub enum WireFault {
     Refused(Rc),
     /// Memory ran out.
     NoMemory,
+}
+
+impl From<Rc> for WireFault {
+    ghost from_gives = { λ rc e. e ≡ WireRefused rc };
+
+    fn from(rc: Rc) -> WireFault {
+        WireFault::Refused(rc)
+    }
 }
 
 impl From<NoMemory> for WireFault {

@@ -2,11 +2,11 @@
 //! field and its position (TPM 2.0 Part 2, "Response Code Formats").
 #![tactic(auto, unfolding(crate::specs::Kinds::read, crate::specs::Kinds::sized_at, crate::specs::Kinds::listed_digest, crate::specs::Kinds::ticket_at, crate::specs::Kinds::timeout_at))]
 
-ghost use Rattle.std.specs.Prelude.{◌≡◌, ◌≤◌, ◌+◌, ◌*◌, ◌<◌, ◌==◌, ◌^◌, nat_le, nat_eq, length, ℕ, Bool, IfOk};
+ghost use Rattle.std.specs.Prelude.{◌≡◌, ◌+◌, ◌*◌, ◌<◌, ◌==◌, nat_le, length, IfOk};
 ghost use Rattle.std.specs.Int.{w8, w16, w32, w64};
-ghost use Rattle.tpol_base.specs.ResponseCode.{of_handle, of_parameter, rc_value};
-ghost use Rattle.tpol_fields.specs.Answers.{Reads, ReadsSlice};
-ghost use Rattle.tpol_fields.specs.Kinds.{read, number_at, bytes_at, sized_at, digests_at, ticket_at, timeout_at, goes_with, is_any_length, is_digest_length, is_optional_length, Signed, Truth, Operation, Digest, Sized, Optional, Named, Ticketed, TimedTicket, Digests, Mask, listed_digest};
+ghost use Rattle.tpol_base.specs.ResponseCode.{of_handle, of_parameter};
+ghost use Rattle.tpol_fields.specs.Answers.{LendsInPlace, Reads, ReadsInPlace};
+ghost use Rattle.tpol_fields.specs.Kinds.{read, number_at, bytes_at, sized_at, digests_at, ticket_at, timeout_at, goes_with, is_any_length, Signed, Truth, Operation, Digest, Sized, Optional, Named, Ticketed, TimedTicket, Digests, Mask, listed_digest};
 ghost use Rattle.tpol_fields.specs.FieldKinds.{handle as handle_type, byte as byte_kind, short as short_kind, long as long_kind, read_size as size_kind, hash as hash_kind, fixed as fixed_kind, fixed_byte as fixed_byte_kind, sized_digest as sized_digest_kind, empty as empty_kind, timeout as timeout_kind, context as context_kind, one_digest as one_digest_kind, selection as selection_kind, signature as signature_kind};
 
 use crate::fault::WireFault;
@@ -25,18 +25,30 @@ pub fn refused(code: u32) -> WireFault
     WireFault::Refused(Rc { code })
 }
 
-/// A refusal of parameter `n`.
-fn refused_parameter(n: u8, code: u32) -> WireFault
+/// The refusal of handle `n`.
+fn refused_handle(n: u8, code: u32) -> Rc
     requires { code < 0x100 }
-    ensures { result ≡ WireFault.Refused (record { code = code + of_parameter n }) }
+    ensures { result.code ≡ code + of_handle n }
 {
-    refused(code + response_code::of_parameter(n))
+    Rc {
+        code: code + response_code::of_handle(n),
+    }
+}
+
+/// The refusal of parameter `n`.
+fn refused_parameter(n: u8, code: u32) -> Rc
+    requires { code < 0x100 }
+    ensures { result.code ≡ code + of_parameter n }
+{
+    Rc {
+        code: code + response_code::of_parameter(n),
+    }
 }
 
 /// Any byte.
-pub fn number8(cursor: &mut Cursor, n: u8) -> Result<u8, WireFault>
-    ensures number { Reads result (number_at (of_parameter n) w8 cursor.old) cursor.new }
-    ensures field { Reads result (read (of_parameter n) byte_kind cursor.old) cursor.new }
+pub fn number8(cursor: &mut Cursor, n: u8) -> Result<u8, Rc>
+    ensures number { ReadsInPlace result (number_at (of_parameter n) w8 cursor.old) cursor.new }
+    ensures field { ReadsInPlace result (read (of_parameter n) byte_kind cursor.old) cursor.new }
 {
     match cursor.u8() {
         Some(number) => Ok(number),
@@ -45,9 +57,9 @@ pub fn number8(cursor: &mut Cursor, n: u8) -> Result<u8, WireFault>
 }
 
 /// Any number of two bytes.
-pub fn number16(cursor: &mut Cursor, n: u8) -> Result<u16, WireFault>
-    ensures number { Reads result (number_at (of_parameter n) w16 cursor.old) cursor.new }
-    ensures field { Reads result (read (of_parameter n) short_kind cursor.old) cursor.new }
+pub fn number16(cursor: &mut Cursor, n: u8) -> Result<u16, Rc>
+    ensures number { ReadsInPlace result (number_at (of_parameter n) w16 cursor.old) cursor.new }
+    ensures field { ReadsInPlace result (read (of_parameter n) short_kind cursor.old) cursor.new }
 {
     match cursor.u16() {
         Some(number) => Ok(number),
@@ -56,9 +68,9 @@ pub fn number16(cursor: &mut Cursor, n: u8) -> Result<u16, WireFault>
 }
 
 /// Any number of four bytes.
-pub fn number32(cursor: &mut Cursor, n: u8) -> Result<u32, WireFault>
-    ensures number { Reads result (number_at (of_parameter n) w32 cursor.old) cursor.new }
-    ensures field { Reads result (read (of_parameter n) long_kind cursor.old) cursor.new }
+pub fn number32(cursor: &mut Cursor, n: u8) -> Result<u32, Rc>
+    ensures number { ReadsInPlace result (number_at (of_parameter n) w32 cursor.old) cursor.new }
+    ensures field { ReadsInPlace result (read (of_parameter n) long_kind cursor.old) cursor.new }
 {
     match cursor.u32() {
         Some(number) => Ok(number),
@@ -67,8 +79,8 @@ pub fn number32(cursor: &mut Cursor, n: u8) -> Result<u32, WireFault>
 }
 
 /// Any number of eight bytes.
-fn number64(cursor: &mut Cursor, n: u8) -> Result<u64, WireFault>
-    ensures { Reads result (number_at (of_parameter n) w64 cursor.old) cursor.new }
+fn number64(cursor: &mut Cursor, n: u8) -> Result<u64, Rc>
+    ensures { ReadsInPlace result (number_at (of_parameter n) w64 cursor.old) cursor.new }
 {
     match cursor.u64() {
         Some(number) => Ok(number),
@@ -77,8 +89,8 @@ fn number64(cursor: &mut Cursor, n: u8) -> Result<u64, WireFault>
 }
 
 /// So many bytes, lent.
-pub fn bytes<'a>(cursor: &mut Cursor<'a>, n: u8, count: usize) -> Result<&'a [u8], WireFault>
-    ensures read { ReadsSlice result (bytes_at (of_parameter n) count cursor.old) cursor.new }
+pub fn bytes<'a>(cursor: &mut Cursor<'a>, n: u8, count: usize) -> Result<&'a [u8], Rc>
+    ensures read { LendsInPlace result (bytes_at (of_parameter n) count cursor.old) cursor.new }
     ensures length { IfOk result (λ taken. length taken.now ≡ count) }
 {
     match cursor.take(count) {
@@ -88,16 +100,16 @@ pub fn bytes<'a>(cursor: &mut Cursor<'a>, n: u8, count: usize) -> Result<&'a [u8
 }
 
 /// A 2B of any length, lent.
-fn any_buffer<'a>(cursor: &mut Cursor<'a>, n: u8) -> Result<&'a [u8], WireFault>
-    ensures { ReadsSlice result (sized_at (of_parameter n) is_any_length cursor.old) cursor.new }
+fn any_buffer<'a>(cursor: &mut Cursor<'a>, n: u8) -> Result<&'a [u8], Rc>
+    ensures { LendsInPlace result (sized_at (of_parameter n) is_any_length cursor.old) cursor.new }
 {
     let length = number16(cursor, n)?;
     bytes(cursor, n, usize::from(length))
 }
 
 /// A 2B of at most `most` bytes, lent.
-fn bounded_buffer<'a>(cursor: &mut Cursor<'a>, n: u8, most: u16) -> Result<&'a [u8], WireFault>
-    ensures { ReadsSlice result (sized_at (of_parameter n) (λ k. nat_le k most) cursor.old) cursor.new }
+fn bounded_buffer<'a>(cursor: &mut Cursor<'a>, n: u8, most: u16) -> Result<&'a [u8], Rc>
+    ensures { LendsInPlace result (sized_at (of_parameter n) (λ k. nat_le k most) cursor.old) cursor.new }
 {
     let length = number16(cursor, n)?;
     if length > most {
@@ -107,21 +119,21 @@ fn bounded_buffer<'a>(cursor: &mut Cursor<'a>, n: u8, most: u16) -> Result<&'a [
 }
 
 /// Handle `n` of a command, which is to be of this type.
-pub fn handle(cursor: &mut Cursor, n: u8, named: HandleType) -> Result<u32, WireFault>
-    ensures { Reads result (read (of_handle n) (handle_type named) cursor.old) cursor.new }
+pub fn handle(cursor: &mut Cursor, n: u8, named: HandleType) -> Result<u32, Rc>
+    ensures { ReadsInPlace result (read (of_handle n) (handle_type named) cursor.old) cursor.new }
 {
     let Some(handle) = cursor.u32() else {
-        return Err(refused(INSUFFICIENT + response_code::of_handle(n)));
+        return Err(refused_handle(n, INSUFFICIENT));
     };
     if !named.has(handle) {
-        return Err(refused(VALUE + response_code::of_handle(n)));
+        return Err(refused_handle(n, VALUE));
     }
     Ok(handle)
 }
 
 /// A handle of this type among the parameters.
-pub fn handle_parameter(cursor: &mut Cursor, n: u8, named: HandleType) -> Result<u32, WireFault>
-    ensures { Reads result (read (of_parameter n) (handle_type named) cursor.old) cursor.new }
+pub fn handle_parameter(cursor: &mut Cursor, n: u8, named: HandleType) -> Result<u32, Rc>
+    ensures { ReadsInPlace result (read (of_parameter n) (handle_type named) cursor.old) cursor.new }
 {
     let handle = number32(cursor, n)?;
     if !named.has(handle) {
@@ -131,8 +143,8 @@ pub fn handle_parameter(cursor: &mut Cursor, n: u8, named: HandleType) -> Result
 }
 
 /// A size of at most 1,024.
-pub fn size(cursor: &mut Cursor, n: u8) -> Result<u16, WireFault>
-    ensures { Reads result (read (of_parameter n) size_kind cursor.old) cursor.new }
+pub fn size(cursor: &mut Cursor, n: u8) -> Result<u16, Rc>
+    ensures { ReadsInPlace result (read (of_parameter n) size_kind cursor.old) cursor.new }
 {
     let size = number16(cursor, n)?;
     if size > 1024 {
@@ -142,8 +154,8 @@ pub fn size(cursor: &mut Cursor, n: u8) -> Result<u16, WireFault>
 }
 
 /// The algorithm SHA-256 or the null algorithm.
-pub fn hash(cursor: &mut Cursor, n: u8) -> Result<u16, WireFault>
-    ensures { Reads result (read (of_parameter n) hash_kind cursor.old) cursor.new }
+pub fn hash(cursor: &mut Cursor, n: u8) -> Result<u16, Rc>
+    ensures { ReadsInPlace result (read (of_parameter n) hash_kind cursor.old) cursor.new }
 {
     let hash = number16(cursor, n)?;
     if hash != TPM_ALG_SHA256 && hash != TPM_ALG_NULL {
@@ -153,16 +165,16 @@ pub fn hash(cursor: &mut Cursor, n: u8) -> Result<u16, WireFault>
 }
 
 /// A signed number of four bytes.
-pub fn signed(cursor: &mut Cursor, n: u8) -> Result<i32, WireFault>
-    ensures { Reads result (read (of_parameter n) Signed cursor.old) cursor.new }
+pub fn signed(cursor: &mut Cursor, n: u8) -> Result<i32, Rc>
+    ensures { ReadsInPlace result (read (of_parameter n) Signed cursor.old) cursor.new }
 {
     let number = number32(cursor, n)?;
     Ok(number.cast_signed())
 }
 
 /// The byte 00 or 01.
-pub fn truth(cursor: &mut Cursor, n: u8) -> Result<bool, WireFault>
-    ensures { Reads result (read (of_parameter n) Truth cursor.old) cursor.new }
+pub fn truth(cursor: &mut Cursor, n: u8) -> Result<bool, Rc>
+    ensures { ReadsInPlace result (read (of_parameter n) Truth cursor.old) cursor.new }
 {
     let byte = number8(cursor, n)?;
     if byte > 1 {
@@ -172,8 +184,8 @@ pub fn truth(cursor: &mut Cursor, n: u8) -> Result<bool, WireFault>
 }
 
 /// The number of a comparison.
-pub fn operation(cursor: &mut Cursor, n: u8) -> Result<Compare, WireFault>
-    ensures { Reads result (read (of_parameter n) Operation cursor.old) cursor.new }
+pub fn operation(cursor: &mut Cursor, n: u8) -> Result<Compare, Rc>
+    ensures { ReadsInPlace result (read (of_parameter n) Operation cursor.old) cursor.new }
 {
     let number = number16(cursor, n)?;
     match Compare::from_number(number) {
@@ -183,9 +195,9 @@ pub fn operation(cursor: &mut Cursor, n: u8) -> Result<Compare, WireFault>
 }
 
 /// A number of two bytes that is fixed; another is refused with `code`.
-pub fn fixed(cursor: &mut Cursor, n: u8, value: u16, code: u32) -> Result<(), WireFault>
+pub fn fixed(cursor: &mut Cursor, n: u8, value: u16, code: u32) -> Result<(), Rc>
     requires { code < 0x100 }
-    ensures { Reads result (read (of_parameter n) (fixed_kind value code) cursor.old) cursor.new }
+    ensures { ReadsInPlace result (read (of_parameter n) (fixed_kind value code) cursor.old) cursor.new }
 {
     if number16(cursor, n)? != value {
         return Err(refused_parameter(n, code));
@@ -194,9 +206,9 @@ pub fn fixed(cursor: &mut Cursor, n: u8, value: u16, code: u32) -> Result<(), Wi
 }
 
 /// A byte that is fixed; another is refused with `code`.
-pub fn fixed_byte(cursor: &mut Cursor, n: u8, value: u8, code: u32) -> Result<(), WireFault>
+pub fn fixed_byte(cursor: &mut Cursor, n: u8, value: u8, code: u32) -> Result<(), Rc>
     requires { code < 0x100 }
-    ensures { Reads result (read (of_parameter n) (fixed_byte_kind value code) cursor.old) cursor.new }
+    ensures { ReadsInPlace result (read (of_parameter n) (fixed_byte_kind value code) cursor.old) cursor.new }
 {
     if number8(cursor, n)? != value {
         return Err(refused_parameter(n, code));
@@ -205,32 +217,32 @@ pub fn fixed_byte(cursor: &mut Cursor, n: u8, value: u8, code: u32) -> Result<()
 }
 
 /// A 2B of no bytes.
-pub fn empty(cursor: &mut Cursor, n: u8) -> Result<(), WireFault>
-    ensures { Reads result (read (of_parameter n) empty_kind cursor.old) cursor.new }
+pub fn empty(cursor: &mut Cursor, n: u8) -> Result<(), Rc>
+    ensures { ReadsInPlace result (read (of_parameter n) empty_kind cursor.old) cursor.new }
 {
     fixed(cursor, n, 0, SIZE)
 }
 
 /// 32 bytes.
-fn digest(cursor: &mut Cursor, n: u8) -> Result<Digest32, WireFault>
-    ensures { Reads result (read (of_parameter n) Digest cursor.old) cursor.new }
+fn digest(cursor: &mut Cursor, n: u8) -> Result<Digest32, Rc>
+    ensures { ReadsInPlace result (read (of_parameter n) Digest cursor.old) cursor.new }
 {
     let digest = bytes(cursor, n, 32)?;
     Ok(Digest32::from_slice(digest))
 }
 
 /// A 2B of 32 bytes.
-pub fn sized_digest(cursor: &mut Cursor, n: u8) -> Result<Digest32, WireFault>
-    ensures field { Reads result (read (of_parameter n) sized_digest_kind cursor.old) cursor.new }
-    ensures listed { Reads result (listed_digest (of_parameter n) cursor.old) cursor.new }
+pub fn sized_digest(cursor: &mut Cursor, n: u8) -> Result<Digest32, Rc>
+    ensures field { ReadsInPlace result (read (of_parameter n) sized_digest_kind cursor.old) cursor.new }
+    ensures listed { ReadsInPlace result (listed_digest (of_parameter n) cursor.old) cursor.new }
 {
     fixed(cursor, n, 32, SIZE)?;
     digest(cursor, n)
 }
 
 /// A 2B of 0 or 32 bytes.
-pub fn optional(cursor: &mut Cursor, n: u8) -> Result<Option<Digest32>, WireFault>
-    ensures { Reads result (read (of_parameter n) Optional cursor.old) cursor.new }
+pub fn optional(cursor: &mut Cursor, n: u8) -> Result<Option<Digest32>, Rc>
+    ensures { ReadsInPlace result (read (of_parameter n) Optional cursor.old) cursor.new }
 {
     let length = number16(cursor, n)?;
     if length != 0 && length != 32 {
@@ -257,8 +269,8 @@ pub fn copied_buffer(
 }
 
 /// A 2B of the bytes of a Name.
-pub fn name(cursor: &mut Cursor, n: u8) -> Result<Name, WireFault>
-    ensures { Reads result (read (of_parameter n) Named cursor.old) cursor.new }
+pub fn name(cursor: &mut Cursor, n: u8) -> Result<Name, Rc>
+    ensures { ReadsInPlace result (read (of_parameter n) Named cursor.old) cursor.new }
 {
     let bytes = any_buffer(cursor, n)?;
     match Name::from_bytes(bytes) {
@@ -268,8 +280,8 @@ pub fn name(cursor: &mut Cursor, n: u8) -> Result<Name, WireFault>
 }
 
 /// One digest of SHA-256 behind its count and its algorithm (TPML_DIGEST_VALUES).
-pub fn digest_values(cursor: &mut Cursor, n: u8) -> Result<Digest32, WireFault>
-    ensures { Reads result (read (of_parameter n) one_digest_kind cursor.old) cursor.new }
+pub fn digest_values(cursor: &mut Cursor, n: u8) -> Result<Digest32, Rc>
+    ensures { ReadsInPlace result (read (of_parameter n) one_digest_kind cursor.old) cursor.new }
 {
     if number32(cursor, n)? != 1 {
         return Err(refused_parameter(n, SIZE));
@@ -279,8 +291,8 @@ pub fn digest_values(cursor: &mut Cursor, n: u8) -> Result<Digest32, WireFault>
 }
 
 /// One selection of SHA-256 PCRs with three bytes of mask (TPML_PCR_SELECTION).
-pub fn selection(cursor: &mut Cursor, n: u8) -> Result<u32, WireFault>
-    ensures { Reads result (read (of_parameter n) selection_kind cursor.old) cursor.new }
+pub fn selection(cursor: &mut Cursor, n: u8) -> Result<u32, Rc>
+    ensures { ReadsInPlace result (read (of_parameter n) selection_kind cursor.old) cursor.new }
 {
     if number32(cursor, n)? != 1 {
         return Err(refused_parameter(n, SIZE));
@@ -291,16 +303,16 @@ pub fn selection(cursor: &mut Cursor, n: u8) -> Result<u32, WireFault>
 }
 
 /// Three bytes with bit n mod 8 of byte n / 8 for PCR n.
-fn mask(cursor: &mut Cursor, n: u8) -> Result<u32, WireFault>
-    ensures { Reads result (read (of_parameter n) Mask cursor.old) cursor.new }
+fn mask(cursor: &mut Cursor, n: u8) -> Result<u32, Rc>
+    ensures { ReadsInPlace result (read (of_parameter n) Mask cursor.old) cursor.new }
 {
     let mask = bytes(cursor, n, 3)?;
     Ok(u32::from(mask[0]) + 256 * u32::from(mask[1]) + 65536 * u32::from(mask[2]))
 }
 
 /// An HMAC with SHA-256 (TPMT_SIGNATURE).
-pub fn signature(cursor: &mut Cursor, n: u8) -> Result<Digest32, WireFault>
-    ensures { Reads result (read (of_parameter n) signature_kind cursor.old) cursor.new }
+pub fn signature(cursor: &mut Cursor, n: u8) -> Result<Digest32, Rc>
+    ensures { ReadsInPlace result (read (of_parameter n) signature_kind cursor.old) cursor.new }
 {
     fixed(cursor, n, TPM_ALG_HMAC, VALUE)?;
     fixed(cursor, n, TPM_ALG_SHA256, HASH)?;
@@ -334,7 +346,7 @@ pub fn digests(
 {
     let count = number32(cursor, n)?;
     if count < least || count > most {
-        return Err(refused_parameter(n, SIZE));
+        return Err(WireFault::Refused(refused_parameter(n, SIZE)));
     }
     counted_digests(alloc, cursor, n, count)
 }
@@ -357,16 +369,16 @@ fn counted_digests(
 }
 
 /// A deadline: a 2B of 8 bytes.
-pub fn timeout(cursor: &mut Cursor, n: u8) -> Result<u64, WireFault>
-    ensures { Reads result (read (of_parameter n) timeout_kind cursor.old) cursor.new }
+pub fn timeout(cursor: &mut Cursor, n: u8) -> Result<u64, Rc>
+    ensures { ReadsInPlace result (read (of_parameter n) timeout_kind cursor.old) cursor.new }
 {
     fixed(cursor, n, 8, SIZE)?;
     number64(cursor, n)
 }
 
 /// A deadline or none: a 2B of 0 or 8 bytes.
-fn optional_timeout(cursor: &mut Cursor, n: u8) -> Result<Option<u64>, WireFault>
-    ensures { Reads result (timeout_at (of_parameter n) cursor.old) cursor.new }
+fn optional_timeout(cursor: &mut Cursor, n: u8) -> Result<Option<u64>, Rc>
+    ensures { ReadsInPlace result (timeout_at (of_parameter n) cursor.old) cursor.new }
 {
     match number16(cursor, n)? {
         0 => Ok(None),
@@ -398,15 +410,15 @@ pub fn timed_ticket(
     let timeout = optional_timeout(cursor, n)?;
     let ticket = ticket(alloc, cursor, n)?;
     if ticket.tag != tag || !goes_with(timeout, &ticket) {
-        return Err(refused_parameter(n, VALUE));
+        return Err(WireFault::Refused(refused_parameter(n, VALUE)));
     }
     Ok((timeout, ticket))
 }
 
 /// The context of a session: its sequence, its handle, the null hierarchy and a 2B of 32 bytes
 /// (TPMS_CONTEXT).
-pub fn context(cursor: &mut Cursor, n: u8) -> Result<(u64, (u32, Digest32)), WireFault>
-    ensures { Reads result (read (of_parameter n) context_kind cursor.old) cursor.new }
+pub fn context(cursor: &mut Cursor, n: u8) -> Result<(u64, (u32, Digest32)), Rc>
+    ensures { ReadsInPlace result (read (of_parameter n) context_kind cursor.old) cursor.new }
 {
     let sequence = number64(cursor, n)?;
     let session = handle_parameter(cursor, n, HandleType::PolicySession)?;

@@ -1,11 +1,11 @@
 //! Writers of single fields, at the end of bytes.
 #![tactic(auto, unfolding(crate::specs::Kinds::spell))]
 
-ghost use Rattle.std.specs.Prelude.{◌≡◌, ◌++◌, ◌∷◌, [], OnOk, List, ℕ, length, true};
+ghost use Rattle.std.specs.Prelude.{◌++◌, length};
 ghost use Rattle.std.specs.Int.{w16, w32, w64, to_be_bytes};
 ghost use Rattle.std.specs.List.{flat_map};
-ghost use Rattle.tpol_fields.specs.Kinds.{spell, sized as sized_bytes, ticket_bytes, timeout_bytes, Signed, Truth, Operation, Digest, Mask, Sized, Optional, Named, Ticketed, Digests};
-ghost use Rattle.tpol_fields.specs.FieldKinds.{byte as byte_kind, short as short_kind, long as long_kind, sized_digest as sized_digest_kind, one_digest as one_digest_kind, selection as selection_kind, signature as signature_kind, timeout as timeout_kind, context as context_kind};
+ghost use Rattle.tpol_fields.specs.Kinds.{spell, sized as sized_bytes, ticket_bytes, timeout_bytes, Signed, Truth, Operation, Optional, Named, Ticketed, Digests};
+ghost use Rattle.tpol_fields.specs.FieldKinds.{byte as byte_kind, sized_digest as sized_digest_kind, one_digest as one_digest_kind, selection as selection_kind, signature as signature_kind, timeout as timeout_kind, context as context_kind};
 ghost use Rattle.tpol_fields.specs.Spellings.{Appends};
 
 use crate::ticket::Ticket;

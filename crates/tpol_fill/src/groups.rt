@@ -1,7 +1,7 @@
 //! ORs of more than eight branches. PolicyOR takes at most eight digests (TPM 2.0 Part 3, PolicyOR), so such
 //! an OR becomes an OR of groups.
 
-ghost use Rattle.std.specs.Prelude.{◌≡◌, ◌++◌, ◌∷◌, [], IfOk, codes, decimal, drop, length, nat_lt, take};
+ghost use Rattle.std.specs.Prelude.{◌≡◌, ◌++◌, ◌∷◌, IfOk, codes, decimal, drop, length, nat_lt, take};
 ghost use Rattle.tpol_fill.specs.Groups.{branches_in, grouped, in_eights, numbered, or_of};
 
 use std::alloc::Global;

@@ -1,11 +1,10 @@
 //! The digest of the Names that a POLICYNAMEHASH names.
 
-ghost use Rattle.std.specs.Prelude.{◌≡◌, codes, map};
+ghost use Rattle.std.specs.Prelude.{◌≡◌, map};
 ghost use Rattle.std.specs.Option.{option_copied};
 ghost use Rattle.tpol_fill.specs.Entities.{or_empty, path_name};
 ghost use Rattle.tpol_fill.specs.Filling.{filled_names, names_digest, names_faults, path_faults};
 ghost use Rattle.tpol_fill.specs.Outcome.{Fills, each_fault};
-ghost use Rattle.tpol_json.specs.Places.{at_member};
 
 use crate::FillFault;
 use crate::entities::name_at;

@@ -1,7 +1,7 @@
 //! HMAC over SHA-256.
 
 ghost use Rattle.std.specs.Prelude.{◌≡◌, ℕ, List, [], ◌++◌, map, bit_xor};
-ghost use Rattle.tpol_hash.specs.Hmac.{block_key, hmac_sha256, padded_key};
+ghost use Rattle.tpol_hash.specs.Hmac.{block_key, hmac_sha256};
 ghost use Rattle.tpol_hash.specs.Messages.{HoldsUnder};
 
 use crate::hasher::{Hasher, hash};

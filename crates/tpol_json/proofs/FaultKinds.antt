@@ -1,6 +1,6 @@
 -- A reading with faults of one kind, seen with those of another.
 use Rattle.std.proofs.Common.{◌≡◌, List, [], ◌∷◌, ℕ, Bool, true, false, refl, if◌then◌else◌}
-use Rattle.std.specs.Prelude.{is_some, ⊤, Ok}
+use Rattle.std.specs.Prelude.{is_some, ⊤}
 use Rattle.serde_json.specs.Data.{Data}
 use Rattle.serde_json.specs.Find.{get}
 use Rattle.tpol_json.specs.Members.{without}

@@ -1,6 +1,5 @@
 //! Bytes, as hexadecimal texts or as lists of numbers.
 
-ghost use Rattle.std.specs.Prelude.{◌≡◌};
 ghost use Rattle.serde_json.specs.View.{view, items_view};
 ghost use Rattle.tpol_json.specs.Bytes.{byte_in, bytes_from, bytes_in, bytes_of_text, hex_or_bad};
 ghost use Rattle.tpol_json.specs.Places.{at_item};

@@ -1,9 +1,9 @@
 //! The values of members: texts, truth values, numbers, bytes of certain lengths, digests and Names.
 
-ghost use Rattle.std.specs.Prelude.{◌≡◌, ◌^◌, ◌≤◌, ◌<◌, IfOk};
+ghost use Rattle.std.specs.Prelude.{◌^◌, ◌≤◌, ◌<◌, IfOk};
 ghost use Rattle.serde_json.specs.View.{view};
 ghost use Rattle.tpol_json.specs.Faults.{Gives};
-ghost use Rattle.tpol_json.specs.Values.{bytes_up_to, digest_in, empty_or_32, name_in, name_or_bad, object_in, signed_in, text_in, truth_in, u32_in, unsigned_in};
+ghost use Rattle.tpol_json.specs.Values.{bytes_up_to, digest_in, empty_or_32, name_in, object_in, signed_in, text_in, truth_in, u32_in, unsigned_in};
 
 use crate::bytes::bytes_at;
 use crate::fault::refuse;

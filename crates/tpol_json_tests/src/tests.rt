@@ -2,7 +2,7 @@
 
 use serde_json::Value;
 use std::alloc::Global;
-use tpol_base::{Digest32, NoMemory};
+use tpol_base::{Digest32, Name, NoMemory};
 use tpol_json::{
     MemberFault, MemberKind, Notes, ParseFault, Place, PlaceRef, bytes_of, digest, member, name,
     needed, note_unknown, number_of, parse, place_text, same_word, text, text_of, truth_of,
@@ -26,18 +26,26 @@ fn reads_bytes(alloc: Global, document: &str, bytes: &[u8]) -> bool {
     }
 }
 
+static BYTES: [(&str, &[u8]); 5] = [
+    ("\"\"", b""),
+    ("\"0x\"", b""),
+    ("\"4000000b\"", b"\x40\x00\x00\x0b"),
+    ("\"0xaBcD\"", b"\xab\xcd"),
+    ("[0, 255, 16]", b"\x00\xff\x10"),
+];
+
+fn first_other_bytes(alloc: Global) -> Option<&'static str> {
+    for (document, bytes) in &BYTES {
+        if !reads_bytes(alloc, document, bytes) {
+            return Some(*document);
+        }
+    }
+    None
+}
+
 #[test]
 fn bytes(rt: HostRuntime) {
-    let cases: [(&str, &[u8]); 5] = [
-        ("\"\"", b""),
-        ("\"0x\"", b""),
-        ("\"4000000b\"", b"\x40\x00\x00\x0b"),
-        ("\"0xaBcD\"", b"\xab\xcd"),
-        ("[0, 255, 16]", b"\x00\xff\x10"),
-    ];
-    for (document, bytes) in &cases {
-        assert!(rt; reads_bytes(rt.alloc(), document, bytes), "at {document}");
-    }
+    assert_eq!(rt; first_other_bytes(rt.alloc()), None);
 }
 
 // What a document of one number gives between the least and the greatest number of 32 bits.
@@ -52,26 +60,31 @@ fn reads_number(alloc: Global, document: &str, wanted: Option<i64>) -> bool {
     }
 }
 
+static NUMBERS: [(&str, Option<i64>); 10] = [
+    ("0", Some(0)),
+    ("-2147483648", Some(-2147483648)),
+    ("2147483648", None),
+    ("\"0x1Ff\"", Some(511)),
+    ("\"0x\"", None),
+    ("\"0x0000000000000001\"", None),
+    ("\"0X1\"", None),
+    ("1.0", None),
+    ("1e2", None),
+    ("-0", None),
+];
+
+fn first_other_number(alloc: Global) -> Option<&'static str> {
+    for (document, wanted) in &NUMBERS {
+        if !reads_number(alloc, document, *wanted) {
+            return Some(*document);
+        }
+    }
+    None
+}
+
 #[test]
 fn numbers(rt: HostRuntime) {
-    let cases = [
-        ("0", Some(0)),
-        ("-2147483648", Some(-2147483648)),
-        ("2147483648", None),
-        ("\"0x1Ff\"", Some(511)),
-        ("\"0x\"", None),
-        ("\"0x0000000000000001\"", None),
-        ("\"0X1\"", None),
-        ("1.0", None),
-        ("1e2", None),
-        ("-0", None),
-    ];
-    for (document, wanted) in &cases {
-        assert!(rt;
-            reads_number(rt.alloc(), document, *wanted),
-            "at {document}"
-        );
-    }
+    assert_eq!(rt; first_other_number(rt.alloc()), None);
 }
 
 fn truth(alloc: Global, value: &Value) -> Option<bool> {
@@ -85,35 +98,52 @@ fn reads_truth(alloc: Global, document: &str, wanted: Option<bool>) -> bool {
     }
 }
 
+static TRUTH_VALUES: [(&str, Option<bool>); 7] = [
+    ("true", Some(true)),
+    ("\"Yes\"", Some(true)),
+    ("\"FALSE\"", Some(false)),
+    ("0", Some(false)),
+    ("2", None),
+    ("\"maybe\"", None),
+    ("null", None),
+];
+
+fn first_other_truth(alloc: Global) -> Option<&'static str> {
+    for (document, wanted) in &TRUTH_VALUES {
+        if !reads_truth(alloc, document, *wanted) {
+            return Some(*document);
+        }
+    }
+    None
+}
+
 #[test]
 fn truth_values(rt: HostRuntime) {
-    let cases = [
-        ("true", Some(true)),
-        ("\"Yes\"", Some(true)),
-        ("\"FALSE\"", Some(false)),
-        ("0", Some(false)),
-        ("2", None),
-        ("\"maybe\"", None),
-        ("null", None),
-    ];
-    for (document, wanted) in &cases {
-        assert!(rt; reads_truth(rt.alloc(), document, *wanted), "at {document}");
+    assert_eq!(rt; first_other_truth(rt.alloc()), None);
+}
+
+// A text, a prefix that it may have, a word, and whether the text is that word.
+static WORDS: [(&str, &str, &str, bool); 6] = [
+    ("unseal", "TPM2_CC_", "Unseal", true),
+    ("tpm2_cc_UNSEAL", "TPM2_CC_", "Unseal", true),
+    ("CC_Unseal", "TPM2_CC_", "Unseal", false),
+    ("TPM2_CC_", "TPM2_CC_", "Unseal", false),
+    ("policyAuthValue", "POLICY", "AUTHVALUE", true),
+    ("POLICYPOLICYOR", "POLICY", "OR", false),
+];
+
+fn first_other_word() -> Option<&'static str> {
+    for (text, prefix, word, same) in &WORDS {
+        if same_word(text, prefix, word) != *same {
+            return Some(*text);
+        }
     }
+    None
 }
 
 #[test]
 fn words(rt: HostRuntime) {
-    let cases = [
-        ("unseal", "TPM2_CC_", "Unseal", true),
-        ("tpm2_cc_UNSEAL", "TPM2_CC_", "Unseal", true),
-        ("CC_Unseal", "TPM2_CC_", "Unseal", false),
-        ("TPM2_CC_", "TPM2_CC_", "Unseal", false),
-        ("policyAuthValue", "POLICY", "AUTHVALUE", true),
-        ("POLICYPOLICYOR", "POLICY", "OR", false),
-    ];
-    for (text, prefix, word, same) in &cases {
-        assert_eq!(rt; same_word(text, prefix, word), *same, "at {text}");
-    }
+    assert_eq!(rt; first_other_word(), None);
 }
 
 // A step from a place to the next.
@@ -204,26 +234,45 @@ fn no_json(rt: HostRuntime) {
 const DOCUMENT: &[u8] =
     b"{\"name\":\"40000001\",\"size\":\"0x20\",\"type\":\"tpm2_alg_hmac\",\"x\":null}";
 
-fn has_name(alloc: Global, document: &Value, place: &PlaceRef<'_>) -> Result<bool, MemberFault> {
-    let (owner, at) = needed(alloc, document, "name", place)?;
-    let read = name(alloc, owner, &at);
-    drop(at);
-    let bytes = read?.to_bytes(alloc)?;
-    Ok(bytes.as_slice() == b"\x40\x00\x00\x01".as_slice())
+fn is_owner(alloc: Global, read: &Name) -> bool {
+    match read.to_bytes(alloc) {
+        Ok(bytes) => bytes.as_slice() == b"\x40\x00\x00\x01".as_slice(),
+        Err(_) => false,
+    }
 }
 
-fn has_text(alloc: Global, document: &Value, place: &PlaceRef<'_>) -> Result<bool, MemberFault> {
-    let (owner, at) = needed(alloc, document, "name", place)?;
-    let read = text(alloc, owner, &at);
-    drop(at);
-    Ok(read?.as_str() == "40000001")
+fn has_name(alloc: Global, value: &Value, place: &PlaceRef<'_>) -> bool {
+    match name(alloc, value, place) {
+        Ok(read) => is_owner(alloc, &read),
+        Err(_) => false,
+    }
 }
 
-fn has_size(alloc: Global, document: &Value, place: &PlaceRef<'_>) -> Result<bool, MemberFault> {
-    let (size, at) = needed(alloc, document, "size", place)?;
-    let read = unsigned_32(alloc, size, &at);
-    drop(at);
-    Ok(read? == 32)
+fn has_text(alloc: Global, value: &Value, place: &PlaceRef<'_>) -> bool {
+    match text(alloc, value, place) {
+        Ok(read) => read.as_str() == "40000001",
+        Err(_) => false,
+    }
+}
+
+fn has_size(alloc: Global, value: &Value, place: &PlaceRef<'_>) -> bool {
+    match unsigned_32(alloc, value, place) {
+        Ok(read) => read == 32,
+        Err(_) => false,
+    }
+}
+
+fn has_scheme(alloc: Global, value: &Value, place: &PlaceRef<'_>) -> bool {
+    match word(
+        alloc,
+        value,
+        "TPM2_ALG_",
+        &[("HMAC", 5), ("NULL", 16)],
+        place,
+    ) {
+        Ok(read) => read == Some(5),
+        Err(_) => false,
+    }
 }
 
 // Whether what was read is no hex, at the member `size`.
@@ -251,20 +300,22 @@ fn has_no_digest(
     answer.map_err(MemberFault::from)
 }
 
-fn has_scheme(alloc: Global, document: &Value, place: &PlaceRef<'_>) -> Result<bool, MemberFault> {
-    let (scheme, at) = needed(alloc, document, "type", place)?;
-    let schemes = [("HMAC", 5), ("NULL", 16)];
-    let read = word(alloc, scheme, "TPM2_ALG_", &schemes, &at);
-    drop(at);
-    Ok(read? == Some(5))
-}
-
+// The members of this document, by name.
 fn has_members(alloc: Global, document: &Value, place: &PlaceRef<'_>) -> bool {
-    has_name(alloc, document, place).unwrap_or(false)
-        && has_text(alloc, document, place).unwrap_or(false)
-        && has_size(alloc, document, place).unwrap_or(false)
-        && has_no_digest(alloc, document, place).unwrap_or(false)
-        && has_scheme(alloc, document, place).unwrap_or(false)
+    match (
+        member(document, "name"),
+        member(document, "size"),
+        member(document, "type"),
+    ) {
+        (Some(owner), Some(size), Some(scheme)) => {
+            has_name(alloc, owner, place)
+                && has_text(alloc, owner, place)
+                && has_size(alloc, size, place)
+                && has_scheme(alloc, scheme, place)
+                && has_no_digest(alloc, document, place).unwrap_or(false)
+        }
+        _ => false,
+    }
 }
 
 #[test]

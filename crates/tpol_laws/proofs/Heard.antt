@@ -32,8 +32,9 @@ use Rattle.tpol_fields.specs.declared.ticket.Ticket.{Ticket}
 use Rattle.tpol_wire.specs.Authorizations.{ReplyAuthFits}
 use Rattle.tpol_wire.specs.Commands.{FitsCommand, ValuesFit, code_of_command, spell_values, spelling, tag}
 use Rattle.tpol_fields.specs.Kinds.{Fits, TimedTicket, sized, spell, ticket_bytes, timeout_bytes}
-use Rattle.tpol_wire.specs.Replies.{FitsReply, PartsAnswer, parts_of, reply_body, reply_layout, spell_reply}
+use Rattle.tpol_wire.specs.Replies.{FitsReply, PartsAnswer, parts_of, reply_body, spell_reply}
 use Rattle.tpol_wire.specs.ReplyReading.{reply_reading}
+use Rattle.tpol_wire.specs.Spellings.{message_bytes}
 use Rattle.tpol_wire.proofs.ReplyLaws.{reply_read}
 use Rattle.tpm_session.specs.Slots.{state_at}
 use Rattle.tpm_world.specs.Entities.{name_at}
@@ -140,13 +141,13 @@ policy-heard tables number (commands.PolicySecret entity own auth nonce cp_hash 
     let it = timed tables.world st_auth_secret (name_at tables.world entity) cp_hash policy_ref given (omega arith) in
     read-as _ _ (replies.PolicySecret it.timeout ticket) (Some password_area)
     (ap (spell_reply (replies.PolicySecret given ticket)) (password-auth tables number (commands.PolicySecret entity own auth nonce cp_hash policy_ref expiration) (replies.PolicySecret given ticket) auth area)
-    ∙ ap (λ (bytes : List ℕ). reply_layout (tag true) 0 (reply_body ((sized bytes ++ ticket_bytes ticket) ++ []) (Some password_area))) it.bytes) ((it.fits, tt), area-fits) refl tt
+    ∙ ap (λ (bytes : List ℕ). message_bytes (tag true) 0 (reply_body ((sized bytes ++ ticket_bytes ticket) ++ []) (Some password_area))) it.bytes) ((it.fits, tt), area-fits) refl tt
 policy-heard tables number (commands.PolicySigned key own nonce cp_hash policy_ref expiration signature) policy area =
     let given = timeout_of (policy_start tables (commands.PolicySigned key own nonce cp_hash policy_ref expiration signature)) nonce expiration in
     let ticket = ticket_of tables.world st_auth_signed (name_at tables.world key) cp_hash policy_ref given in
     let it = timed tables.world st_auth_signed (name_at tables.world key) cp_hash policy_ref given (omega arith) in
     read-as _ _ (replies.PolicySigned it.timeout ticket) None
-    (ap (λ (bytes : List ℕ). reply_layout (tag false) 0 (reply_body ((sized bytes ++ ticket_bytes ticket) ++ []) None)) it.bytes) ((it.fits, tt), refl) refl tt
+    (ap (λ (bytes : List ℕ). message_bytes (tag false) 0 (reply_body ((sized bytes ++ ticket_bytes ticket) ++ []) None)) it.bytes) ((it.fits, tt), refl) refl tt
 policy-heard tables number (commands.PolicyCpHash own digest) policy area = read-as _ _ replies.PolicyCpHash None refl (tt, refl) refl tt
 policy-heard tables number (commands.PolicyNameHash own digest) policy area = read-as _ _ replies.PolicyNameHash None refl (tt, refl) refl tt
 policy-heard tables number (commands.PolicyAuthValue own) policy area = read-as _ _ replies.PolicyAuthValue None refl (tt, refl) refl tt

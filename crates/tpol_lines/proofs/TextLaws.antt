@@ -1,10 +1,10 @@
 -- The lines of a walk's parts, put together.
-use Rattle.std.proofs.Common.{◌≡◌, ◌≢◌, ℕ, zero, suc, ◌+◌, ◌-◌, ◌<◌, ◌≤◌, true, false, List, [], ◌∷◌, ◌++◌, map, length, get_or, take, Option, Some, None, codes, decimal, refl, sym, ap, ◌∙◌, subst, append_assoc, length-append, arith}
+use Rattle.std.proofs.Common.{◌≡◌, ◌≢◌, ℕ, zero, suc, ◌+◌, ◌-◌, ◌<◌, ◌≤◌, true, false, List, [], ◌∷◌, ◌++◌, map, length, get_or, take, Option, Some, None, codes, decimal, refl, sym, ap, ◌∙◌, append_assoc, length-append, arith}
 use Rattle.std.specs.Prelude.{⊤, Bool, ◌&&◌, is_some, if◌then◌else◌}
 use Rattle.std.specs.Str.{bytes_eq}
 use Rattle.std.specs.List.{flat_map}
 use Rattle.std.proofs.Math.Seq.{take-append_seam}
-use Rattle.std.proofs.lemmas.List.{append-nil, length-map, map-append, take_more, take_all}
+use Rattle.std.proofs.lemmas.List.{append-nil, map-append, take_more}
 use Rattle.std.proofs.lemmas.List.Concat.{flat_map-append}
 use Rattle.json.specs.Print.{quoted}
 use Rattle.tpol_base.specs.declared.digest.Digest32.{Digest32}
@@ -23,14 +23,14 @@ use Rattle.tpol_tree.specs.declared.path.Move.{Move}
 use Rattle.tpol_tree.specs.declared.path.Move.TheVariants.{Assert as AssertMove, Or as OrMove, Approve, ApproveNv}
 use Rattle.tpol_tree.specs.declared.path.Path.{Path}
 use Rattle.tpol_tree.specs.declared.path.PathStep.{PathStep}
-use Rattle.tpol_tree.specs.declared.path.PathStep.TheVariants.{Branch, Document, Outside}
+use Rattle.tpol_tree.specs.declared.path.PathStep.TheVariants.{Branch, Document}
 use Rattle.tpol_digest.specs.Digest.{zero_digest, digest_at_element, branch_digests}
-use Rattle.tpol_digest.specs.Paths.{empty_path, path_of_move, followed_by, product, between, approval_of, approval_by_key, approval_by_index, paths_by_approval, approved_paths, outside_paths, paths_at, paths_at_element, paths_at_branches, document_paths, paths_of, same_name}
+use Rattle.tpol_digest.specs.Paths.{path_of_move, followed_by, product, between, approval_of, approval_by_key, approval_by_index, paths_by_approval, approved_paths, outside_paths, paths_at, paths_at_element, paths_at_branches, document_paths, same_name}
 use Rattle.tpol_digest.specs.Positions.{element_list_ways, element_ways}
-use Rattle.tpol_digest.proofs.Documents.{approved_none, document_paths-some}
+use Rattle.tpol_digest.proofs.Documents.{document_paths-some}
 use Rattle.tpol_lines.specs.declared.pen.Pen.{Pen}
 use Rattle.tpol_lines.specs.Lines.{line_of}
-use Rattle.tpol_lines.specs.PathLine.{assertion_kind, move_kind, step_text, separated, label, kinds, path_line, path_lines}
+use Rattle.tpol_lines.specs.PathLine.{assertion_kind, move_kind, step_text, label, kinds, path_line, path_lines}
 use Rattle.tpol_lines.specs.Pen.{behind_separator, line_behind}
 use Rattle.tpol_lines.specs.Texts.{Texts, no_text, of_choice, of_kind, join, both, texts_of, element_list_texts, element_texts, branch_texts, document_texts, approval_texts, lines_behind, texts_of_pen, Writes}
 

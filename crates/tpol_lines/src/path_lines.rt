@@ -1,6 +1,6 @@
 // The lines of a policy's paths, written on one walk through the policy, without the paths.
 
-ghost use Rattle.std.specs.Prelude.{◌≡◌, ◌+◌, ◌++◌, length, IfOk, OnOk};
+ghost use Rattle.std.specs.Prelude.{◌≡◌, IfOk, OnOk};
 ghost use Rattle.tpol_digest.specs.Paths.{paths_of};
 ghost use Rattle.tpol_lines.specs.PathLine.{path_lines};
 ghost use Rattle.tpol_lines.specs.Texts as texts;

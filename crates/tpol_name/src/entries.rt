@@ -1,6 +1,5 @@
 //! The entities of a machine, and the lines of its directory.
 
-ghost use Rattle.std.specs.Prelude.{◌≡◌};
 ghost use Rattle.std.proofs.Common.{rules};
 
 use crate::{NvPublic, ObjectPublic};

@@ -1,6 +1,5 @@
 //! What a machine starts from.
 
-ghost use Rattle.std.specs.Prelude.{◌≡◌};
 ghost use Rattle.std.proofs.Common.{rules};
 
 use crate::{Indices, Objects};

@@ -1,5 +1,5 @@
 -- Documents that are filled: their names, and one more of them.
-use Rattle.std.proofs.Common.{◌≡◌, ◌∙◌, refl, ap, List, [], ◌∷◌, ◌++◌, map, false, Option, Ok}
+use Rattle.std.proofs.Common.{◌≡◌, refl, ap, List, [], ◌∷◌, ◌++◌, map, false, Option, Ok}
 use Rattle.std.proofs.lemmas.List.{map-append}
 use Rattle.std.specs.Prelude.{ℕ, ◌||◌}
 use Rattle.std.specs.Str.{bytes_eq}

@@ -1,7 +1,7 @@
 -- A setup in which an entity was given its authPolicy is a setup again, of the same handles.
-use Rattle.std.proofs.Common.{◌≡◌, ◌∙◌, ap, refl, subst, sym, inr, List, [], ◌∷◌, ◌++◌, length, map, get_or, true, false}
+use Rattle.std.proofs.Common.{◌≡◌, ◌∙◌, ap, refl, subst, sym, inr, List, [], ◌∷◌, ◌++◌, map, get_or, true, false}
 use Rattle.std.proofs.lemmas.List.Elements.{All-map}
-use Rattle.std.specs.Prelude.{ℕ, ◌==◌, nat_eq, All, if◌then◌else◌}
+use Rattle.std.specs.Prelude.{ℕ, ◌==◌, nat_eq, if◌then◌else◌}
 use Rattle.std.specs.List.{IsDistinct}
 use Rattle.tpol_base.specs.declared.digest.Digest32.{Digest32}
 use Rattle.tpol_name.specs.declared.entries.IndexEntry.{IndexEntry}

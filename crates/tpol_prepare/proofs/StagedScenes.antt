@@ -6,12 +6,11 @@ use Rattle.tpol_digest.specs.Digest.{policy_digest}
 use Rattle.tpol_goal.specs.declared.grants.Grants.{Grants}
 use Rattle.tpol_name.specs.declared.setup.Setup.{Setup}
 use Rattle.tpol_name.specs.Setups.{IsSetup}
-use Rattle.tpol_scene.specs.Conditions.{AreClients, AreEventsBehind, HasClients}
+use Rattle.tpol_scene.specs.Conditions.{AreEventsBehind, HasClients}
 use Rattle.tpol_scene.specs.declared.scene.Scene.{Scene}
 use Rattle.tpol_scene.specs.declared.script.ScriptEvent.{ScriptEvent}
 use Rattle.tpol_store.specs.Approvals.{HasApprovedBounds, approved_documents}
 use Rattle.tpol_store.specs.Stores.{NamedPolicy}
-use Rattle.tpol_prepare.specs.declared.documents.FilledDocument.{FilledDocument}
 use Rattle.tpol_prepare.specs.declared.prepared.PreparedScene.{PreparedScene}
 use Rattle.tpol_prepare.specs.declared.scenario.StagedScene.{StagedScene}
 use Rattle.tpol_prepare.specs.declared.halt.Halt.{Halt}

@@ -1,11 +1,11 @@
 -- Policies of a store, whichever memory they lie in.
-use Rattle.std.proofs.Common.{◌≡◌, refl, Option, Some, None, List, [], ◌∷◌, map, find, true, false}
-use Rattle.std.specs.Prelude.{ℕ, Bool, All, IfSome}
+use Rattle.std.proofs.Common.{◌≡◌, refl, List, [], ◌∷◌, map, true, false}
+use Rattle.std.specs.Prelude.{ℕ, All, IfSome}
 use Rattle.std.proofs.lemmas.List.Elements.{All-head, All-tail}
 use Rattle.std.specs.Option.{option_map}
 use Rattle.std.specs.Str.{bytes_eq}
 use Rattle.tpol_store.specs.declared.store.StoredPolicy.{StoredPolicy}
-use Rattle.tpol_store.specs.Stores.{IsReadable, is_stored_as, named_policy, policy_named}
+use Rattle.tpol_store.specs.Stores.{IsReadable, named_policy, policy_named}
 use Rattle.tpol_prepare.specs.References.{policy_called}
 use Rattle.tpol_tree.specs.Bounds.{HasBounds}
 use Rattle.tpol_tree.specs.Elements.{HasBranchCounts}

@@ -10,7 +10,6 @@ use Rattle.tpol_name.specs.declared.sight.Sight.{Sight}
 use Rattle.tpol_name.specs.Setups.{first_sight}
 use Rattle.tpol_scene.specs.declared.entities.EntityPolicy.{EntityPolicy}
 use Rattle.tpol_store.specs.Stores.{NamedPolicy}
-use Rattle.tpol_prepare.specs.declared.documents.FilledDocument.{FilledDocument}
 use Rattle.tpol_prepare.specs.declared.entities.CompiledEntity.{CompiledEntity}
 use Rattle.tpol_prepare.specs.declared.entities.CompiledSetup.{CompiledSetup}
 use Rattle.tpol_prepare.specs.FilledDocuments.{IsReadyDocument, erased_filled}

@@ -1,6 +1,5 @@
 -- Scenes that can be carried out: their policies are filled, and the paths of each policy are within the limits.
-use Rattle.std.specs.Prelude.{◌≡◌, ℕ, ◌==◌, ◌≤◌, ⊤, List, [], ◌∷◌, All, IfSome, find, map, reverse, Bool, Option, Some, None, Ok, if◌then◌else◌}
-use Rattle.std.specs.List.{flat_map}
+use Rattle.std.specs.Prelude.{◌≡◌, ℕ, ◌==◌, ◌≤◌, ⊤, List, [], All, IfSome, find, map, reverse, Bool, Option, Some, None, Ok}
 use Rattle.std.specs.Option.{option_map, unwrap_or}
 use Rattle.std.specs.Str.{bytes_eq}
 use Rattle.tpm_nv.specs.Indices.{index_of}

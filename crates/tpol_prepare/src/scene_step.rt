@@ -1,4 +1,4 @@
-ghost use Rattle.std.specs.Prelude.{◌≡◌, ◌++◌, true, IfSome, IfOk, ⊤, codes};
+ghost use Rattle.std.specs.Prelude.{◌≡◌, true, IfSome, IfOk, ⊤};
 ghost use Rattle.tpol_base.specs.Documents.{most_handed_out};
 ghost use Rattle.tpol_name.specs.Setups.{IsSetup};
 ghost use Rattle.tpol_scene.specs.Conditions.{HasClients, HasLimits, HasScript};

@@ -1,6 +1,6 @@
 -- An element that holds no other elements has no box and no branches, its PCR values are rising and its fields are
 -- within their bounds.
-use Rattle.std.proofs.Common.{◌≡◌, ◌^◌, ℕ, codes, Ok, refl, subst}
+use Rattle.std.proofs.Common.{◌≡◌, codes, Ok, refl, subst}
 use Rattle.std.specs.Int.{w32}
 use Rattle.std.specs.Prelude.{FitsSigned}
 use Rattle.serde_json.specs.Data.{Data}

@@ -17,8 +17,7 @@ use Rattle.tpol_tree.specs.Bounds.{PcrsHaveBounds}
 use Rattle.tpol_elements.specs.Faults.{bad}
 use Rattle.tpol_elements.specs.Members.{object_in, read_needed}
 use Rattle.tpol_elements.specs.Values.{unsigned_in}
-use Rattle.tpol_elements.specs.Pcrs.{PcrList, has_value, with_value, new_pcr_in, pcr_member, bank_member, value_member, pcr_value_in, pcr_values_from, wish_of_values, pcr_values_in, mask_in, current_pcrs_in, select_member, bank_in, only_bank, bank_or_list, banks_in, pcrs_at, pcrs_in}
-use Rattle.tpol_elements.specs.Walks.{still}
+use Rattle.tpol_elements.specs.Pcrs.{PcrList, has_value, with_value, new_pcr_in, pcr_member, bank_member, value_member, pcr_value_in, pcr_values_from, wish_of_values, mask_in, current_pcrs_in, select_member, bank_in, only_bank, bank_or_list, pcrs_at, pcrs_in}
 use Rattle.tpol_elements.specs.declared.fault.PolicyKind.TheVariants.{Missing, Twice}
 use Rattle.tpol_elements.specs.declared.walk.Walk.{Walk}
 use Rattle.tpol_tree.specs.declared.wishes.PcrWish.{PcrWish}

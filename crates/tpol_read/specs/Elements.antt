@@ -1,5 +1,5 @@
 -- Elements, ORs and lists of elements, in reading order. Boxes lie nowhere.
-use Rattle.std.specs.Prelude.{◌≡◌, ℕ, zero, suc, ◌-◌, ◌==◌, Bool, ◌&&◌, nat_le, List, [], ◌∷◌, codes, Option, Some, None, Ok, Err, if◌then◌else◌}
+use Rattle.std.specs.Prelude.{ℕ, zero, suc, ◌-◌, ◌==◌, Bool, ◌&&◌, nat_le, List, [], ◌∷◌, codes, Option, Some, None, Ok, if◌then◌else◌}
 use Rattle.serde_json.specs.Data.{Data, Items, no_items, item}
 use Rattle.serde_json.specs.Find.{as_array}
 use Rattle.tpol_json.specs.declared.place.Place.{Place}
@@ -8,7 +8,6 @@ use Rattle.tpol_elements.specs.declared.fault.PolicyKind.TheVariants as kinds
 use Rattle.tpol_elements.specs.declared.types.ElementType.{ElementType}
 use Rattle.tpol_elements.specs.declared.types.ElementType.TheVariants as types
 use Rattle.tpol_elements.specs.declared.types.LeafType.{LeafType}
-use Rattle.tpol_elements.specs.declared.walk.Walk.{Walk}
 use Rattle.tpol_elements.specs.Values.{text_in}
 use Rattle.tpol_base.specs.Answers.{◌>>=◌}
 use Rattle.tpol_elements.specs.Faults.{Found, bad}

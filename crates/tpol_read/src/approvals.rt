@@ -1,6 +1,6 @@
 //! The authorizations of a document.
 
-ghost use Rattle.std.specs.Prelude.{◌≡◌, [], map};
+ghost use Rattle.std.specs.Prelude.{[]};
 ghost use Rattle.serde_json.specs.View.{view, items_view};
 ghost use Rattle.tpol_read.specs.Approvals.{approval_in, approval_type_in, approvals_from, approvals_member, approvals_of, by_index, by_key, counted_approval, signature_member, type_of_approval};
 ghost use Rattle.serde_json.specs.Find.{as_array};

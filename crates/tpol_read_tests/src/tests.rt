@@ -14,10 +14,15 @@ fn answer(alloc: Global, document: &str) -> Result<Text, NoMemory> {
 
 fn text_of_notes(alloc: Global, notes: &Notes) -> Result<Text, NoMemory> {
     let mut text = Text::from_str(alloc, "ok")?;
-    for note in notes.as_slice() {
-        push_note(alloc, &mut text, note)?;
-    }
+    push_notes(alloc, &mut text, notes)?;
     Ok(text)
+}
+
+fn push_notes(alloc: Global, text: &mut Text, notes: &Notes) -> Result<(), NoMemory> {
+    for note in notes.as_slice() {
+        push_note(alloc, text, note)?;
+    }
+    Ok(())
 }
 
 fn push_note(alloc: Global, text: &mut Text, note: &Place) -> Result<(), NoMemory> {

@@ -1,6 +1,6 @@
 //! Stored policies.
 
-ghost use Rattle.std.specs.Prelude.{◌≡◌, [], find, option_map};
+ghost use Rattle.std.specs.Prelude.{◌≡◌, [], find};
 ghost use Rattle.std.specs.Option.{option_copied};
 ghost use Rattle.tpol_store.specs.Stores.{is_stored_as, policy_named, stored};
 

@@ -1,5 +1,5 @@
 -- What is told of the answer that a run came to.
-use Rattle.std.proofs.Common.{◌≡◌, Option, Some, None, List, Result, Ok, Err, IfSome, refl, sym, ap}
+use Rattle.std.proofs.Common.{◌≡◌, Option, Some, None, List, Result, Ok, Err, IfSome, sym, ap}
 use Rattle.tpol_base.specs.declared.document.Document.{Document}
 use Rattle.tpol_prepare.specs.declared.answer.Answer.{Answer}
 use Rattle.tpol_prepare.specs.declared.halt.Halt.{Halt}

@@ -1,5 +1,5 @@
 -- Lists of words of a length that no command has.
-use Rattle.std.proofs.Common.{◌≡◌, ℕ, ◌<◌, ◌≤◌, List, [], ◌∷◌, length, None, refl, arith}
+use Rattle.std.proofs.Common.{◌≡◌, ℕ, ◌≤◌, List, [], ◌∷◌, length, None, refl, arith}
 use Rattle.tpol_top.specs.Words.{request_of}
 
 -- more than three words

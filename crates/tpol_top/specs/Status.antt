@@ -37,10 +37,11 @@ IsWhole ShelfFault = ⊥
 IsWhole NoMemory = ⊥
 IsWhole _ = ⊤
 
--- the source or the shelf failed before anything was printed
+-- the source or the shelf failed, or memory ran out, before anything was printed
 abbrev pub IsSilent : Status → Type 0
 IsSilent ReadFault = ⊤
 IsSilent ShelfFault = ⊤
+IsSilent NoMemory = ⊤
 IsSilent _ = ⊥
 
 -- the source was read to its end, where the command reads it

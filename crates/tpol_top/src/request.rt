@@ -1,5 +1,4 @@
 ghost use Rattle.std.specs.Prelude.{◌≡◌, map, IfOk};
-ghost use Rattle.std.specs.Option.{option_map};
 ghost use Rattle.std.specs.String.{string_bytes};
 ghost use Rattle.tpol_top.specs.Words.{generation, request_of, name_request, one_word_request, policy_stem, reads_source_for, scene_request, three_word_request};
 

@@ -43,13 +43,7 @@ pub fn policy_main<S: Source, K: Sink, H: Shelf>(
         GrowsInPart (K.contents out.old) (K.contents out.new) (text_of report.answer.lines)
         × (H.documents shelf.new ≡ Some report.documents)) }
 
-    // Where memory ran out too; the shelf may then be as before.
-    ensures memory { result ≡ Status.NoMemory
-        → OfReport (map string_bytes words.now.items) (S.left source.old) (H.documents shelf.old) (λ report.
-        GrowsInPart (K.contents out.old) (K.contents out.new) (text_of report.answer.lines)
-        × ((H.documents shelf.new ≡ H.documents shelf.old) ⊎ (H.documents shelf.new ≡ Some report.documents))) }
-
-    // Where the source or the shelf failed, the sink was not called, and the shelf is as before.
+    // Where the source or the shelf failed or memory ran out, the sink was not called, and the shelf is as before.
     ensures silent { IsSilent result → out.new ≡ out.old }
     ensures unchanged { IsSilent result → H.documents shelf.new ≡ H.documents shelf.old }
 

@@ -1,12 +1,13 @@
-//! Sessions that went a branch of a policy. A clash and a string of digest zero can not be made up.
+//! Sessions that went a branch of a policy. A clash and a string of digest zero can not be made up. `docs/check` compares
+//! the openings of whole scenes, as the built program prints them.
 
-ghost use Rattle.std.specs.Prelude.{◌≡◌, true, false, All, IfOk, IsTrue};
+ghost use Rattle.std.specs.Prelude.{◌≡◌, ◌+◌, true, false, All, IfOk, IsTrue};
 ghost use Rattle.tpol_digest.specs.Sound.{Among, IsSound, IsSoundFrom, Meets, moves_of_facts};
 ghost use Rattle.tpol_digest.specs.Digest.{digest_of_moves, policy_digest, zero_digest};
 ghost use Rattle.tpol_digest.specs.Update.{joined};
 ghost use Rattle.tpol_digest.specs.WellFormed.{HasPcrDigest, IsWellFormed, IsWellFormedDocument, IsWellFormedPolicy};
 ghost use Rattle.tpol_hash.specs.Sha256.{sha256_digest};
-ghost use Rattle.tpol_tree.specs.Closed.{ApprovalsLead, ApprovalsLeadElement, EachAssertion, EachAssertionOfElement, ElementHasBranchCounts, HasBranchCounts};
+ghost use Rattle.tpol_tree.specs.Closed.{ApprovalsLead, ApprovalsLeadBranches, ApprovalsLeadElement, BranchesHaveBranchCounts, EachAssertion, EachAssertionOfBranches, EachAssertionOfElement, ElementHasBranchCounts, HasBranchCounts, branch_count};
 
 use std::alloc::Global;
 use std::test::Fail;
@@ -97,13 +98,23 @@ fn before(
     Ok(ClosedElements::More(Box::new(alloc, element)?, Box::new(alloc, rest)?))
 }
 
-fn branch(alloc: Global, name: &str, elements: ClosedElements) -> Result<ClosedBranch, NoMemory>
-    ensures { IfOk result (λ branch. branch.policy.elements ≡ elements) }
+// A branch before others.
+fn branch_before(
+    alloc: Global,
+    name: &str,
+    elements: ClosedElements,
+    rest: ClosedBranches,
+) -> Result<ClosedBranches, NoMemory>
+    ensures lead { IfOk result (λ all. ApprovalsLead true elements → ApprovalsLeadBranches true rest → ApprovalsLeadBranches true all) }
+    ensures digests { IfOk result (λ all. EachAssertion HasPcrDigest elements → EachAssertionOfBranches HasPcrDigest rest → EachAssertionOfBranches HasPcrDigest all) }
+    ensures counts { IfOk result (λ all. HasBranchCounts elements → BranchesHaveBranchCounts rest → BranchesHaveBranchCounts all) }
+    ensures count { IfOk result (λ all. branch_count all ≡ branch_count rest + 1) }
 {
-    Ok(ClosedBranch {
+    let branch = ClosedBranch {
         name: Text::from_str(alloc, name)?,
         policy: Closed { elements },
-    })
+    };
+    Ok(ClosedBranches::More(Box::new(alloc, branch)?, Box::new(alloc, rest)?))
 }
 
 // An OR of two branches of these names.
@@ -117,14 +128,8 @@ fn either(
     ensures digests { IfOk result (λ element. EachAssertion HasPcrDigest first → EachAssertion HasPcrDigest second → EachAssertionOfElement HasPcrDigest element) }
     ensures counts { IfOk result (λ element. HasBranchCounts first → HasBranchCounts second → ElementHasBranchCounts element) }
 {
-    let first = branch(alloc, names[0], first)?;
-    let second = branch(alloc, names[1], second)?;
-    let last = ClosedBranches::More(
-        Box::new(alloc, second)?,
-        Box::new(alloc, ClosedBranches::End)?,
-    );
-    let branches = ClosedBranches::More(Box::new(alloc, first)?, Box::new(alloc, last)?);
-    Ok(ClosedElement::Or(branches))
+    let last = branch_before(alloc, names[1], second, ClosedBranches::End)?;
+    Ok(ClosedElement::Or(branch_before(alloc, names[0], first, last)?))
 }
 
 fn is_same(a: &Digest32, b: &Digest32) -> bool
@@ -355,28 +360,6 @@ fn disk_by_its_first_branch(rt: HostRuntime) -> Result<(), Fail> {
     let approvals = Approvals::new(rt.alloc());
     let facts = boot_facts(rt.alloc());
     let answer = opens(rt.alloc(), &policy, &approvals, facts, 1, &[2, 3, 4]);
-    drop(policy);
-    drop(approvals);
-    assert!(rt; answer);
-    Ok(())
-}
-
-fn owner_facts(alloc: Global) -> Result<Facts, NoMemory> {
-    let digests = disk_digests(alloc)?;
-    let secret = secret(alloc, &[])?;
-    let mut facts = Facts::new(alloc)?;
-    facts.push(fact(3, Move::Assert(secret)));
-    facts.push(fact(4, Move::Assert(Assertion::CommandCode(UNSEAL))));
-    facts.push(fact(5, Move::Or(digests)));
-    Ok(facts)
-}
-
-#[test]
-fn disk_by_its_second_branch(rt: HostRuntime) -> Result<(), Fail> {
-    let policy = disk(rt.alloc())?;
-    let approvals = Approvals::new(rt.alloc());
-    let facts = owner_facts(rt.alloc());
-    let answer = opens(rt.alloc(), &policy, &approvals, facts, 2, &[3, 4, 5]);
     drop(policy);
     drop(approvals);
     assert!(rt; answer);

@@ -19,9 +19,10 @@ use Rattle.tpol_wire.specs.Authorizations.{spell_reply_auth, ReplyAuthFits, tail
 use Rattle.tpol_wire.specs.Commands.{Values, spell_values, ValuesFit, tag}
 use Rattle.tpol_fields.specs.Kinds.{number_at, bytes_at}
 use Rattle.tpol_wire.specs.Reading.{reply_at}
-use Rattle.tpol_wire.specs.Replies.{Parts, Served, Refusal, parts_of, reply_of, reply_body, reply_layout, refusal_tag, spell_parts, AuthFits, PartsFit, PartsAnswer, SpellsReply}
+use Rattle.tpol_wire.specs.Replies.{Parts, Served, Refusal, parts_of, reply_of, reply_body, refusal_tag, spell_parts, AuthFits, PartsFit, PartsAnswer, SpellsReply}
 use Rattle.tpol_wire.specs.ReplyReading.{◌>>=◌, all_fields_of, reply_auth_of, served_at, refusal_of, answer_of, reply_reading}
 use Rattle.tpol_wire.specs.Rows.{row}
+use Rattle.tpol_wire.specs.Spellings.{message_bytes}
 use Rattle.tpol_fields.proofs.Takes.{IsBytes, neither, wide16, wide32, number_takes, number_again, bytes_take, bytes_again}
 use Rattle.tpol_fields.proofs.KindLaws.{both}
 use Rattle.tpol_wire.proofs.AuthorizationLaws.{tail_found, tail_again, tail_length}
@@ -190,22 +191,22 @@ zero_or_not : (n : ℕ) (b : Bool) → eqb n 0 ≡ b → (n ≡ 0) ⊎ ((b ≡ f
 zero_or_not n true h = inl (eqb-true _ _ h)
 zero_or_not n false h = inr (refl, λ e. let t : eqb n 0 ≡ true = eq-eqb n 0 e in cc)
 
-served_spells : (number : ℕ) (bytes rest : List ℕ) (t : ℕ) (x : Reply × Option ReplyAuth) → IsBytes rest → bytes ≡ reply_layout t 0 rest → answer_of (code_of_number number) t rest ≡ Some x → SpellsReply number bytes x.0 x.1
+served_spells : (number : ℕ) (bytes rest : List ℕ) (t : ℕ) (x : Reply × Option ReplyAuth) → IsBytes rest → bytes ≡ message_bytes t 0 rest → answer_of (code_of_number number) t rest ≡ Some x → SpellsReply number bytes x.0 x.1
 served_spells number bytes rest t x fits whole e =
     let a = answer_ok (code_of_number number) t rest x e in
     let f = served_found a.code (row a.code).is_authorized rest x fits a.served in
-    let spelled : bytes ≡ spell_parts (Served a.code f.values) x.1 = whole ∙ ap (λ (k : ℕ). reply_layout k 0 rest) a.tag-is ∙ ap (λ (r : List ℕ). reply_layout (tag (row a.code).is_authorized) 0 r) f.whole in
+    let spelled : bytes ≡ spell_parts (Served a.code f.values) x.1 = whole ∙ ap (λ (k : ℕ). message_bytes k 0 rest) a.tag-is ∙ ap (λ (r : List ℕ). message_bytes (tag (row a.code).is_authorized) 0 r) f.whole in
     let parts : Served a.code f.values ≡ parts_of x.0 = sym (made_again a.code f.values) ∙ ap parts_of f.made in
     spells_reply number bytes x.0 x.1 (subst (λ (p : Parts). IsReply number bytes x.1 p) parts (spelled, (f.fits, f.auth-fits), code_found number a.code a.known))
 
-refused_spells : (number : ℕ) (bytes rest : List ℕ) (t n : ℕ) (x : Reply × Option ReplyAuth) → n < 2 ^ 32 → n ≢ 0 → bytes ≡ reply_layout t n rest → refusal_of t n rest ≡ Some x → SpellsReply number bytes x.0 x.1
+refused_spells : (number : ℕ) (bytes rest : List ℕ) (t n : ℕ) (x : Reply × Option ReplyAuth) → n < 2 ^ 32 → n ≢ 0 → bytes ≡ message_bytes t n rest → refusal_of t n rest ≡ Some x → SpellsReply number bytes x.0 x.1
 unfolding refusal_of
 refused_spells number bytes rest t n x below not-zero whole e =
     let made : Reply × Option ReplyAuth = (replies.Refused (record { code = n }), None) in
     let g = chosen_some (eqb t (refusal_tag n) && eqb (length rest) 0) (Some made) x e in
     let b = both (eqb t (refusal_tag n)) (eqb (length rest) 0) g.0 in
     let nothing : rest ≡ [] = nil_from_length rest (eqb-true _ _ b.1) in
-    let spelled : bytes ≡ reply_layout (refusal_tag n) n [] = whole ∙ ap (λ (k : ℕ). reply_layout k n rest) (eqb-true _ _ b.0) ∙ ap (λ (r : List ℕ). reply_layout (refusal_tag n) n r) nothing in
+    let spelled : bytes ≡ message_bytes (refusal_tag n) n [] = whole ∙ ap (λ (k : ℕ). message_bytes k n rest) (eqb-true _ _ b.0) ∙ ap (λ (r : List ℕ). message_bytes (refusal_tag n) n r) nothing in
     subst (λ (y : Reply × Option ReplyAuth). SpellsReply number bytes y.0 y.1) (some_is made x g.1) (record { whole = spelled; fits = (not-zero, below, refl); answers = tt })
 
 reply_found : (number : ℕ) (bytes : List ℕ) (x : Reply × Option ReplyAuth) → IsBytes bytes → reply_reading number bytes ≡ Some x → SpellsReply number bytes x.0 x.1
@@ -223,13 +224,13 @@ reply_found number bytes x fits e =
     let l : length bytes ≡ length (to_be_bytes w16 a.0.0 ++ (to_be_bytes w32 b.0.0 ++ (to_be_bytes w32 c.0.0 ++ c.0.1))) = ap length e0 in
     let long : length bytes ≡ 10 + length c.0.1 = omega arith in
     let size : b.0.0 ≡ 10 + length c.0.1 = eqb-true _ _ g.0 ∙ long in
-    let whole : bytes ≡ reply_layout a.0.0 c.0.0 c.0.1 = e0 ∙ ap (λ (n : ℕ). to_be_bytes w16 a.0.0 ++ (to_be_bytes w32 n ++ (to_be_bytes w32 c.0.0 ++ c.0.1))) size in
+    let whole : bytes ≡ message_bytes a.0.0 c.0.0 c.0.1 = e0 ∙ ap (λ (n : ℕ). to_be_bytes w16 a.0.0 ++ (to_be_bytes w32 n ++ (to_be_bytes w32 c.0.0 ++ c.0.1))) size in
     let answer = answer_of (code_of_number number) a.0.0 c.0.1 in
     let refusal = refusal_of a.0.0 c.0.0 c.0.1 in
     elim (zero_or_not c.0.0 (eqb c.0.0 0) refl) [
       | inl zero-is ↦
           let picked : answer ≡ Some x = sym (ap (λ (n : ℕ). cond (eqb n 0) answer refusal) zero-is) ∙ g.1 in
-          served_spells number bytes c.0.1 a.0.0 x t2.0.rest_fits (subst (λ (n : ℕ). bytes ≡ reply_layout a.0.0 n c.0.1) zero-is whole) picked
+          served_spells number bytes c.0.1 a.0.0 x t2.0.rest_fits (subst (λ (n : ℕ). bytes ≡ message_bytes a.0.0 n c.0.1) zero-is whole) picked
       | inr other ↦
           let picked : refusal ≡ Some x = sym (ap (λ (v : Bool). cond v answer refusal) other.0) ∙ g.1 in
           refused_spells number bytes c.0.1 a.0.0 c.0.0 x t2.1 other.1 whole picked

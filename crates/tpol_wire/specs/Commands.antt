@@ -1,6 +1,5 @@
 -- The fields of commands in their rows, and what bytes spell a command.
-use Rattle.std.specs.Prelude.{◌≡◌, ◌+◌, ℕ, zero, suc, Bool, true, false, List, [], ◌∷◌, ◌++◌, length}
-use Rattle.std.specs.Int.{w16, w32, to_be_bytes}
+use Rattle.std.specs.Prelude.{◌≡◌, ℕ, zero, suc, Bool, true, false, List, [], ◌∷◌, ◌++◌}
 use Rattle.tpol_base.specs.Constants.{st_no_sessions, st_sessions}
 use Rattle.tpol_wire.specs.declared.command.Command.{Command}
 use Rattle.tpol_wire.specs.declared.command.Command.TheVariants as commands
@@ -10,6 +9,7 @@ use Rattle.tpol_wire.specs.Authorizations.{AreaOf, authorization, AuthorizationF
 use Rattle.tpol_base.specs.CommandCode.{number_of_code}
 use Rattle.tpol_fields.specs.Kinds.{Kind, ValueOf, spell, Fits}
 use Rattle.tpol_wire.specs.Rows.{Row, row}
+use Rattle.tpol_wire.specs.Spellings.{message_bytes}
 
 -- ---- the fields of a row
 
@@ -156,9 +156,9 @@ tag false = st_no_sessions
 abbrev pub body : (code : CommandCode) → Fields (row code) → List ℕ
 body code fields = spell_values (row code).handles fields.handles ++ authorization (row code).is_authorized fields.area ++ spell_values (row code).parameters fields.parameters
 
--- tag, size, code, and the body
+-- the body behind its header
 abbrev pub layout : (code : CommandCode) → Fields (row code) → List ℕ
-layout code fields = to_be_bytes w16 (tag (row code).is_authorized) ++ to_be_bytes w32 (10 + length (body code fields)) ++ to_be_bytes w32 (number_of_code code) ++ body code fields
+layout code fields = message_bytes (tag (row code).is_authorized) (number_of_code code) (body code fields)
 
 pub record FieldsFit (code : CommandCode) (fields : Fields (row code)) : Type 0 where
   pub handles : ValuesFit (row code).handles fields.handles

@@ -1,6 +1,6 @@
 -- Replies: their fields in their rows, what bytes spell a reply, and how one is read.
-use Rattle.std.specs.Prelude.{◌≡◌, ◌≢◌, ◌<◌, ◌+◌, ◌^◌, ◌==◌, ℕ, Bool, true, false, List, [], ◌++◌, length, Option, Some, None, Result, Ok, Err, if◌then◌else◌}
-use Rattle.std.specs.Int.{w16, w32, to_be_bytes}
+use Rattle.std.specs.Prelude.{◌≡◌, ◌≢◌, ◌<◌, ◌^◌, ◌==◌, ℕ, Bool, true, false, List, [], ◌++◌, length, Option, Some, None, Result, Ok, Err, if◌then◌else◌}
+use Rattle.std.specs.Int.{w32, to_be_bytes}
 use Rattle.tpol_base.specs.declared.rc.Rc.{Rc}
 use Rattle.tpol_wire.specs.declared.auth_area.ReplyAuth.{ReplyAuth}
 use Rattle.tpol_wire.specs.declared.reply.Reply.{Reply}
@@ -13,6 +13,7 @@ use Rattle.tpol_wire.specs.Commands.{Values, spell_values, ValuesFit, tag}
 use Rattle.tpol_base.specs.Constants.{st_no_sessions, st_rsp_command}
 use Rattle.tpol_base.specs.ResponseCode.{rc_bad_tag}
 use Rattle.tpol_wire.specs.Rows.{row}
+use Rattle.tpol_wire.specs.Spellings.{message_bytes}
 
 -- a reply taken apart: the fields behind the code 0, or the code of a refusal
 pub data Parts : Type 0 where
@@ -112,17 +113,13 @@ abbrev pub reply_body : List ℕ → Option ReplyAuth → List ℕ
 reply_body fields None = fields
 reply_body fields (Some auth) = to_be_bytes w32 (length fields) ++ fields ++ spell_reply_auth auth
 
--- tag, size, code and what stands behind
-abbrev pub reply_layout : ℕ → ℕ → List ℕ → List ℕ
-reply_layout tag code body = to_be_bytes w16 tag ++ to_be_bytes w32 (10 + length body) ++ to_be_bytes w32 code ++ body
-
 -- the tag of a refusal: that of TPM 1.2 where the tag was refused
 abbrev pub refusal_tag : ℕ → ℕ
 refusal_tag code = if code == rc_bad_tag then st_rsp_command else st_no_sessions
 
 abbrev pub spell_parts : Parts → Option ReplyAuth → List ℕ
-spell_parts (Served code values) auth = reply_layout (tag (row code).is_authorized) 0 (reply_body (spell_values (row code).reply values) auth)
-spell_parts (Refusal rc) auth = reply_layout (refusal_tag rc.code) rc.code []
+spell_parts (Served code values) auth = message_bytes (tag (row code).is_authorized) 0 (reply_body (spell_values (row code).reply values) auth)
+spell_parts (Refusal rc) auth = message_bytes (refusal_tag rc.code) rc.code []
 
 -- an authorization is there exactly where the row has one, and it is within its bounds
 abbrev pub AuthFits : Bool → Option ReplyAuth → Type 0

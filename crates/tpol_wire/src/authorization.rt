@@ -1,10 +1,10 @@
 //! Authorizations as they are read and written (TPM 2.0 Part 2, TPMS_AUTH_COMMAND and TPMS_AUTH_RESPONSE).
 #![tactic(auto, unfolding(crate::specs::Authorizations::tail_of, crate::specs::Authorizations::area_of, crate::specs::Authorizations::sized_area, crate::specs::Authorizations::judged, crate::specs::Authorizations::area_at, tpol_fields::specs::Kinds::sized_at))]
 
-ghost use Rattle.std.specs.Prelude.{◌≡◌, ◌==◌, ◌||◌, length, List, ℕ, Bool, true, false};
+ghost use Rattle.std.specs.Prelude.{◌==◌, ◌||◌, length, true};
 ghost use Rattle.tpol_fields.specs.Answers.{Gives, Reads};
 ghost use Rattle.tpol_wire.specs.Answers.{Finds, FindsFront, FindsSlice, Judges};
-ghost use Rattle.tpol_wire.specs.Authorizations.{area_at, area_of, area_with, authorization, is_auth_session, judged, no_area, sized_area, spell_tail, tail_of};
+ghost use Rattle.tpol_wire.specs.Authorizations.{area_at, area_of, area_with, authorization, judged, no_area, sized_area, spell_tail, tail_of};
 ghost use Rattle.tpol_fields.specs.Kinds.{is_any_length, sized_at};
 ghost use Rattle.tpol_fields.specs.Spellings.{Appends};
 

@@ -1,6 +1,6 @@
 //! Commands and replies behind their headers.
 
-ghost use Rattle.std.specs.Prelude.{◌≡◌, IfOk, List, ℕ};
+ghost use Rattle.std.specs.Prelude.{◌≡◌, IfOk};
 ghost use Rattle.tpol_wire.specs.Spellings.{message_bytes};
 
 use std::alloc::Global;

@@ -1,6 +1,6 @@
 //! Bytes as a command.
 
-ghost use Rattle.std.specs.Prelude.{◌≡◌, IfOk, OnOk, Ok, drop, length, List, ℕ};
+ghost use Rattle.std.specs.Prelude.{◌≡◌, IfOk, OnOk, Ok, drop, length};
 ghost use Rattle.tpol_base.specs.CommandCode.{code_of_number};
 ghost use Rattle.tpol_fields.specs.Answers.{Gives, Reads};
 ghost use Rattle.tpol_wire.specs.Answers.{RefusesBy};

@@ -1,6 +1,6 @@
 //! Replies as bytes.
 
-ghost use Rattle.std.specs.Prelude.{◌≡◌, List, ℕ, IfOk, option_copied};
+ghost use Rattle.std.specs.Prelude.{◌≡◌, ℕ, IfOk, option_copied};
 ghost use Rattle.tpol_wire.specs.Replies.{FitsReply, PartsAnswer, SpellsReply, answered_by, parts_of, reply_body, reply_fields_of, spell_reply};
 ghost use Rattle.tpol_fields.specs.Spellings.{Appends};
 

@@ -1,9 +1,9 @@
 //! Commands as bytes.
 
-ghost use Rattle.std.specs.Prelude.{◌≡◌, IfOk, List, ℕ, option_copied, true, false};
+ghost use Rattle.std.specs.Prelude.{◌≡◌, IfOk, option_copied, false};
 ghost use Rattle.tpol_base.specs.CommandCode.{number_of_code};
 ghost use Rattle.tpol_wire.specs.Authorizations.{authorization};
-ghost use Rattle.tpol_wire.specs.Commands.{code_of_command, FitsCommand, fields_of, is_assertion, spelling as spelled, Spells, spell_front, spell_parameters, spell_value, spell_values, tag};
+ghost use Rattle.tpol_wire.specs.Commands.{code_of_command, FitsCommand, fields_of, is_assertion, spelling as spelled, Spells, spell_front, spell_parameters, spell_value, spell_values};
 ghost use Rattle.tpol_wire.specs.Rows.{row};
 ghost use Rattle.tpol_fields.specs.Spellings.{Appends};
 ghost use Rattle.tpol_wire.specs.Spellings.{spell_handle, spell_optional_area};

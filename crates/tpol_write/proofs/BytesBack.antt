@@ -1,5 +1,5 @@
 -- What canonical text writes of bytes, digests, texts and numbers reads back, wherever it stands.
-use Rattle.std.proofs.Common.{◌≡◌, ℕ, ◌≤◌, ◌^◌, ◌-◌, ◌==◌, nat_le, Bool, leb, ℤ, pos, negsuc, unsigned_abs, ◌≤ℤ◌, List, length, Ok, ap, ◌∙◌, arith, le-leb, if◌then◌else◌}
+use Rattle.std.proofs.Common.{◌≡◌, ℕ, ◌≤◌, ◌^◌, ◌-◌, ◌==◌, Bool, leb, ℤ, pos, negsuc, unsigned_abs, ◌≤ℤ◌, List, length, Ok, ap, ◌∙◌, arith, le-leb, if◌then◌else◌}
 use Rattle.std.proofs.lemmas.Bool.{leb-true, cond-true}
 use Rattle.std.proofs.lemmas.Float.{T_from_true}
 use Rattle.hex.specs.Hex.{IsBytes}

@@ -4,9 +4,9 @@ use Rattle.std.specs.Int.{bit_at}
 use Rattle.std.specs.List.{range_with_len}
 use Rattle.std.specs.Prelude.{filter}
 use Rattle.std.proofs.lemmas.Bool.{ltb-true, ltb-false, le-ltb, eqb-false, ne_eqb}
-use Rattle.std.proofs.lemmas.Nat.{or_lt, or_disjoint, pow_below, pow_pos, mod-pow-add, mod_below, le_or_r}
+use Rattle.std.proofs.lemmas.Nat.{or_disjoint, pow_pos, mod-pow-add, mod_below}
 use Rattle.std.proofs.lemmas.Nat.Bits.{and_pow, bit_at_above, bit_at-lt}
-use Rattle.serde_json.specs.Data.{Data, null, boolean, number, string, array, object, Items, no_items, item}
+use Rattle.serde_json.specs.Data.{Data, Items, no_items, item}
 use Rattle.serde_json.specs.Find.{get, as_array}
 use Rattle.serde_json.specs.View.{items_of}
 use Rattle.tpol_base.specs.declared.digest.Digest32.{Digest32}
@@ -19,7 +19,6 @@ use Rattle.tpol_tree.specs.Bounds.{LocalityHasBounds}
 use Rattle.tpol_write.proofs.BytesBack.{bound, unsigned-back, digest-back}
 use Rattle.tpol_write.proofs.OneBack.{one_of-back}
 use Rattle.tpol_write.proofs.WishesBack.{Leaving, all_still}
-use Rattle.tpol_json.specs.Words.{same_word}
 use Rattle.tpol_json.specs.Places.{at_member, at_item}
 use Rattle.tpol_json.specs.declared.place.Place.{Place}
 use Rattle.tpol_json.proofs.AllFound.{AllFound, all_after, all_then, all_map, needed-fits}
@@ -28,9 +27,8 @@ use Rattle.tpol_elements.specs.Values.{digest_in, unsigned_in}
 use Rattle.tpol_elements.specs.Faults.{Found, bad}
 use Rattle.tpol_elements.specs.Members.{object_in, noted}
 use Rattle.tpol_elements.specs.Localities.{locality_in}
-use Rattle.tpol_elements.specs.Pcrs.{PcrList, has_value, with_value, new_pcr_in, pcr_member, bank_member, value_member, pcr_value_in, pcr_values_from, wish_of_values, pcr_values_in, pcr_bit, mask_from, mask_of_list, mask_in, current_pcrs_in, select_member, bank_in, only_bank, bank_or_list, banks_in, pcrs_at, pcrs_in}
+use Rattle.tpol_elements.specs.Pcrs.{PcrList, has_value, with_value, new_pcr_in, pcr_member, bank_member, value_member, pcr_value_in, pcr_values_from, wish_of_values, pcr_bit, mask_from, mask_in, current_pcrs_in, select_member, bank_in, only_bank, bank_or_list, pcrs_at, pcrs_in}
 use Rattle.tpol_elements.specs.Walks.{still}
-use Rattle.tpol_elements.specs.declared.fault.PolicyKind.{PolicyKind}
 use Rattle.tpol_elements.specs.declared.fault.PolicyKind.TheVariants.{Missing, Twice}
 use Rattle.tpol_elements.specs.declared.walk.Walk.{Walk}
 use Rattle.tpol_tree.specs.declared.wishes.PcrWish.{PcrWish}

@@ -1,12 +1,10 @@
 -- Names and public areas read back.
-use Rattle.std.proofs.Common.{◌≡◌, ℕ, zero, suc, ◌+◌, ◌^◌, ◌-◌, ◌≤◌, ◌<◌, ◌==◌, ◌&&◌, Bool, true, false, List, [], ◌∷◌, ◌++◌, length, codes, drop, slice_index, Option, Some, None, Ok, refl, sym, ap, subst, ◌∙◌, arith, if◌then◌else◌, eqb-true, append-nil, length-drop, get_or-drop}
-use Rattle.std.proofs.lemmas.Bool.{and_parts}
+use Rattle.std.proofs.Common.{◌≡◌, ℕ, zero, suc, ◌^◌, ◌-◌, ◌≤◌, Bool, true, false, List, [], ◌∷◌, ◌++◌, length, codes, Option, Some, None, Ok, refl, ap, ◌∙◌, arith, append-nil}
 use Rattle.std.proofs.lemmas.Nat.{from_be_bytes-to_be_bytes_4}
-use Rattle.std.specs.Int.{from_be_bytes, w32}
 use Rattle.hex.specs.Hex.{IsBytes}
 use Rattle.serde_json.specs.Data.{Data, null, boolean, number, string, array, object, Members, no_members, member}
 use Rattle.serde_json.specs.Find.{get}
-use Rattle.tpol_base.proofs.Digests.{digest_again, digest_of_whole}
+use Rattle.tpol_base.proofs.Digests.{digest_again}
 use Rattle.tpol_base.specs.Digest.{digest_of_bytes}
 use Rattle.tpol_base.specs.Name.{name_bytes, name_of_bytes}
 use Rattle.tpol_base.specs.declared.name.Name.{Name}

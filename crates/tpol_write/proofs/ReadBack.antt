@@ -1,5 +1,5 @@
 -- What canonical text writes reads back.
-use Rattle.std.proofs.Common.{◌≡◌, ◌≢◌, ℕ, ◌/◌, ◌%◌, ◌<◌, ◌^◌, ◌==◌, Bool, true, false, ◌&&◌, List, [], ◌∷◌, slice_index, Some, None, Ok, ℤ, pos, negsuc, ◌≤ℤ◌, ◌-◌, leb, T, refl, sym, ap, ◌∙◌, arith, lt-ltb, ne_eqb, codes, nat_eq, drop, if◌then◌else◌, unwrap_or}
+use Rattle.std.proofs.Common.{◌≡◌, ◌≢◌, ℕ, ◌/◌, ◌%◌, ◌<◌, ◌^◌, ◌==◌, Bool, true, false, ◌&&◌, List, [], ◌∷◌, slice_index, Some, None, Ok, ℤ, pos, negsuc, ◌≤ℤ◌, ◌-◌, leb, refl, sym, ap, ◌∙◌, arith, lt-ltb, ne_eqb, codes, nat_eq, drop, if◌then◌else◌, unwrap_or}
 use Rattle.std.proofs.lemmas.Bool.{leb-true}
 use Rattle.std.specs.List.{starts_with}
 use Rattle.std.specs.Prelude.{int_le}

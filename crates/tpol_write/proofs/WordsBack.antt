@@ -1,5 +1,5 @@
 -- Words and codes read back.
-use Rattle.std.proofs.Common.{◌≡◌, ℕ, zero, suc, ◌+◌, ◌*◌, ◌/◌, ◌%◌, ◌^◌, ◌-◌, ◌≤◌, ◌<◌, ◌==◌, nat_lt, nat_le, Bool, true, false, ◌&&◌, ◌||◌, List, [], ◌∷◌, ◌++◌, codes, slice_index, Option, Some, None, unwrap_or, Ok, pos, refl, sym, ap, ◌∙◌, arith, if◌then◌else◌, ltb-true, eqb-true, option_and_then, unsigned_abs, le-leb, not}
+use Rattle.std.proofs.Common.{◌≡◌, ℕ, zero, suc, ◌+◌, ◌*◌, ◌/◌, ◌%◌, ◌^◌, ◌-◌, ◌<◌, ◌==◌, nat_le, Bool, true, false, ◌&&◌, ◌||◌, List, [], ◌∷◌, ◌++◌, codes, slice_index, Option, Some, None, unwrap_or, Ok, pos, refl, sym, ap, ◌∙◌, arith, if◌then◌else◌, eqb-true, unsigned_abs, le-leb, not}
 use Rattle.std.proofs.lemmas.Bool.{and_parts, agree_below_at, and_from, cond-true}
 use Rattle.std.proofs.lemmas.Nat.{from_be_bytes-to_be_bytes_4}
 use Rattle.std.specs.Char.{digit_value, to_ascii_lowercase}
@@ -10,7 +10,6 @@ use Rattle.std.specs.Str.Parse.{digits_value, digits_value_after}
 use Rattle.std.specs.Str.{bytes_eq, str_to_ascii_lowercase}
 use Rattle.hex.specs.Hex.{encode_lower, encode_with, lower_digits, IsBytes}
 use Rattle.serde_json.specs.Data.{Data, string}
-use Rattle.serde_json.specs.Find.{as_str}
 use Rattle.tpol_base.specs.declared.compare.Compare.{Compare}
 use Rattle.tpol_base.specs.declared.compare.Compare.TheVariants.{Eq, Neq, SignedGt, UnsignedGt, SignedLt, UnsignedLt, SignedGe, UnsignedGe, SignedLe, UnsignedLe, BitSet, BitClear}
 use Rattle.tpol_base.specs.CommandCode.{command_codes, find_name}
@@ -24,7 +23,7 @@ use Rattle.tpol_json.specs.Words.{find_word, same_word}
 use Rattle.tpol_json.specs.declared.place.Place.{Place}
 use Rattle.tpol_json.proofs.AllFound.{AllFound, all_map}
 use Rattle.tpol_base.specs.Answers.{◌>>=◌}
-use Rattle.tpol_elements.specs.Faults.{Found, read_as}
+use Rattle.tpol_elements.specs.Faults.{read_as}
 use Rattle.tpol_elements.specs.Operations.{operation_in, code_in}
 use Rattle.tpol_elements.specs.Values.{u32_in}
 use Rattle.tpol_elements.specs.Words.{found_or}

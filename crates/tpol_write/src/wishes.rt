@@ -2,7 +2,7 @@
 
 ghost use Rattle.std.specs.Prelude.{◌≡◌, OnOk};
 ghost use Rattle.serde_json.specs.Data.{put as with_member};
-ghost use Rattle.serde_json.specs.View.{view, members_view};
+ghost use Rattle.serde_json.specs.View.{members_view};
 ghost use Rattle.tpol_write.specs.Objects.{with_members};
 ghost use Rattle.tpol_write.specs.Wishes.{key_member, index_member, entity_member, name_value, parent_member, cp_hash_members};
 

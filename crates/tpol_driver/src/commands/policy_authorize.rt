@@ -1,7 +1,6 @@
 //! VerifySignature and the PolicyAuthorize that takes its ticket (TPM 2.0 Part 3).
 
 ghost use Rattle.std.specs.Prelude.{◌≡◌, IfOk};
-ghost use Rattle.std.specs.Option.{option_copied};
 ghost use Rattle.tpol_driver.specs.Commands.{approval_command, verify_signature};
 
 use crate::commands::handles;

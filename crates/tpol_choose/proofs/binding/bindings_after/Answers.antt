@@ -1,4 +1,4 @@
-use Rattle.std.proofs.Common.{[], ◌∷◌, ◌++◌, sym, ap, ◌∙◌}
+use Rattle.std.proofs.Common.{[], ◌∷◌, ◌++◌, ap, ◌∙◌}
 use Rattle.tpm_bindings.specs.Merged.{fact_of, merged}
 use Rattle.tpol_choose.specs.Acts.{move_of}
 use Rattle.tpol_choose.specs.Facts.{cp_hash_of, deadline_of_move}

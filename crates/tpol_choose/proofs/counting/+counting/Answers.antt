@@ -1,11 +1,11 @@
-use Rattle.std.proofs.Common.{◌+◌, ◌-◌, ◌<◌, ◌≤◌, ◌*◌, ◌≡◌, [], take, refl, min, subst, sym, ap, ◌∙◌, arith}
+use Rattle.std.proofs.Common.{◌+◌, ◌<◌, ◌≤◌, ◌≡◌, take, refl, min, subst, sym, ◌∙◌, arith}
 use Rattle.std.proofs.lemmas.List.{take_all}
 use Rattle.tpol_tree.specs.Closed.{HasBranchCounts}
-use Rattle.tpol_digest.specs.Extent.{extent_by_approval, extent_at_element, extent_at, document_extent}
+use Rattle.tpol_digest.specs.Extent.{extent_by_approval, document_extent}
 use Rattle.tpol_digest.proofs.Weights.{weight, greatest, weight-lt-greatest, level_less}
-use Rattle.tpol_digest.proofs.Extents.{document_extent-none, extent_at-positive, extent_at_element-positive}
+use Rattle.tpol_digest.proofs.Extents.{document_extent-none}
 use Rattle.tpol_choose.specs.Counts.{IsCount}
-use Rattle.tpol_choose.proofs.Counted.{count_both, count_past, count_entered, count_passed}
+use Rattle.tpol_choose.proofs.Counted.{count_past, count_entered, count_passed}
 use Rattle.tpol_choose.proofs.counting.+counting.Goals as goal
 use Rattle.tpol_choose.proofs.counting.+counting.Goals.{count_documents-then-accepts, count_documents-else-accepts}
 

@@ -1,4 +1,4 @@
-use Rattle.std.proofs.Common.{sym, ap, ◌∙◌, subst}
+use Rattle.std.proofs.Common.{sym, ap, subst}
 use Rattle.tpm_rules.specs.Rule.{Breaks, or_else}
 use Rattle.tpol_choose.specs.Goals.{authorization_block, judged, judged_block, own_block}
 use Rattle.tpol_choose.specs.Lent.{client_of_lent}

@@ -1,4 +1,4 @@
-use Rattle.std.proofs.Common.{◌∙◌, ◌++◌, [], ◌∷◌, sym, ap, take, max, rules}
+use Rattle.std.proofs.Common.{◌∙◌, ◌++◌, [], ◌∷◌, sym, ap, take, max}
 use Rattle.std.proofs.lemmas.List.{take_more}
 use Rattle.tpm_nv.specs.Counters.{greatest_count}
 use Rattle.tpm_nv.proofs.CounterLemmas.{greatest_count-counter, greatest_count-other, ord_max-nat}

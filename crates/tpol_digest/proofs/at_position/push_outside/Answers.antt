@@ -1,4 +1,4 @@
-use Rattle.std.proofs.Common.{◌∙◌, refl, ap, arith}
+use Rattle.std.proofs.Common.{◌∙◌, ap, arith}
 use Rattle.std.proofs.lemmas.Result.{on_ok_weaker}
 use Rattle.tpol_tree.specs.declared.path.Move.TheVariants.{Approve, ApproveNv}
 use Rattle.tpol_digest.specs.Digest.{zero_digest}

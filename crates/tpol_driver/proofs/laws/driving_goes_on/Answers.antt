@@ -1,4 +1,4 @@
-use Rattle.std.proofs.Common.{◌≡◌, ap, [], ◌∷◌}
+use Rattle.std.proofs.Common.{ap, [], ◌∷◌}
 use Rattle.std.proofs.lemmas.Grind.{fold-append}
 use Rattle.tpol_driver.specs.Driving.{Starting, hears, sends}
 use Rattle.tpol_driver.proofs.laws.driving_goes_on.Goals as goal

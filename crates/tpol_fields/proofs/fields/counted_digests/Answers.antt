@@ -8,7 +8,7 @@ pub returns-in_err-digest : goal.returns-in_err-digest
 returns-in_err-digest c =
     let p = err_from_is_err_and c.from_residual.result c.from_residual.ensures.1 in
     let position = 0x040 + 0x100 * c.args.n in
-    rw (p.1, p.2) (stops c.in_err-digest.field-0.0 position c.loop.digests c.args.count c.loop.counter c.loop.cursor (digests_at position c.args.count c.args.cursor.now) c.loop-test.true c.in_err-digest.ensures.listed c.loop.invariant)
+    rw (p.1, p.2) (stops c.in_err-digest.field-0.0.code position c.loop.digests c.args.count c.loop.counter c.loop.cursor (digests_at position c.args.count c.args.cursor.now) c.loop-test.true c.in_err-digest.ensures.listed c.loop.invariant)
 
 pub loop-preserved : goal.loop-preserved
 loop-preserved c =

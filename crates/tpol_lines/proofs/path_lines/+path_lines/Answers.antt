@@ -1,4 +1,4 @@
-use Rattle.std.proofs.Common.{◌≡◌, ◌≢◌, ◌+◌, ◌-◌, ◌*◌, ◌<◌, ◌≤◌, ◌++◌, [], ◌∷◌, map, length, take, codes, subst, refl, sym, ap, ◌∙◌, arith}
+use Rattle.std.proofs.Common.{◌≡◌, ◌≢◌, ◌+◌, ◌-◌, ◌*◌, ◌<◌, ◌++◌, [], ◌∷◌, map, length, take, codes, subst, refl, sym, ap, ◌∙◌, arith}
 use Rattle.std.proofs.lemmas.List.{append-nil, take_all}
 use Rattle.std.proofs.lemmas.Result.{on_ok_weaker}
 use Rattle.json.specs.Print.{quoted}
@@ -6,8 +6,8 @@ use Rattle.tpol_tree.specs.declared.closed.ClosedBranch.{ClosedBranch}
 use Rattle.tpol_digest.proofs.Weights.{weight, weight_of_element, weight_of_branches, greatest, weight-lt-greatest}
 use Rattle.tpol_lines.specs.declared.pen.Pen.{Pen}
 use Rattle.tpol_lines.specs.PathLine.{assertion_kind}
-use Rattle.tpol_lines.specs.Texts.{Texts, of_choice, of_kind, join, both, element_list_texts, element_texts, branch_texts, document_texts, approval_texts, texts_ahead, Writes}
-use Rattle.tpol_lines.proofs.Loads.{share, load, share_some, entered_lighter}
+use Rattle.tpol_lines.specs.Texts.{of_choice, of_kind, join, both, element_list_texts, element_texts, branch_texts, document_texts, approval_texts, texts_ahead, Writes}
+use Rattle.tpol_lines.proofs.Loads.{share, share_some, entered_lighter}
 use Rattle.tpol_lines.proofs.TextLaws.{both-append, both-one, both-join, both_assoc, both-closed, both-none, writes_then, writes_nothing, kind_written, choice_written, line_written, more_texts, assert_texts, or_texts, key_texts, index_texts, documents_more, part, part_entered, part_passed, no_documents}
 use Rattle.tpol_lines.proofs.path_lines.+path_lines.Goals as goal
 use Rattle.tpol_lines.proofs.path_lines.+path_lines.Goals.{write_element-in-Authorize, write_element-in-AuthorizeNv, write_approvals-then-accepts+in_ok-push_name+in_ok-write_elements, write_approvals-else-accepts, write_approvals-then-levels-gt0+else-loop-document-test, write_approvals-else-levels-gt0}

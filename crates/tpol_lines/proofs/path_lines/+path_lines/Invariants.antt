@@ -1,4 +1,4 @@
-use Rattle.std.proofs.Common.{◌+◌, ◌*◌, ◌++◌, length, take}
+use Rattle.std.proofs.Common.{◌+◌, ◌*◌, take}
 use Rattle.tpol_digest.proofs.Weights.{weight, weight_of_element, weight_of_branches}
 use Rattle.tpol_lines.specs.Texts.{both, document_texts, texts_ahead, Writes}
 use Rattle.tpol_lines.proofs.Loads.{share, load}

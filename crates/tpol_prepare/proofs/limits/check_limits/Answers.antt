@@ -1,4 +1,4 @@
-use Rattle.std.proofs.Common.{Ok, Err, ap, sym, ◌∙◌}
+use Rattle.std.proofs.Common.{Err, ap, sym, ◌∙◌}
 use Rattle.std.specs.Option.{option_copied}
 use Rattle.tpol_digest.specs.Paths.{paths_of}
 use Rattle.tpol_prepare.proofs.LimitTests.{any_too_long}

@@ -1,4 +1,4 @@
-use Rattle.std.proofs.Common.{◌≡◌, ap, ◌∙◌}
+use Rattle.std.proofs.Common.{ap, ◌∙◌}
 use Rattle.tpol_driver.specs.Driving.{Starting, stands_after}
 use Rattle.tpol_runs.specs.Courses.{begun, next_of}
 use Rattle.tpol_runs.proofs.Driven.{driven, sends_next}

@@ -1,4 +1,4 @@
-use Rattle.std.proofs.Common.{◌≡◌, ◌∙◌}
+use Rattle.std.proofs.Common.{◌∙◌}
 use Rattle.tpol_driver.proofs.Ending.{over_at_last}
 use Rattle.tpol_driver.specs.Driving.{Starting, stands_after}
 use Rattle.tpol_runs.specs.Courses.{begun}

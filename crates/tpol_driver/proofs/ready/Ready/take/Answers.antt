@@ -1,4 +1,4 @@
-use Rattle.std.proofs.Common.{◌≡◌, subst, sym, ap, ◌∙◌}
+use Rattle.std.proofs.Common.{subst, sym, ap, ◌∙◌}
 use Rattle.tpol_driver.specs.Driving.{Driving, Standing, after_goal, hears}
 use Rattle.tpol_driver.specs.States.{IsNext}
 use Rattle.tpol_driver.proofs.GoalLaws.{hears_of_goal}

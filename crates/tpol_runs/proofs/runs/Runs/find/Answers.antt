@@ -1,9 +1,7 @@
-use Rattle.std.proofs.Common.{◌≡◌, None, Some, sym, ap, ◌∙◌, subst, get_or, List, ℕ}
-use Rattle.std.specs.Option.{option_copied}
-use Rattle.std.specs.Prelude.{position}
+use Rattle.std.proofs.Common.{◌≡◌, sym, ap, ◌∙◌, subst, get_or, List}
 use Rattle.tpol_runs.specs.declared.numbered.Numbered.{Numbered}
-use Rattle.tpol_runs.specs.Runs.{has_number, run_at, run_in, with_run}
-use Rattle.tpol_runs.proofs.Table.{absent, found_at, not_written, written_at, written_same, written_twice}
+use Rattle.tpol_runs.specs.Runs.{run_in}
+use Rattle.tpol_runs.proofs.Table.{absent, found_at}
 use Rattle.tpol_runs.proofs.runs.Runs.find.Goals as goal
 
 pub returns-in_default : goal.returns-in_default
