@@ -6,7 +6,5 @@
 
 mod saved;
 mod saved_session;
-#[cfg(test)]
-mod tests;
 
 pub use saved::Saved;

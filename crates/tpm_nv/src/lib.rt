@@ -8,8 +8,6 @@
 mod contents;
 mod rules;
 mod table;
-#[cfg(test)]
-mod tests;
 
 pub use rules::{check_read, check_write, next_count, written_count};
 pub use table::NvTable;

@@ -9,8 +9,6 @@ mod full;
 mod session;
 mod sessions;
 mod table;
-#[cfg(test)]
-mod tests;
 
 pub use full::Full;
 pub use session::{Session, fresh_facts};

@@ -1,4 +1,2 @@
 mod Wrappers
-mod Banks
-pub mod OneOf
 pub mod Limits

@@ -8,10 +8,10 @@ use Rattle.serde_json.specs.Data.{Data, null, boolean, number, string, array, ob
 use Rattle.serde_json.specs.Find.{get, get_member}
 use Rattle.tpol_json.specs.declared.place.Place.{Place}
 use Rattle.tpol_json.specs.Places.{at_member}
-use Rattle.tpol_elements.specs.declared.walk.Walk.{Walk}
-use Rattle.tpol_elements.specs.Faults.{Found}
+use Rattle.tpol_members.specs.declared.walk.Walk.{Walk}
+use Rattle.tpol_members.specs.Faults.{Found}
 use Rattle.tpol_elements.specs.Publics.{then_noted, through, through_member, through_wrapped, ThroughLooksUp}
-use Rattle.tpol_elements.specs.Walks.{Reading}
+use Rattle.tpol_members.specs.Walks.{Reading}
 
 chosen : (order : Ordering) (o p : Option Data) (e : Data) (m n : ℕ) → (o ≡ Some e → depth e ≤ n) → (p ≡ Some e → depth e ≤ m) → match_ordering order o p o ≡ Some e → depth e ≤ max m n
 chosen Less o p e m n left right h = let k : depth e ≤ n = left h in omega arith

@@ -1,14 +1,4 @@
-pub mod Faults
-pub mod Walks
-pub mod Members
-pub mod Values
-pub mod Words
-pub mod Algorithms
-pub mod Operations
-pub mod Localities
-pub mod Fields
 pub mod Publics
 pub mod Wishes
-pub mod Pcrs
 pub mod Types
 pub mod Rows

@@ -6,15 +6,15 @@ use Rattle.serde_json.specs.Data.{Data, null, boolean, number, string, array, ob
 use Rattle.serde_json.specs.Find.{get}
 use Rattle.tpol_json.specs.declared.place.Place.{Place}
 use Rattle.tpol_json.specs.Places.{at_member}
-use Rattle.tpol_elements.specs.declared.walk.Walk.{Walk}
+use Rattle.tpol_members.specs.declared.walk.Walk.{Walk}
 use Rattle.tpol_tree.specs.declared.wishes.ObjectPublicText.{ObjectPublicText}
 use Rattle.tpol_tree.specs.declared.wishes.NvPublicText.{NvPublicText}
-use Rattle.tpol_elements.specs.Algorithms.{hash_in, key_type_in, scheme_in}
+use Rattle.tpol_members.specs.Algorithms.{hash_in, key_type_in, scheme_in}
 use Rattle.tpol_base.specs.Answers.{◌>>=◌}
-use Rattle.tpol_elements.specs.Faults.{Found}
-use Rattle.tpol_elements.specs.Members.{object_in, needed, optional, noted}
-use Rattle.tpol_elements.specs.Values.{empty_or_32, unsigned_in, u32_in}
-use Rattle.tpol_elements.specs.Walks.{Reading}
+use Rattle.tpol_members.specs.Faults.{Found}
+use Rattle.tpol_members.specs.Members.{object_in, needed, optional, noted}
+use Rattle.tpol_members.specs.Values.{empty_or_32, unsigned_in, u32_in}
+use Rattle.tpol_members.specs.Walks.{Reading}
 
 -- a reading, and then the wrapper's other members noted
 abbrev pub then_noted : {A : Type 0} → List ℕ → Data → Place → Found (A × Walk) → Found (A × Walk)

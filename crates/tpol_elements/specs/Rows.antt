@@ -8,18 +8,18 @@ use Rattle.tpol_json.specs.declared.place.Place.{Place}
 use Rattle.tpol_json.specs.Places.{at_member}
 use Rattle.tpol_tree.specs.declared.policy.Element.{Element}
 use Rattle.tpol_tree.specs.declared.policy.Element.TheVariants.{Pcr, Nv, Secret, Signed, Authorize, AuthorizeNv, Locality, CommandCode, CpHash, NameHash, CounterTimer, Duplication, NvWritten, AuthValue, Password, PhysicalPresence}
-use Rattle.tpol_elements.specs.declared.fault.PolicyKind.TheVariants.{Missing, AsymmetricKey}
+use Rattle.tpol_members.specs.declared.fault.PolicyKind.TheVariants.{Missing, AsymmetricKey}
 use Rattle.tpol_elements.specs.declared.types.LeafType.{LeafType}
 use Rattle.tpol_elements.specs.declared.types.LeafType.TheVariants as types
-use Rattle.tpol_elements.specs.Localities.{locality_in}
-use Rattle.tpol_elements.specs.Operations.{code_in}
+use Rattle.tpol_members.specs.Localities.{locality_in}
+use Rattle.tpol_members.specs.Operations.{code_in}
 use Rattle.tpol_base.specs.Answers.{◌>>=◌}
-use Rattle.tpol_elements.specs.Faults.{Found, bad}
-use Rattle.tpol_elements.specs.Fields.{policy_ref_in, cp_hash_in, expiration_in, operand_in, offset_in, operation_member_in}
-use Rattle.tpol_elements.specs.Members.{needed, optional}
-use Rattle.tpol_elements.specs.Values.{digest_in, name_in, is_empty_name, truth_in}
-use Rattle.tpol_elements.specs.Pcrs.{pcrs_in}
-use Rattle.tpol_elements.specs.Walks.{Reading, still}
+use Rattle.tpol_members.specs.Faults.{Found, bad}
+use Rattle.tpol_members.specs.Fields.{policy_ref_in, cp_hash_in, expiration_in, operand_in, offset_in, operation_member_in}
+use Rattle.tpol_members.specs.Members.{needed, optional}
+use Rattle.tpol_members.specs.Values.{digest_in, name_in, is_empty_name, truth_in}
+use Rattle.tpol_members.specs.Pcrs.{pcrs_in}
+use Rattle.tpol_members.specs.Walks.{Reading, still}
 use Rattle.tpol_elements.specs.Wishes.{key_in, index_in, entity_in, parent_in, names_in}
 
 -- `keyPEM` holds an asymmetric key

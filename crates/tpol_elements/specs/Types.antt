@@ -2,13 +2,13 @@
 use Rattle.std.specs.Prelude.{ℕ, List, [], ◌∷◌, codes}
 use Rattle.serde_json.specs.Data.{Data}
 use Rattle.tpol_json.specs.declared.place.Place.{Place}
-use Rattle.tpol_elements.specs.declared.fault.PolicyKind.TheVariants as kinds
+use Rattle.tpol_members.specs.declared.fault.PolicyKind.TheVariants as kinds
 use Rattle.tpol_elements.specs.declared.types.ElementType.{ElementType}
 use Rattle.tpol_elements.specs.declared.types.ElementType.TheVariants.{Or, Leaf, Unsupported}
 use Rattle.tpol_elements.specs.declared.types.LeafType.{LeafType}
 use Rattle.tpol_elements.specs.declared.types.LeafType.TheVariants.{Pcr, Nv, Secret, Signed, Authorize, AuthorizeNv, Locality, CommandCode, CpHash, NameHash, CounterTimer, DuplicationSelect, NvWritten, AuthValue, Password, PhysicalPresence}
-use Rattle.tpol_elements.specs.Faults.{Found}
-use Rattle.tpol_elements.specs.Words.{only_word}
+use Rattle.tpol_members.specs.Faults.{Found}
+use Rattle.tpol_members.specs.Words.{only_word}
 
 abbrev pub element_types : List (List ℕ × ElementType)
 element_types =

@@ -3,7 +3,7 @@ use Rattle.std.specs.Prelude.{ℕ, zero, suc, List, [], ◌∷◌, ◌++◌, cod
 use Rattle.serde_json.specs.Data.{Data, Items, no_items, item}
 use Rattle.tpol_json.specs.declared.place.Place.{Place}
 use Rattle.tpol_json.specs.Places.{at_item}
-use Rattle.tpol_elements.specs.declared.walk.Walk.{Walk}
+use Rattle.tpol_members.specs.declared.walk.Walk.{Walk}
 use Rattle.tpol_tree.specs.declared.wishes.KeyWish.{KeyWish}
 use Rattle.tpol_tree.specs.declared.wishes.KeyWish.TheVariants as key
 use Rattle.tpol_tree.specs.declared.wishes.IndexWish.{IndexWish}
@@ -14,12 +14,12 @@ use Rattle.tpol_tree.specs.declared.wishes.ParentWish.{ParentWish}
 use Rattle.tpol_tree.specs.declared.wishes.ParentWish.TheVariants as parent
 use Rattle.tpol_tree.specs.declared.wishes.NamesWish.{NamesWish}
 use Rattle.tpol_tree.specs.declared.wishes.NamesWish.TheVariants as names
-use Rattle.tpol_elements.specs.Values.{text_in, digest_in, name_in, full_name_in, one_to_three}
+use Rattle.tpol_members.specs.Values.{text_in, digest_in, name_in, full_name_in, one_to_three}
 use Rattle.tpol_base.specs.Answers.{◌>>=◌}
-use Rattle.tpol_elements.specs.Faults.{Found}
-use Rattle.tpol_elements.specs.Members.{one_of}
+use Rattle.tpol_members.specs.Faults.{Found}
+use Rattle.tpol_members.specs.Members.{one_of}
 use Rattle.tpol_elements.specs.Publics.{object_public_in, index_public_in}
-use Rattle.tpol_elements.specs.Walks.{Reading, still}
+use Rattle.tpol_members.specs.Walks.{Reading, still}
 
 -- a path first, and then a public area
 unfoldable pub key_at : Walk → ℕ → Data → Place → Found (KeyWish × Walk)

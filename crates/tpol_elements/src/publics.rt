@@ -1,18 +1,16 @@
 //! Public areas of keys and of indices.
 
 ghost use Rattle.serde_json.specs.View.{view};
-ghost use Rattle.tpol_elements.specs.Faults.{Gives};
+ghost use Rattle.tpol_members.specs.Faults.{Gives};
 ghost use Rattle.tpol_elements.specs.Publics.{key_type_member, name_hash_member, attributes_member, auth_policy_member, scheme_member, unique_member, nv_index_member, data_size_member, object_public, index_public, object_public_in, index_public_in, through};
-ghost use Rattle.tpol_elements.specs.Values.{unsigned_in};
-ghost use Rattle.tpol_elements.specs.Walks.{Leaves};
+ghost use Rattle.tpol_members.specs.Values.{unsigned_in};
+ghost use Rattle.tpol_members.specs.Walks.{Leaves};
 
-use crate::algorithms::{check_hash, check_key_type, scheme};
-use crate::members::note_unknown;
-use crate::{ElementFault, Walk};
 use serde_json::Value;
 use std::alloc::Global;
 use tpol_base::Blob;
 use tpol_json::{PlaceRef, check_object, empty_or_32, member, needed, unsigned, unsigned_32};
+use tpol_members::{ElementFault, Walk, check_hash, check_key_type, note_unknown, scheme};
 use tpol_tree::{NvPublicText, ObjectPublicText};
 
 #[tactic(auto, unfolding(crate::specs::Publics::key_type_member))]

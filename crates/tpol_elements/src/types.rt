@@ -2,17 +2,15 @@
 
 ghost use Rattle.std.specs.Prelude.{◌≡◌, map, OnOk};
 ghost use Rattle.serde_json.specs.View.{view};
-ghost use Rattle.tpol_elements.specs.Faults.{Gives};
-ghost use Rattle.tpol_elements.specs.Members.{noted};
+ghost use Rattle.tpol_members.specs.Faults.{Gives};
+ghost use Rattle.tpol_members.specs.Members.{noted};
 ghost use Rattle.tpol_elements.specs.Types.{leaf_members, type_in};
 
-use crate::members::note_unknown;
-use crate::words::only_word;
-use crate::{ElementFault, PolicyKind, Walk};
 use serde_json::Value;
 use std::alloc::Global;
 use tpol_base::NoMemory;
 use tpol_json::PlaceRef;
+use tpol_members::{ElementFault, PolicyKind, Walk, note_unknown, only_word};
 
 /// What an element of a policy document is, by its `type`.
 #[derive(Clone, Copy, Debug, PartialEq, Eq)]

@@ -2,21 +2,19 @@
 
 ghost use Rattle.std.specs.Prelude.{[]};
 ghost use Rattle.serde_json.specs.View.{view, items_view};
-ghost use Rattle.tpol_elements.specs.Faults.{Gives, cause};
+ghost use Rattle.tpol_members.specs.Faults.{Gives, cause};
 ghost use Rattle.tpol_base.specs.Answers as answers;
-ghost use Rattle.tpol_elements.specs.Values.{full_name_in, name_in, one_to_three, text_in};
-ghost use Rattle.tpol_elements.specs.Walks.{Leaves};
+ghost use Rattle.tpol_members.specs.Values.{full_name_in, name_in, one_to_three, text_in};
+ghost use Rattle.tpol_members.specs.Walks.{Leaves};
 ghost use Rattle.tpol_json.specs.Values.{items_of};
 ghost use Rattle.tpol_elements.specs.Wishes.{each_from, entity_at, entity_in, index_at, index_in, key_at, key_in, names_at, names_in, parent_at, parent_in};
 
-use crate::fault::refuse;
-use crate::members::{alone, first_of};
 use crate::publics::{index_public_area, object_public_area};
-use crate::{ElementFault, PolicyKind, Walk};
 use serde_json::Value;
 use std::alloc::Global;
 use tpol_base::{Name, Sequence, Texts};
 use tpol_json::{PlaceRef, digest, items, name, text};
+use tpol_members::{ElementFault, PolicyKind, Walk, alone, first_of, refuse};
 use tpol_tree::{EntityWish, IndexWish, KeyWish, Names, NamesWish, ParentWish};
 
 #[tactic(auto, unfolding(crate::specs::Wishes::key_at))]

@@ -22,7 +22,7 @@ use Rattle.tpol_lines.specs.Runs.{chosen_line, nobranch_line}
 use Rattle.tpol_name.specs.declared.sight.Sight.{Sight}
 use Rattle.tpol_perform.specs.Begin.{begun_along, begun_at, begun_nowhere, begun_on, plan_along, run_begun, with_block, with_blocks, with_new_run}
 use Rattle.tpol_perform.specs.Performance.{PerformanceState, start_of, with_line}
-use Rattle.tpol_prepare.specs.declared.documents.FilledDocument.{FilledDocument}
+use Rattle.tpol_steps.specs.declared.filled.FilledDocument.{FilledDocument}
 use Rattle.tpol_prepare.specs.declared.scenario.Scenario.{Scenario}
 use Rattle.tpol_prepare.specs.declared.scenario.StagedScene.{StagedScene}
 use Rattle.tpol_prepare.specs.Scenario.{IsWalkable, grants_of, is_client, is_document, no_grants, paths_in, paths_named}

@@ -10,11 +10,11 @@ use Rattle.tpol_name.specs.Setups.{IsSetup}
 use Rattle.tpol_scene.specs.declared.scene.Scene.{Scene}
 use Rattle.tpol_store.specs.Approvals.{approved_documents}
 use Rattle.tpol_store.specs.Stores.{NamedPolicy}
-use Rattle.tpol_prepare.specs.declared.answer.Answer.{Answer}
+use Rattle.tpol_steps.specs.declared.answer.Answer.{Answer}
 use Rattle.tpol_prepare.specs.declared.entities.CompiledEntity.{CompiledEntity}
-use Rattle.tpol_prepare.specs.declared.answer.Verdict.TheVariants.{Done}
-use Rattle.tpol_prepare.specs.declared.halt.Halt.{Halt}
-use Rattle.tpol_prepare.specs.declared.halt.Halt.TheVariants.{Refused, ReadFailed, ShelfFailed, NoMemory}
+use Rattle.tpol_steps.specs.declared.answer.Verdict.TheVariants.{Done}
+use Rattle.tpol_steps.specs.declared.halt.Halt.{Halt}
+use Rattle.tpol_steps.specs.declared.halt.Halt.TheVariants.{Refused, ReadFailed, ShelfFailed, NoMemory}
 use Rattle.tpol_prepare.specs.declared.prepared.PreparedScene.{PreparedScene}
 use Rattle.tpol_prepare.specs.declared.scenario.Scenario.{Scenario}
 use Rattle.tpol_prepare.specs.declared.scenario.StagedScene.{StagedScene}
@@ -23,13 +23,13 @@ use Rattle.tpol_perform.specs.Explained.{IsExplained, IsExplainedScene}
 use Rattle.tpol_perform.specs.Performance.{PerformanceState}
 use Rattle.tpol_prepare.specs.Prepared.{prepared_step}
 use Rattle.tpol_prepare.specs.Scenario.{HasPolicyAt, HavePolicies, IsScenarioOf, erased_scenario, erased_staged, is_entity, limited_step, policy_of_entity, scenario_with, staged_by, staged_step, staged_with}
-use Rattle.tpol_prepare.specs.SceneStep.{scene_of_bytes}
+use Rattle.tpol_steps.specs.SceneStep.{scene_of_bytes}
 use Rattle.tpol_perform.specs.Script.{performance_answer, performed}
-use Rattle.tpol_prepare.specs.Steps.{Answers, Halts, IfAnswered, Step, ◌>>=◌}
-use Rattle.tpol_prepare.specs.StoreStep.{store_step}
+use Rattle.tpol_steps.specs.Steps.{Answers, Halts, IfAnswered, Step, ◌>>=◌}
+use Rattle.tpol_steps.specs.StoreStep.{store_step}
 use Rattle.tpol_prepare.proofs.EntitiesErased.{reversed_erased}
 use Rattle.tpol_prepare.proofs.EntityPolicies.{found_erased}
-use Rattle.tpol_prepare.proofs.FilledErased.{policy_digest_erased}
+use Rattle.tpol_steps.proofs.FilledErased.{policy_digest_erased}
 use Rattle.tpol_perform.proofs.OpenedTold.{AreOpenable, IsOpenable}
 use Rattle.tpol_perform.proofs.OpeningErased.{opening_of_erased}
 use Rattle.tpol_perform.proofs.PathPcrs.{HasDigests, paths_have_digests}

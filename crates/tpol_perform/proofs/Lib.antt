@@ -1,9 +1,5 @@
 pub mod Chosen
 pub mod ExplainedErased
-pub mod GeneratedErased
-pub mod GeneratedRuns
-pub mod GeneratedScenarios
-pub mod GeneratedSetups
 pub mod Masks
 pub mod OpenedMeets
 pub mod OpenedTold

@@ -12,8 +12,8 @@ use Rattle.tpol_name.specs.declared.sight.Sight.{Sight}
 use Rattle.tpol_runs.specs.declared.sent.Sent.{Sent}
 use Rattle.tpol_scene.specs.declared.script.ScriptEvent.{ScriptEvent}
 use Rattle.tpol_scene.specs.declared.script.ScriptEvent.TheVariants.{Command, Begin, Turn, Time, Presence, Reset}
-use Rattle.tpol_prepare.specs.declared.answer.Verdict.TheVariants.{Done}
-use Rattle.tpol_prepare.specs.declared.documents.FilledDocument.{FilledDocument}
+use Rattle.tpol_steps.specs.declared.answer.Verdict.TheVariants.{Done}
+use Rattle.tpol_steps.specs.declared.filled.FilledDocument.{FilledDocument}
 use Rattle.tpol_prepare.specs.declared.entities.CompiledEntity.{CompiledEntity}
 use Rattle.tpol_perform.specs.declared.new_run.NewRun.{NewRun}
 use Rattle.tpol_prepare.specs.declared.scenario.Scenario.{Scenario}
@@ -21,7 +21,7 @@ use Rattle.tpol_prepare.specs.declared.scenario.StagedScene.{StagedScene}
 use Rattle.tpol_perform.specs.Begin.{begun_along, begun_at, begun_on, new_run, run_begun}
 use Rattle.tpol_perform.specs.CommandsTold.{command_told, commanded, opening_told, policy_opened, with_opening}
 use Rattle.tpol_prepare.specs.Entities.{erased_entity}
-use Rattle.tpol_prepare.specs.FilledDocuments.{erased_filled}
+use Rattle.tpol_steps.specs.Filled.{erased_filled}
 use Rattle.tpol_perform.specs.Performance.{PerformanceState, number_in, start_of}
 use Rattle.tpol_prepare.specs.Scenario.{erased_scenario, erased_staged, is_document, is_entity, paths_in, paths_named}
 use Rattle.tpol_perform.specs.Script.{all_happened, happened, performance_answer, performed, turn_told}

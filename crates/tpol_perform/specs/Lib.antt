@@ -1,8 +1,6 @@
 pub mod Begin
 pub mod CommandsTold
 pub mod Explained
-pub mod FirstRun
-pub mod Generate
 pub mod Meeting
 pub mod Performance
 pub mod Script

@@ -3,15 +3,15 @@ use Rattle.std.specs.Prelude.{ℕ, Bool, List, [], ◌∷◌, Option, Some, None
 use Rattle.tpol_base.specs.declared.document.Document.{Document}
 use Rattle.tpol_scene.specs.declared.script.ScriptEvent.{ScriptEvent}
 use Rattle.tpol_scene.specs.declared.script.ScriptEvent.TheVariants.{Command, Begin, Turn, Time, Presence, Reset}
-use Rattle.tpol_prepare.specs.declared.answer.Answer.{Answer}
-use Rattle.tpol_prepare.specs.declared.answer.Verdict.TheVariants.{Done}
+use Rattle.tpol_steps.specs.declared.answer.Answer.{Answer}
+use Rattle.tpol_steps.specs.declared.answer.Verdict.TheVariants.{Done}
 use Rattle.tpol_prepare.specs.declared.scenario.Scenario.{Scenario}
 use Rattle.tpol_prepare.specs.declared.scenario.StagedScene.{StagedScene}
 use Rattle.tpol_perform.specs.Begin.{new_run, run_begun}
 use Rattle.tpol_perform.specs.CommandsTold.{commanded}
 use Rattle.tpol_perform.specs.Performance.{PerformanceState, presence_set, start_of, time_passed, was_reset}
 use Rattle.tpol_prepare.specs.Scenario.{staged_step}
-use Rattle.tpol_prepare.specs.Steps.{Step, ◌>>=◌}
+use Rattle.tpol_steps.specs.Steps.{Step, ◌>>=◌}
 use Rattle.tpol_perform.specs.Turns.{turned_times, turned_to_end}
 
 -- a run has its turns

@@ -20,7 +20,8 @@ use tpol_driver::Plan;
 use tpol_hash::Hasher;
 use tpol_lines::{block_line, chosen_line, nobranch_line};
 use tpol_name::Sight;
-use tpol_prepare::{FilledDocument, Scenario};
+use tpol_prepare::Scenario;
+use tpol_steps::FilledDocument;
 use tpol_tree::{Approvals, Path};
 
 impl Performance {

@@ -5,14 +5,15 @@ ghost use Rattle.tpol_name.specs.Setups.{IsSetup};
 ghost use Rattle.tpol_perform.specs.Explained.{IsExplainedScene};
 ghost use Rattle.tpol_perform.specs.Script.{perform_step, performance_answer};
 ghost use Rattle.tpol_prepare.specs.Scenario.{CanHappen, IsScenarioOf};
-ghost use Rattle.tpol_prepare.specs.SceneStep.{scene_of_bytes};
-ghost use Rattle.tpol_prepare.specs.Steps.{Answers, AsksShelf, IfAnswered};
+ghost use Rattle.tpol_steps.specs.SceneStep.{scene_of_bytes};
+ghost use Rattle.tpol_steps.specs.Steps.{Answers, AsksShelf, IfAnswered};
 
 use crate::performance::Performance;
 use crate::script::perform;
 use std::alloc::Global;
 use tpol_base::{NoMemory, Shelf};
-use tpol_prepare::{Answer, Halt, StagedScene, Verdict, stage};
+use tpol_prepare::{StagedScene, stage};
+use tpol_steps::{Answer, Halt, Verdict};
 
 /// The commands `run` and `explain`: carries out the scene in the source, with the policies of the shelf, and
 /// tells each event; `explain` tells besides by which path of its policy an entity was opened.

@@ -5,11 +5,11 @@ use Rattle.std.specs.Prelude.{ℕ}
 use Rattle.tpol_base.specs.declared.digest.Digest32.{Digest32}
 use Rattle.tpol_digest.specs.Digest.{policy_digest}
 use Rattle.tpol_name.specs.declared.setup.Setup.{Setup}
-use Rattle.tpol_scene.specs.declared.entities.EntityPolicy.{EntityPolicy}
+use Rattle.tpol_entities.specs.declared.entities.EntityPolicy.{EntityPolicy}
 use Rattle.tpol_prepare.specs.declared.entities.CompiledEntity.{CompiledEntity}
 use Rattle.tpol_prepare.specs.declared.entities.CompiledSetup.{CompiledSetup}
-use Rattle.tpol_prepare.proofs.FilledErased.{policy_digest_erased}
 use Rattle.tpol_prepare.specs.Entities.{compiled_entity, erased_compiled, erased_entity, setup_with_policy, with_entity}
+use Rattle.tpol_steps.proofs.FilledErased.{policy_digest_erased}
 use Rattle.tpol_tree.specs.ClosedErased.{erased}
 use Rattle.tpol_tree.specs.declared.closed.Closed.{Closed}
 

@@ -3,10 +3,9 @@ use Rattle.std.proofs.Common.{◌≡◌, List, [], ◌∷◌, ◌++◌, refl, su
 use Rattle.tpol_digest.specs.Digest.{policy_digest}
 use Rattle.tpol_name.specs.declared.setup.Setup.{Setup}
 use Rattle.tpol_name.specs.Setups.{first_sight}
-use Rattle.tpol_scene.specs.declared.entities.EntityPolicy.{EntityPolicy}
+use Rattle.tpol_entities.specs.declared.entities.EntityPolicy.{EntityPolicy}
 use Rattle.tpol_scene.specs.declared.scene.Scene.{Scene}
 use Rattle.tpol_store.specs.Stores.{NamedPolicy}
-use Rattle.tpol_prepare.specs.declared.documents.FilledDocument.{FilledDocument}
 use Rattle.tpol_prepare.specs.declared.entities.CompiledEntity.{CompiledEntity}
 use Rattle.tpol_prepare.specs.declared.entities.CompiledSetup.{CompiledSetup}
 use Rattle.tpol_prepare.specs.declared.prepared.PreparedScene.{PreparedScene}
@@ -14,7 +13,8 @@ use Rattle.tpol_prepare.specs.Entities.{compiled_entity, compiled_step, entities
 use Rattle.tpol_prepare.specs.FilledDocuments.{documents_from}
 use Rattle.tpol_prepare.specs.Prepared.{begun_step, filled_scene_step, prepared_step, prepared_with}
 use Rattle.tpol_prepare.specs.References.{entity_references, references_step, script_references}
-use Rattle.tpol_prepare.specs.Steps.{Step, ◌>>=◌}
+use Rattle.tpol_steps.specs.declared.filled.FilledDocument.{FilledDocument}
+use Rattle.tpol_steps.specs.Steps.{Step, ◌>>=◌}
 use Rattle.tpol_tree.specs.declared.closed.Closed.{Closed}
 
 module _ (Holds : Setup → List CompiledEntity → Type 0)

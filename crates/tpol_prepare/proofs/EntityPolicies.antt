@@ -10,7 +10,7 @@ use Rattle.tpol_digest.specs.Digest.{policy_digest}
 use Rattle.tpol_name.specs.declared.entries.IndexEntry.{IndexEntry}
 use Rattle.tpol_name.specs.declared.entries.ObjectEntry.{ObjectEntry}
 use Rattle.tpol_name.specs.declared.setup.Setup.{Setup}
-use Rattle.tpol_scene.specs.declared.entities.EntityPolicy.{EntityPolicy}
+use Rattle.tpol_entities.specs.declared.entities.EntityPolicy.{EntityPolicy}
 use Rattle.tpol_scene.specs.declared.scene.Scene.{Scene}
 use Rattle.tpol_store.specs.Stores.{NamedPolicy}
 use Rattle.tpol_prepare.specs.declared.entities.CompiledEntity.{CompiledEntity}
@@ -18,9 +18,9 @@ use Rattle.tpol_prepare.specs.declared.prepared.PreparedScene.{PreparedScene}
 use Rattle.tpol_prepare.specs.Entities.{compiled_entity, erased_entity, index_with_policy, object_with_policy, setup_with_policy}
 use Rattle.tpol_prepare.specs.Prepared.{prepared_step}
 use Rattle.tpol_prepare.specs.Scenario.{HasPolicyAt, HavePolicies, is_entity, policy_of_entity}
+use Rattle.tpol_steps.proofs.FilledErased.{policy_digest_erased}
 use Rattle.tpol_prepare.proofs.EntitiesErased.{reversed_erased}
 use Rattle.tpol_prepare.proofs.EntitiesKept.{prepared_keeps}
-use Rattle.tpol_prepare.proofs.FilledErased.{policy_digest_erased}
 use Rattle.tpol_tree.specs.ClosedErased.{erased}
 use Rattle.tpol_tree.specs.declared.closed.Closed.{Closed}
 

@@ -3,11 +3,12 @@ use Rattle.std.proofs.Common.{◌≡◌, refl, ap, List, [], ◌∷◌, ◌++◌
 use Rattle.std.proofs.lemmas.List.{map-append}
 use Rattle.std.specs.Prelude.{ℕ, ◌||◌}
 use Rattle.std.specs.Str.{bytes_eq}
-use Rattle.tpol_prepare.specs.declared.documents.FilledDocument.{FilledDocument}
 use Rattle.tpol_name.specs.declared.sight.Sight.{Sight}
 use Rattle.tpol_store.specs.Stores.{NamedPolicy}
 use Rattle.tpol_prepare.specs.declared.references.Reference.{Reference}
-use Rattle.tpol_prepare.specs.FilledDocuments.{document_step, erased_filled, is_filled, reference_step}
+use Rattle.tpol_prepare.specs.FilledDocuments.{document_step, is_filled, reference_step}
+use Rattle.tpol_steps.specs.declared.filled.FilledDocument.{FilledDocument}
+use Rattle.tpol_steps.specs.Filled.{erased_filled}
 
 pub is_filled_erased : (name : List ℕ) (documents : List FilledDocument) → is_filled name (map erased_filled documents) ≡ is_filled name documents
 is_filled_erased name [] = refl

@@ -2,10 +2,7 @@ pub mod EntitiesAdded
 pub mod EntitiesErased
 pub mod EntitiesKept
 pub mod EntityPolicies
-pub mod FilledErased
 pub mod FilledNames
-pub mod LimitTests
-pub mod PathSteps
 pub mod SetupsKept
 pub mod StagedScenes
 pub mod Stored

@@ -13,14 +13,14 @@ use Rattle.tpol_store.specs.Approvals.{HasApprovedBounds, approved_documents}
 use Rattle.tpol_store.specs.Stores.{NamedPolicy}
 use Rattle.tpol_prepare.specs.declared.prepared.PreparedScene.{PreparedScene}
 use Rattle.tpol_prepare.specs.declared.scenario.StagedScene.{StagedScene}
-use Rattle.tpol_prepare.specs.declared.halt.Halt.{Halt}
-use Rattle.tpol_prepare.specs.declared.halt.Halt.TheVariants.{Refused, ReadFailed, ShelfFailed, NoMemory}
-use Rattle.tpol_prepare.specs.FilledDocuments.{IsReadyDocument}
 use Rattle.tpol_prepare.specs.Prepared.{erased_prepared, prepared_step}
 use Rattle.tpol_prepare.specs.Scenario.{CanHappen, IsScenarioOf, erased_staged, limited_step, scenario_with, staged_by, staged_from, staged_with}
 use Rattle.tpol_prepare.specs.Staged.{IsScriptOf, IsStaged}
-use Rattle.tpol_prepare.specs.Steps.{Answers, Halts, Step, ◌>>=◌}
-use Rattle.tpol_prepare.specs.StoreStep.{store_step}
+use Rattle.tpol_steps.specs.declared.halt.Halt.{Halt}
+use Rattle.tpol_steps.specs.declared.halt.Halt.TheVariants.{Refused, ReadFailed, ShelfFailed, NoMemory}
+use Rattle.tpol_steps.specs.Filled.{IsReadyDocument}
+use Rattle.tpol_steps.specs.Steps.{Answers, Halts, Step, ◌>>=◌}
+use Rattle.tpol_steps.specs.StoreStep.{store_step}
 use Rattle.tpol_prepare.proofs.EntitiesKept.{prepared_keeps}
 use Rattle.tpol_prepare.proofs.SetupsKept.{HasHandlesOf, handles_stay}
 use Rattle.tpol_prepare.proofs.Walkable.{all_can_happen}

@@ -12,10 +12,10 @@ use Rattle.tpol_scene.specs.Conditions.{AreEventsBehind, IsEventBehind}
 use Rattle.tpol_scene.specs.Scripts.{begun_run}
 use Rattle.tpol_scene.specs.declared.script.ScriptEvent.{ScriptEvent}
 use Rattle.tpol_scene.specs.declared.script.ScriptEvent.TheVariants.{Command, Begin, Turn, Time, Presence, Reset}
-use Rattle.tpol_prepare.specs.declared.documents.FilledDocument.{FilledDocument}
-use Rattle.tpol_prepare.specs.FilledDocuments.{IsReady, IsReadyDocument}
 use Rattle.tpol_prepare.specs.declared.entities.CompiledEntity.{CompiledEntity}
 use Rattle.tpol_prepare.specs.Scenario.{CanHappen, IsWalkable, is_document, is_entity, policy_of_entity}
+use Rattle.tpol_steps.specs.declared.filled.FilledDocument.{FilledDocument}
+use Rattle.tpol_steps.specs.Filled.{IsReady, IsReadyDocument}
 use Rattle.tpol_tree.specs.Closed.{HasBranchCounts}
 use Rattle.tpol_tree.specs.declared.closed.Closed.{Closed}
 use Rattle.tpol_tree.specs.declared.path.ApprovedDoc.{ApprovedDoc}

@@ -8,14 +8,13 @@ use Rattle.tpol_name.specs.declared.entries.ObjectEntry.{ObjectEntry}
 use Rattle.tpol_name.specs.declared.setup.Setup.{Setup}
 use Rattle.tpol_name.specs.declared.sight.Sight.{Sight}
 use Rattle.tpol_name.specs.Setups.{first_sight}
-use Rattle.tpol_scene.specs.declared.entities.EntityPolicy.{EntityPolicy}
+use Rattle.tpol_entities.specs.declared.entities.EntityPolicy.{EntityPolicy}
 use Rattle.tpol_store.specs.Stores.{NamedPolicy}
 use Rattle.tpol_prepare.specs.declared.entities.CompiledEntity.{CompiledEntity}
 use Rattle.tpol_prepare.specs.declared.entities.CompiledSetup.{CompiledSetup}
-use Rattle.tpol_prepare.specs.FilledDocuments.{IsReadyDocument, erased_filled}
-use Rattle.tpol_prepare.specs.Filled.{filled_step}
 use Rattle.tpol_prepare.specs.References.{policy_at}
-use Rattle.tpol_prepare.specs.Steps.{Step, ◌>>=◌}
+use Rattle.tpol_steps.specs.Filled.{IsReadyDocument, erased_filled, filled_step}
+use Rattle.tpol_steps.specs.Steps.{Step, ◌>>=◌}
 use Rattle.tpol_tree.specs.declared.closed.Closed.{Closed}
 
 -- ---- what stands before an entity

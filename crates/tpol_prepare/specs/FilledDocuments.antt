@@ -4,15 +4,11 @@ use Rattle.std.specs.List.{list_any}
 use Rattle.std.specs.Str.{bytes_eq}
 use Rattle.tpol_name.specs.declared.sight.Sight.{Sight}
 use Rattle.tpol_store.specs.Stores.{NamedPolicy}
-use Rattle.tpol_prepare.specs.declared.documents.FilledDocument.{FilledDocument}
 use Rattle.tpol_prepare.specs.declared.references.Reference.{Reference}
-use Rattle.tpol_prepare.specs.Filled.{filled_step}
 use Rattle.tpol_prepare.specs.References.{policy_at}
-use Rattle.tpol_prepare.specs.Steps.{Step, ◌>>=◌}
-use Rattle.tpol_digest.specs.WellFormed.{IsWellFormedPolicy}
-use Rattle.tpol_tree.specs.Bounds.{HasClosedBounds}
-use Rattle.tpol_tree.specs.ClosedErased.{erased}
-use Rattle.tpol_tree.specs.declared.closed.Closed.{Closed}
+use Rattle.tpol_steps.specs.declared.filled.FilledDocument.{FilledDocument}
+use Rattle.tpol_steps.specs.Filled.{filled_step}
+use Rattle.tpol_steps.specs.Steps.{Step, ◌>>=◌}
 
 -- whether a document of this name is among these
 abbrev pub is_filled : List ℕ → List FilledDocument → Bool
@@ -36,18 +32,3 @@ unfoldable pub documents_from : List NamedPolicy → Option Sight → List Fille
 documents_from store sight before [] = Ok before
 documents_from store sight before (reference ∷ rest) =
     document_step store sight before reference >>= λ after. documents_from store sight after rest
-
--- ---- whichever memory a policy lies in
-
-abbrev pub erased_filled : FilledDocument → FilledDocument
-erased_filled document = record document { closed = erased document.closed }
-
--- ---- policies that a run can go through
-
--- a policy is well formed, and each field is within the bounds of the wire
-pub record IsReady (closed : Closed) : Type 0 where
-  pub well_formed : IsWellFormedPolicy closed
-  pub bounded : HasClosedBounds closed
-
-abbrev pub IsReadyDocument : FilledDocument → Type 0
-IsReadyDocument document = IsReady document.closed

@@ -1,16 +1,6 @@
-pub mod Answer
 pub mod Entities
-pub mod Filled
 pub mod FilledDocuments
-pub mod Halts
-pub mod Limits
-pub mod Lines
 pub mod Prepared
-pub mod ReadStep
 pub mod References
-pub mod Refusals
 pub mod Scenario
-pub mod SceneStep
 pub mod Staged
-pub mod Steps
-pub mod StoreStep

@@ -5,16 +5,17 @@ use Rattle.tpol_name.specs.declared.sight.Sight.{Sight}
 use Rattle.tpol_name.specs.Setups.{first_sight}
 use Rattle.tpol_scene.specs.declared.scene.Scene.{Scene}
 use Rattle.tpol_store.specs.Stores.{NamedPolicy}
-use Rattle.tpol_prepare.specs.declared.documents.FilledDocument.{FilledDocument}
 use Rattle.tpol_prepare.specs.declared.entities.CompiledSetup.{CompiledSetup}
 use Rattle.tpol_prepare.specs.declared.prepared.PreparedScene.{PreparedScene}
 use Rattle.tpol_prepare.specs.declared.references.Reference.{Reference}
 use Rattle.tpol_prepare.specs.Entities.{entities_from, erased_entity, no_entity}
-use Rattle.tpol_prepare.specs.FilledDocuments.{documents_from, erased_filled}
+use Rattle.tpol_prepare.specs.FilledDocuments.{documents_from}
 use Rattle.tpol_prepare.specs.References.{entity_references, references_step, script_references}
-use Rattle.tpol_prepare.specs.SceneStep.{scene_step}
-use Rattle.tpol_prepare.specs.Steps.{Step, ◌>>=◌}
-use Rattle.tpol_prepare.specs.StoreStep.{store_step}
+use Rattle.tpol_steps.specs.declared.filled.FilledDocument.{FilledDocument}
+use Rattle.tpol_steps.specs.Filled.{erased_filled}
+use Rattle.tpol_steps.specs.SceneStep.{scene_step}
+use Rattle.tpol_steps.specs.Steps.{Step, ◌>>=◌}
+use Rattle.tpol_steps.specs.StoreStep.{store_step}
 
 -- the policies of the entities, and then those that the script begins, each filled with what the machine shows
 -- when it starts
@@ -48,11 +49,6 @@ prepared_step store scene = do
 unfoldable pub opening_step : List NamedPolicy → Option Scene → Step (Option Sight)
 opening_step store None = Ok None
 opening_step store (Some scene) = prepared_step store scene >>= λ prepared. Ok (Some prepared.sight)
-
--- a scene of the shelf, if one is named
-unfoldable pub named_scene_step : Option (List ℕ) → List Document → Step (Option Scene)
-named_scene_step None all = Ok None
-named_scene_step (Some name) all = scene_step name all >>= λ scene. Ok (Some scene)
 
 -- what the machine of a scene of the shelf shows when it starts, if one is named; the policies that the scene
 -- names are documents of the shelf

@@ -18,18 +18,18 @@ use Rattle.tpol_scene.specs.declared.script.ScriptEvent.{ScriptEvent}
 use Rattle.tpol_scene.specs.declared.script.ScriptEvent.TheVariants.{Command, Begin, Turn, Time, Presence, Reset}
 use Rattle.tpol_store.specs.Approvals.{approved_documents}
 use Rattle.tpol_store.specs.Stores.{NamedPolicy}
-use Rattle.tpol_prepare.specs.declared.documents.FilledDocument.{FilledDocument}
 use Rattle.tpol_prepare.specs.declared.entities.CompiledEntity.{CompiledEntity}
 use Rattle.tpol_prepare.specs.declared.prepared.PreparedScene.{PreparedScene}
 use Rattle.tpol_prepare.specs.declared.scenario.Scenario.{Scenario}
 use Rattle.tpol_prepare.specs.declared.scenario.StagedScene.{StagedScene}
 use Rattle.tpol_prepare.specs.Entities.{erased_entity}
-use Rattle.tpol_prepare.specs.FilledDocuments.{erased_filled}
-use Rattle.tpol_prepare.specs.Limits.{limits_step}
 use Rattle.tpol_prepare.specs.Prepared.{prepared_step}
-use Rattle.tpol_prepare.specs.SceneStep.{scene_of_bytes}
-use Rattle.tpol_prepare.specs.Steps.{Step, ◌>>=◌}
-use Rattle.tpol_prepare.specs.StoreStep.{store_step}
+use Rattle.tpol_steps.specs.declared.filled.FilledDocument.{FilledDocument}
+use Rattle.tpol_steps.specs.Filled.{erased_filled}
+use Rattle.tpol_steps.specs.Limits.{limits_step}
+use Rattle.tpol_steps.specs.SceneStep.{scene_of_bytes}
+use Rattle.tpol_steps.specs.Steps.{Step, ◌>>=◌}
+use Rattle.tpol_steps.specs.StoreStep.{store_step}
 use Rattle.tpol_tree.specs.ClosedErased.{erased_document}
 use Rattle.tpol_tree.specs.declared.closed.Closed.{Closed}
 use Rattle.tpol_tree.specs.declared.path.ApprovedDoc.{ApprovedDoc}

@@ -1,24 +1,16 @@
 ghost use Rattle.std.specs.Prelude.{◌≡◌, [], All, IfOk, OnOk, map};
 ghost use Rattle.std.specs.Option.{option_copied};
 ghost use Rattle.tpol_store.specs.Stores.{IsReadable, policies_of, stored};
-ghost use Rattle.tpol_prepare.specs.FilledDocuments.{IsReadyDocument, document_step, documents_from, erased_filled, is_filled, reference_step};
-ghost use Rattle.tpol_prepare.specs.Steps.{Answers, IsInside};
+ghost use Rattle.tpol_prepare.specs.FilledDocuments.{document_step, documents_from, is_filled, reference_step};
+ghost use Rattle.tpol_steps.specs.Filled.{IsReadyDocument, erased_filled};
+ghost use Rattle.tpol_steps.specs.Steps.{Answers, IsInside};
 
-use crate::filled::fill_document;
-use crate::halt::Halt;
 use crate::references::{Reference, policy_at};
 use std::alloc::Global;
-use tpol_base::{Sequence, Text};
+use tpol_base::Sequence;
 use tpol_name::Sight;
+use tpol_steps::{FilledDocument, Halt, fill_document};
 use tpol_store::Store;
-use tpol_tree::Closed;
-
-/// A policy document of the shelf, by its name without `.json`, and the policy that it is when it is filled.
-#[derive(Drop)]
-pub struct FilledDocument {
-    pub name: Text,
-    pub closed: Closed,
-}
 
 /// Fills the documents that are named, each once, in the order of their first references.
 ///

@@ -2,19 +2,17 @@ ghost use Rattle.std.specs.Prelude.{◌≡◌, All, IfOk, OnOk, map, take};
 ghost use Rattle.tpol_name.specs.Setups.{IsSetup};
 ghost use Rattle.tpol_store.specs.Stores.{IsReadable, policies_of, stored};
 ghost use Rattle.tpol_prepare.specs.Entities.{IsReadyEntity, compiled_step, entities_from, entity_step, erased_compiled, index_with_policy, no_entity, object_with_policy, setup_with_policy, sight_before, with_entity};
-ghost use Rattle.tpol_prepare.specs.FilledDocuments.{IsReady};
-ghost use Rattle.tpol_prepare.specs.Steps.{Answers, IsInside};
+ghost use Rattle.tpol_steps.specs.Filled.{IsReady};
+ghost use Rattle.tpol_steps.specs.Steps.{Answers, IsInside};
 ghost use Rattle.tpol_tree.specs.ClosedErased.{erased};
 
-use crate::documents::FilledDocument;
-use crate::filled::fill_document;
-use crate::halt::Halt;
 use crate::references::policy_at;
 use std::alloc::Global;
 use tpol_base::{Blob, Digest32, ExactClone, NoMemory, Sequence};
 use tpol_digest::digest_of;
 use tpol_name::{IndexEntry, Indices, ObjectEntry, Objects, Setup, Sight, opening_sight};
 use tpol_scene::EntityPolicy;
+use tpol_steps::{FilledDocument, Halt, fill_document};
 use tpol_store::Store;
 use tpol_tree::Closed;
 

@@ -2,20 +2,18 @@ ghost use Rattle.std.specs.Prelude.{◌≡◌, true, is_some, All, IfSome, IfOk,
 ghost use Rattle.tpol_name.specs.Setups.{IsSetup};
 ghost use Rattle.tpol_store.specs.Stores.{IsReadable, policies_of, stored};
 ghost use Rattle.tpol_prepare.specs.Entities.{IsReadyEntity, erased_compiled};
-ghost use Rattle.tpol_prepare.specs.FilledDocuments.{IsReadyDocument};
-ghost use Rattle.tpol_prepare.specs.Prepared.{begun_step, erased_prepared, filled_scene_step, named_scene_step, opening_step, prepared_step, sight_step};
-ghost use Rattle.tpol_prepare.specs.Steps.{Answers, AsksShelf, IsInside};
+ghost use Rattle.tpol_prepare.specs.Prepared.{begun_step, erased_prepared, filled_scene_step, opening_step, prepared_step, sight_step};
+ghost use Rattle.tpol_steps.specs.Filled.{IsReadyDocument};
+ghost use Rattle.tpol_steps.specs.Steps.{Answers, AsksShelf, IsInside};
 
-use crate::documents::{FilledDocument, fill_references};
+use crate::documents::fill_references;
 use crate::entities::{CompiledEntity, CompiledSetup, compile_entities};
-use crate::halt::Halt;
 use crate::references::{Reference, check_entities, check_references, script_references};
-use crate::scene_step::scene_of_shelf;
-use crate::store_step::load_store;
 use std::alloc::Global;
 use tpol_base::{ExactClone, NoMemory, Sequence, Shelf, Text};
 use tpol_name::{Setup, Sight, opening_sight};
 use tpol_scene::Scene;
+use tpol_steps::{FilledDocument, Halt, load_store, scene_of_shelf};
 use tpol_store::Store;
 
 /// A scene whose policies are filled: what its machine starts from, what the machine shows then, the entities
@@ -127,30 +125,6 @@ pub fn opening_of(
             let PreparedScene { setup, sight, .. } = prepared;
             drop(setup);
             Ok(Some(sight))
-        }
-    }
-}
-
-/// The scene of this name on the shelf, if one is named.
-///
-/// `Refused` tells that the shelf has no such scene, that it has more than 1,048,576 bytes or is no JSON text, or
-/// its first fault. `ShelfFailed` comes only where the shelf failed, and `NoMemory` where memory ran out. Where no
-/// scene is named, the shelf is left alone.
-#[tactic(auto, unfolding(crate::specs::Prepared::named_scene_step))]
-pub fn named_scene<H: Shelf>(
-    alloc: Global,
-    name: &Option<Text>,
-    shelf: &mut H,
-) -> Result<Option<Scene>, Halt>
-    ensures answer { IfSome (H.documents shelf.old) (λ all. Answers (λ scene. scene) (named_scene_step name.now all) result) }
-    ensures keeps { H.documents shelf.new ≡ H.documents shelf.old }
-    ensures asks { AsksShelf (is_some name.now) ⊤ shelf.old shelf.new (H.faults shelf.old) (H.faults shelf.new) result }
-{
-    match name {
-        None => Ok(None),
-        Some(name) => {
-            let scene = scene_of_shelf(alloc, name, shelf)?;
-            Ok(Some(scene))
         }
     }
 }

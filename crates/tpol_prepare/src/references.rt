@@ -2,17 +2,16 @@ ghost use Rattle.std.specs.Prelude.{◌≡◌, ◌++◌, All, IfOk, OnOk, map};
 ghost use Rattle.std.specs.List.{flat_map};
 ghost use Rattle.tpol_store.specs.Stores.{IsReadable, policies_of, stored};
 ghost use Rattle.tpol_prepare.specs.References.{entity_reference, event_references, policy_at, references_step, script_references};
-ghost use Rattle.tpol_prepare.specs.Steps.{Answers, IsInside};
+ghost use Rattle.tpol_steps.specs.Steps.{Answers, IsInside};
 ghost use Rattle.tpol_tree.specs.Bounds.{HasBounds};
 ghost use Rattle.tpol_tree.specs.Elements as written;
 ghost use Rattle.tpol_tree.specs.Erased.{erased_policy};
 
-use crate::halt::Halt;
-use crate::refusals::bad_scene;
 use std::alloc::Global;
 use tpol_base::{NoMemory, Sequence, Text};
 use tpol_json::Place;
 use tpol_scene::{EntityPolicy, Scene, ScriptEvent};
+use tpol_steps::{Halt, bad_scene};
 use tpol_store::Store;
 use tpol_tree::Policy;
 

@@ -9,27 +9,23 @@ ghost use Rattle.tpol_store.specs.Approvals.{HasApprovedBounds, approved_documen
 ghost use Rattle.tpol_store.specs.Stores.{IsReadable, policies_of, stored};
 ghost use Rattle.tpol_digest.specs.WellFormed.{IsWellFormedDocument};
 ghost use Rattle.tpol_prepare.specs.Entities.{IsReadyEntity, erased_entity};
-ghost use Rattle.tpol_prepare.specs.FilledDocuments.{IsReadyDocument};
-ghost use Rattle.tpol_prepare.specs.Limits.{limits_step};
 ghost use Rattle.tpol_prepare.specs.Prepared.{erased_prepared};
 ghost use Rattle.tpol_prepare.specs.Scenario.{CanHappen, IsScenarioOf, IsWalkable, entity_document, erased_staged, grants_of, is_client, is_document, is_entity, limited_step, policy_of_entity, scenario_with, staged_from, staged_of, staged_step, staged_with};
-ghost use Rattle.tpol_prepare.specs.SceneStep.{scene_of_bytes};
 ghost use Rattle.tpol_prepare.specs.Staged.{IsStaged};
-ghost use Rattle.tpol_prepare.specs.Steps.{Answers, AsksShelf, IsInside};
+ghost use Rattle.tpol_steps.specs.Filled.{IsReadyDocument};
+ghost use Rattle.tpol_steps.specs.Limits.{limits_step};
+ghost use Rattle.tpol_steps.specs.SceneStep.{scene_of_bytes};
+ghost use Rattle.tpol_steps.specs.Steps.{Answers, AsksShelf, IsInside};
 ghost use Rattle.tpol_tree.specs.ClosedErased.{erased_document};
 
-use crate::documents::FilledDocument;
 use crate::entities::CompiledEntity;
-use crate::halt::Halt;
-use crate::limits::{check_documents, check_limits};
 use crate::prepared::{PreparedScene, prepare};
-use crate::scene_step::scene_of_bytes;
-use crate::store_step::load_store;
 use std::alloc::Global;
 use tpol_base::{Digest32, ExactClone, NoMemory, Sequence, Shelf};
 use tpol_goal::Grants;
 use tpol_name::{Directory, Setup, directory};
 use tpol_scene::{Clients, Scene, Script};
+use tpol_steps::{FilledDocument, Halt, check_documents, check_limits, load_store, scene_of_bytes};
 use tpol_store::Store;
 use tpol_tree::{Approvals, Closed};
 
@@ -200,7 +196,7 @@ fn check_scene(
 }
 
 // The same of the policies of entities.
-#[tactic(auto, using(crate::proofs::Walkable::walkable), unfolding(crate::specs::Limits::limits_step))]
+#[tactic(auto, using(crate::proofs::Walkable::walkable), unfolding(tpol_steps::specs::Limits::limits_step))]
 fn check_entities(
     alloc: Global,
     entities: &[CompiledEntity],

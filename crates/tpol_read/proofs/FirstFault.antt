@@ -9,13 +9,13 @@ use Rattle.tpol_json.specs.Places.{root, at_member, at_item}
 use Rattle.tpol_read.specs.Approvals.{approvals_member, approvals_or_none, approvals_of, approvals_from, counted_approval}
 use Rattle.tpol_read.specs.Documents.{start, document_in, policy_of, element_count, Faults, fault_of, with_more, element_faults, elements_faults, policy_member_faults, approval_faults, approvals_faults, approvals_member_faults, member_faults, faults_unless, policy_faults, first_of, IsRefused}
 use Rattle.tpol_read.specs.Elements.{element_at, max_levels, counted, elements_from, elements_of, elements_in, policy_member, description_member}
-use Rattle.tpol_elements.specs.declared.fault.PolicyFault.TheVariants.{Bad}
-use Rattle.tpol_elements.specs.declared.fault.PolicyKind.{PolicyKind}
-use Rattle.tpol_elements.specs.declared.walk.Walk.{Walk}
+use Rattle.tpol_members.specs.declared.fault.PolicyFault.TheVariants.{Bad}
+use Rattle.tpol_members.specs.declared.fault.PolicyKind.{PolicyKind}
+use Rattle.tpol_members.specs.declared.walk.Walk.{Walk}
 use Rattle.tpol_base.specs.Answers.{◌>>=◌}
-use Rattle.tpol_elements.specs.Faults.{Fault, Found}
-use Rattle.tpol_elements.specs.Members.{object_in, read_needed}
-use Rattle.tpol_elements.specs.Walks.{still}
+use Rattle.tpol_members.specs.Faults.{Fault, Found}
+use Rattle.tpol_members.specs.Members.{object_in, read_needed}
+use Rattle.tpol_members.specs.Walks.{still}
 use Rattle.tpol_tree.specs.Erased.{nowhere}
 use Rattle.tpol_tree.specs.declared.policy.Elements.TheVariants as elements
 use Rattle.tpol_tree.specs.declared.policy.Policy.{Policy}

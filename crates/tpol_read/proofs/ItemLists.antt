@@ -4,8 +4,8 @@ use Rattle.serde_json.specs.Data.{Data, array}
 use Rattle.serde_json.specs.View.{items_view}
 use Rattle.serde_json.specs.declared.value.Value.{Value}
 use Rattle.tpol_json.specs.declared.place.Place.{Place}
-use Rattle.tpol_elements.specs.declared.walk.Walk.{Walk}
-use Rattle.tpol_elements.specs.Walks.{Reading}
+use Rattle.tpol_members.specs.declared.walk.Walk.{Walk}
+use Rattle.tpol_members.specs.Walks.{Reading}
 use Rattle.tpol_read.specs.Elements.{elements_of, elements_in, elements_from}
 use Rattle.tpol_tree.specs.declared.policy.Element.{Element}
 

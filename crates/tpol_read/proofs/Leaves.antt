@@ -8,18 +8,19 @@ use Rattle.serde_json.specs.Find.{get}
 use Rattle.tpol_json.specs.Places.{at_member}
 use Rattle.tpol_json.specs.declared.place.Place.{Place}
 use Rattle.tpol_json.proofs.AllFound.{AllFound, all_after, all_then, needed-fits}
-use Rattle.tpol_elements.proofs.Limits.{Is32, all_still, code-fits, entity-bounded, expiration-bounded, localities-fits, object-bounded, offset-bounded, operand-bounded, parent-bounded, policy_ref-bounded}
-use Rattle.tpol_elements.specs.declared.fault.PolicyKind.TheVariants.{Missing}
+use Rattle.tpol_elements.proofs.Limits.{entity-bounded, object-bounded, parent-bounded}
+use Rattle.tpol_members.proofs.Limits.{Is32, all_still, code-fits, expiration-bounded, localities-fits, offset-bounded, operand-bounded, policy_ref-bounded}
+use Rattle.tpol_members.specs.declared.fault.PolicyKind.TheVariants.{Missing}
 use Rattle.tpol_elements.specs.declared.types.LeafType.{LeafType}
 use Rattle.tpol_elements.specs.declared.types.LeafType.TheVariants as types
-use Rattle.tpol_elements.specs.declared.walk.Walk.{Walk}
-use Rattle.tpol_elements.specs.Fields.{policy_ref_in, cp_hash_in, expiration_in, operand_in, offset_in, operation_member_in}
-use Rattle.tpol_elements.specs.Localities.{locality_in}
-use Rattle.tpol_elements.specs.Members.{needed}
-use Rattle.tpol_elements.specs.Operations.{code_in}
-use Rattle.tpol_elements.specs.Pcrs.{pcrs_in}
+use Rattle.tpol_members.specs.declared.walk.Walk.{Walk}
+use Rattle.tpol_members.specs.Fields.{policy_ref_in, cp_hash_in, expiration_in, operand_in, offset_in, operation_member_in}
+use Rattle.tpol_members.specs.Localities.{locality_in}
+use Rattle.tpol_members.specs.Members.{needed}
+use Rattle.tpol_members.specs.Operations.{code_in}
+use Rattle.tpol_members.specs.Pcrs.{pcrs_in}
 use Rattle.tpol_elements.specs.Rows.{leaf_row, pcr_row, nv_row, secret_row, signed_row, authorize_row, authorize_nv_row, locality_member, locality_row, command_code_row, cp_hash_row, name_hash_row, counter_timer_row, duplication_row, nv_written_row, without_pem, include_member, included_object, written_member}
-use Rattle.tpol_elements.specs.Values.{digest_in}
+use Rattle.tpol_members.specs.Values.{digest_in}
 use Rattle.tpol_elements.specs.Wishes.{key_in, index_in, entity_in, parent_in, names_in}
 use Rattle.tpol_read.proofs.PcrOrder.{WishRises, pcrs-rise}
 use Rattle.tpol_read.specs.RisingPcrs.{ElementIsRising}

@@ -9,17 +9,17 @@ use Rattle.serde_json.specs.Find.{get, as_array}
 use Rattle.tpol_base.specs.declared.digest.Digest32.{Digest32}
 use Rattle.tpol_json.specs.Places.{at_member, at_item}
 use Rattle.tpol_json.specs.declared.place.Place.{Place}
-use Rattle.tpol_elements.proofs.OneOf.{all_of}
-use Rattle.tpol_elements.proofs.Limits.{all_still, mask-fits, Is32}
+use Rattle.tpol_members.proofs.OneOf.{all_of}
+use Rattle.tpol_members.proofs.Limits.{all_still, mask-fits, Is32}
 use Rattle.tpol_json.proofs.AllFound.{AllFound, all_after, all_then, needed-fits}
 use Rattle.tpol_read.specs.RisingPcrs.{IsRising}
 use Rattle.tpol_tree.specs.Bounds.{PcrsHaveBounds}
-use Rattle.tpol_elements.specs.Faults.{bad}
-use Rattle.tpol_elements.specs.Members.{object_in, read_needed}
-use Rattle.tpol_elements.specs.Values.{unsigned_in}
-use Rattle.tpol_elements.specs.Pcrs.{PcrList, has_value, with_value, new_pcr_in, pcr_member, bank_member, value_member, pcr_value_in, pcr_values_from, wish_of_values, mask_in, current_pcrs_in, select_member, bank_in, only_bank, bank_or_list, pcrs_at, pcrs_in}
-use Rattle.tpol_elements.specs.declared.fault.PolicyKind.TheVariants.{Missing, Twice}
-use Rattle.tpol_elements.specs.declared.walk.Walk.{Walk}
+use Rattle.tpol_members.specs.Faults.{bad}
+use Rattle.tpol_members.specs.Members.{object_in, read_needed}
+use Rattle.tpol_members.specs.Values.{unsigned_in}
+use Rattle.tpol_members.specs.Pcrs.{PcrList, has_value, with_value, new_pcr_in, pcr_member, bank_member, value_member, pcr_value_in, pcr_values_from, wish_of_values, mask_in, current_pcrs_in, select_member, bank_in, only_bank, bank_or_list, pcrs_at, pcrs_in}
+use Rattle.tpol_members.specs.declared.fault.PolicyKind.TheVariants.{Missing, Twice}
+use Rattle.tpol_members.specs.declared.walk.Walk.{Walk}
 use Rattle.tpol_tree.specs.declared.wishes.PcrWish.{PcrWish}
 
 -- ---- putting a value in

@@ -15,10 +15,10 @@ use Rattle.tpol_read.specs.RisingPcrs.{HasRisingPcrs}
 use Rattle.tpol_elements.specs.declared.types.ElementType.{ElementType}
 use Rattle.tpol_elements.specs.declared.types.ElementType.TheVariants as types
 use Rattle.tpol_elements.specs.declared.types.LeafType.{LeafType}
-use Rattle.tpol_elements.specs.declared.walk.Walk.{Walk}
-use Rattle.tpol_elements.specs.Members.{object_in, read_needed}
+use Rattle.tpol_members.specs.declared.walk.Walk.{Walk}
+use Rattle.tpol_members.specs.Members.{object_in, read_needed}
 use Rattle.tpol_elements.specs.Rows.{leaf_row}
-use Rattle.tpol_elements.specs.Walks.{Reading}
+use Rattle.tpol_members.specs.Walks.{Reading}
 use Rattle.tpol_tree.proofs.EachElement.{EachElement-map}
 use Rattle.tpol_tree.specs.Bounds.{ElementHasBounds}
 use Rattle.tpol_tree.specs.Elements.{EachElement, EachElementWithin, EachElementOfBranches, HasBranchCounts, IsBranchCount, branch_count}

@@ -4,13 +4,13 @@ use Rattle.tpol_json.specs.Bytes.{bytes_from}
 use Rattle.serde_json.specs.Data.{Data, null, boolean, string, number, unsigned, array, object, no_items, item, no_members, member}
 use Rattle.tpol_json.specs.declared.place.Place.{Place}
 use Rattle.tpol_json.specs.Places.{root, at_member, at_item}
-use Rattle.tpol_elements.specs.declared.fault.PolicyKind.TheVariants as kinds
-use Rattle.tpol_elements.specs.Faults.{Found}
-use Rattle.tpol_elements.specs.Members.{noted}
-use Rattle.tpol_elements.specs.Pcrs.{pcr_member, pcr_value_in, pcrs_at, pcrs_in}
+use Rattle.tpol_members.specs.declared.fault.PolicyKind.TheVariants as kinds
+use Rattle.tpol_members.specs.Faults.{Found}
+use Rattle.tpol_members.specs.Members.{noted}
+use Rattle.tpol_members.specs.Pcrs.{pcr_member, pcr_value_in, pcrs_at, pcrs_in}
 use Rattle.tpol_base.specs.declared.compare.Compare.TheVariants.{Neq}
 use Rattle.tpol_base.specs.declared.name.Name.TheVariants.{Handle}
-use Rattle.tpol_elements.specs.Fields.{policy_ref_in, cp_hash_in, expiration_in, operand_in, offset_in, operation_member_in}
+use Rattle.tpol_members.specs.Fields.{policy_ref_in, cp_hash_in, expiration_in, operand_in, offset_in, operation_member_in}
 use Rattle.tpol_elements.specs.Rows.{pcr_row, nv_row, secret_row, signed_row, authorize_row, authorize_nv_row, locality_member, locality_row, command_code_row, name_hash_row, counter_timer_row, duplication_row, include_member, included_object, object_member, nv_written_row, written_member, without_pem}
 use Rattle.tpol_elements.specs.Wishes.{entity_at, entity_in, index_at, index_in, key_at, key_in, names_at, names_in, parent_at, parent_in}
 use Rattle.tpol_elements.specs.Types.{type_in}

@@ -7,16 +7,16 @@ use Rattle.tpol_json.specs.declared.place.Place.{Place}
 use Rattle.tpol_json.specs.Places.{at_member, at_item}
 use Rattle.tpol_read.specs.declared.approvals.ApprovalType.{ApprovalType}
 use Rattle.tpol_read.specs.declared.approvals.ApprovalType.TheVariants.{Key, Index, Pem}
-use Rattle.tpol_elements.specs.declared.fault.PolicyKind.TheVariants as kinds
-use Rattle.tpol_elements.specs.Values.{digest_in}
+use Rattle.tpol_members.specs.declared.fault.PolicyKind.TheVariants as kinds
+use Rattle.tpol_members.specs.Values.{digest_in}
 use Rattle.tpol_base.specs.Answers.{◌>>=◌}
-use Rattle.tpol_elements.specs.Faults.{Found, bad}
-use Rattle.tpol_elements.specs.Fields.{policy_ref_in}
-use Rattle.tpol_elements.specs.Members.{object_in, needed, noted}
+use Rattle.tpol_members.specs.Faults.{Found, bad}
+use Rattle.tpol_members.specs.Fields.{policy_ref_in}
+use Rattle.tpol_members.specs.Members.{object_in, needed, noted}
 use Rattle.tpol_elements.specs.Rows.{without_pem}
-use Rattle.tpol_elements.specs.Walks.{Reading}
+use Rattle.tpol_members.specs.Walks.{Reading}
 use Rattle.tpol_elements.specs.Wishes.{key_in, index_in}
-use Rattle.tpol_elements.specs.Words.{only_word}
+use Rattle.tpol_members.specs.Words.{only_word}
 use Rattle.tpol_tree.specs.declared.wishes.ApprovalWish.{ApprovalWish}
 use Rattle.tpol_tree.specs.declared.wishes.ApprovalWish.TheVariants.{ByKey, ByIndex}
 

@@ -7,16 +7,16 @@ use Rattle.tpol_json.specs.declared.place.Place.{Place}
 use Rattle.tpol_json.specs.Places.{root, at_member, at_item}
 use Rattle.tpol_read.specs.Approvals.{approvals_member, counted_approval}
 use Rattle.tpol_read.specs.Elements.{element_type_in, element_at, max_levels, counted, policy_member, description_member}
-use Rattle.tpol_elements.specs.declared.fault.PolicyFault.{PolicyFault}
-use Rattle.tpol_elements.specs.declared.fault.PolicyFault.TheVariants.{NotJson, Bad, NoMemory}
-use Rattle.tpol_elements.specs.declared.fault.PolicyKind.TheVariants as kinds
+use Rattle.tpol_members.specs.declared.fault.PolicyFault.{PolicyFault}
+use Rattle.tpol_members.specs.declared.fault.PolicyFault.TheVariants.{NotJson, Bad, NoMemory}
+use Rattle.tpol_members.specs.declared.fault.PolicyKind.TheVariants as kinds
 use Rattle.tpol_elements.specs.declared.types.ElementType.{ElementType}
 use Rattle.tpol_elements.specs.declared.types.ElementType.TheVariants.{Or, Leaf, Unsupported}
-use Rattle.tpol_elements.specs.declared.walk.Walk.{Walk}
+use Rattle.tpol_members.specs.declared.walk.Walk.{Walk}
 use Rattle.tpol_base.specs.Answers.{◌>>=◌}
-use Rattle.tpol_elements.specs.Faults.{Fault, Found}
-use Rattle.tpol_elements.specs.Members.{object_in, noted}
-use Rattle.tpol_elements.specs.Walks.{Reading, still}
+use Rattle.tpol_members.specs.Faults.{Fault, Found}
+use Rattle.tpol_members.specs.Members.{object_in, noted}
+use Rattle.tpol_members.specs.Walks.{Reading, still}
 use Rattle.tpol_tree.specs.declared.policy.Policy.{Policy}
 
 -- before anything is read: no note, and 1,024 elements may come

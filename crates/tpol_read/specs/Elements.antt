@@ -4,17 +4,17 @@ use Rattle.serde_json.specs.Data.{Data, Items, no_items, item}
 use Rattle.serde_json.specs.Find.{as_array}
 use Rattle.tpol_json.specs.declared.place.Place.{Place}
 use Rattle.tpol_json.specs.Places.{at_member, at_item}
-use Rattle.tpol_elements.specs.declared.fault.PolicyKind.TheVariants as kinds
+use Rattle.tpol_members.specs.declared.fault.PolicyKind.TheVariants as kinds
 use Rattle.tpol_elements.specs.declared.types.ElementType.{ElementType}
 use Rattle.tpol_elements.specs.declared.types.ElementType.TheVariants as types
 use Rattle.tpol_elements.specs.declared.types.LeafType.{LeafType}
-use Rattle.tpol_elements.specs.Values.{text_in}
+use Rattle.tpol_members.specs.Values.{text_in}
 use Rattle.tpol_base.specs.Answers.{◌>>=◌}
-use Rattle.tpol_elements.specs.Faults.{Found, bad}
-use Rattle.tpol_elements.specs.Members.{object_in, needed, optional, noted}
+use Rattle.tpol_members.specs.Faults.{Found, bad}
+use Rattle.tpol_members.specs.Members.{object_in, needed, optional, noted}
 use Rattle.tpol_elements.specs.Rows.{leaf_row}
 use Rattle.tpol_elements.specs.Types.{type_in, leaf_members}
-use Rattle.tpol_elements.specs.Walks.{Reading}
+use Rattle.tpol_members.specs.Walks.{Reading}
 use Rattle.tpol_json.specs.Members.{items_count}
 use Rattle.tpol_tree.specs.Erased.{nowhere}
 use Rattle.tpol_tree.specs.declared.policy.Branch.{Branch}

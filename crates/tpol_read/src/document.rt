@@ -3,7 +3,7 @@
 ghost use Rattle.std.specs.Prelude.{IfOk, IfErr};
 ghost use Rattle.serde_json.specs.View.{view};
 ghost use Rattle.tpol_read.specs.Documents.{ReadsAsPolicy, IsRefused, document_in};
-ghost use Rattle.tpol_elements.specs.Walks.{LeavesAs};
+ghost use Rattle.tpol_members.specs.Walks.{LeavesAs};
 ghost use Rattle.tpol_read.specs.RisingPcrs.{HasRisingPcrs};
 ghost use Rattle.tpol_tree.specs.Bounds.{HasBounds};
 ghost use Rattle.tpol_tree.specs.Elements.{HasBranchCounts};
@@ -14,8 +14,8 @@ use crate::elements::{MAX_LEVELS, policy};
 use crate::members::description;
 use serde_json::Value;
 use std::alloc::Global;
-use tpol_elements::{ElementFault, PolicyFault, Walk, note_unknown};
 use tpol_json::{Notes, ParseFault, Place, PlaceRef, check_object, parse};
+use tpol_members::{ElementFault, PolicyFault, Walk, note_unknown};
 use tpol_tree::Policy;
 
 /// How many elements a document may have, those of ORs among them.

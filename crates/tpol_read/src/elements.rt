@@ -4,7 +4,7 @@
 ghost use Rattle.std.specs.Prelude.{◌≡◌};
 ghost use Rattle.serde_json.specs.View.{view, items_view};
 ghost use Rattle.tpol_read.specs.Elements.{element_at, elements_from, elements_in, policy_member, counted, branch_in, branches_from, branches_in, or_at, is_branch_count, leaf_element};
-ghost use Rattle.tpol_elements.specs.Walks.{LeavesAs};
+ghost use Rattle.tpol_members.specs.Walks.{LeavesAs};
 ghost use Rattle.tpol_json.specs.Members.{items_count};
 ghost use Rattle.tpol_tree.specs.Erased.{erased_branch, erased_branches, erased_element, erased_elements};
 
@@ -12,11 +12,9 @@ use crate::lists::{branch_before, element_before};
 use crate::members::{description, name, type_of_element};
 use serde_json::Value;
 use std::alloc::Global;
-use tpol_elements::{
-    ElementFault, ElementType, LeafType, PolicyKind, Walk, leaf_row, note_leaf, note_unknown,
-    refuse,
-};
+use tpol_elements::{ElementType, LeafType, leaf_row, note_leaf};
 use tpol_json::{PlaceRef, check_object, needed};
+use tpol_members::{ElementFault, PolicyKind, Walk, note_unknown, refuse};
 use tpol_tree::{Branch, Branches, Element, Elements};
 
 /// How many ORs may stand inside one another.

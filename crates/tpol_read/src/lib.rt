@@ -9,5 +9,5 @@ mod lists;
 mod members;
 
 pub use document::read_policy;
-pub use tpol_elements::{PolicyFault, PolicyKind};
 pub use tpol_json::Notes;
+pub use tpol_members::{PolicyFault, PolicyKind};

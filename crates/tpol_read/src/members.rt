@@ -3,15 +3,16 @@
 ghost use Rattle.serde_json.specs.View.{view};
 ghost use Rattle.tpol_read.specs.Elements.{element_type_in, name_member, description_member};
 ghost use Rattle.std.specs.Prelude.{[]};
-ghost use Rattle.tpol_elements.specs.Faults.{Gives};
-ghost use Rattle.tpol_elements.specs.Members.{optional};
-ghost use Rattle.tpol_elements.specs.Values.{text_in};
+ghost use Rattle.tpol_members.specs.Faults.{Gives};
+ghost use Rattle.tpol_members.specs.Members.{optional};
+ghost use Rattle.tpol_members.specs.Values.{text_in};
 
 use serde_json::Value;
 use std::alloc::Global;
 use tpol_base::Text;
-use tpol_elements::{ElementFault, ElementType, element_type};
+use tpol_elements::{ElementType, element_type};
 use tpol_json::{PlaceRef, check_object, member, needed, text};
+use tpol_members::ElementFault;
 
 /// The type of an element, which is an object. `WrongKind` for what is no object and for a `type` that is no
 /// text, `Missing` without one, `UnknownType` for a text that names no type.

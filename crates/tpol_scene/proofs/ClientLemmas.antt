@@ -12,19 +12,19 @@ use Rattle.tpol_json.specs.Values.{is_within_limit}
 use Rattle.tpol_json.specs.declared.fault.MemberKind.TheVariants.{TooMany}
 use Rattle.tpol_json.specs.declared.place.Place.{Place}
 use Rattle.tpol_name.specs.Setups.{IsAuthValue}
+use Rattle.tpol_entities.specs.Faults.{kind_of, read_as}
+use Rattle.tpol_entities.specs.Members.{needed, optional}
+use Rattle.tpol_entities.specs.Targets.{target_in}
+use Rattle.tpol_entities.specs.Values.{object_in, u32_in, bytes_up_to, auth_in}
+use Rattle.tpol_entities.specs.declared.entities.Entities.{Entities}
+use Rattle.tpol_entities.specs.declared.fault.SceneKind.TheVariants.{Twice}
+use Rattle.tpol_entities.specs.declared.targets.Target.{Target}
+use Rattle.tpol_entities.proofs.EntryLemmas.{handles-push}
+use Rattle.tpol_entities.proofs.ValueLemmas.{any_ok, auth_ok, empty_auth, list_counted, list_ok, needed_ok, optional_ok, refuted, short_ok, tested}
 use Rattle.tpol_scene.specs.Clients.{ClientList, Values, client_in, clients_in, grant_in, grant_target, grant_value_in, grants_in, has_value, is_client, new_client_in, new_target_in}
 use Rattle.tpol_scene.specs.Conditions.{AreClients}
-use Rattle.tpol_scene.specs.Faults.{kind_of, read_as}
-use Rattle.tpol_scene.specs.Members.{needed, optional}
-use Rattle.tpol_scene.specs.Targets.{target_in}
-use Rattle.tpol_scene.specs.Values.{object_in, u32_in, bytes_up_to, auth_in}
-use Rattle.tpol_scene.specs.declared.entities.Entities.{Entities}
-use Rattle.tpol_scene.specs.declared.fault.SceneKind.TheVariants.{Twice}
 use Rattle.tpol_scene.specs.declared.grants.GrantKind.{GrantKind}
 use Rattle.tpol_scene.specs.declared.grants.GrantKind.TheVariants.{Secret, Key}
-use Rattle.tpol_scene.specs.declared.targets.Target.{Target}
-use Rattle.tpol_scene.proofs.EntryLemmas.{handles-push}
-use Rattle.tpol_scene.proofs.ValueLemmas.{any_ok, auth_ok, empty_auth, list_counted, list_ok, needed_ok, optional_ok, refuted, short_ok, tested}
 
 -- an item past the limit is not read
 pub within : (limit index : ℕ) (place : Place) → AllFound (λ _. index < limit) (read_as (is_within_limit limit index place))

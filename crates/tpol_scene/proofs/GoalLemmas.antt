@@ -10,17 +10,17 @@ use Rattle.tpol_json.specs.declared.place.Place.{Place}
 use Rattle.tpol_name.specs.Paths.{is_same_path}
 use Rattle.tpol_name.specs.declared.entries.IndexEntry.{IndexEntry}
 use Rattle.tpol_name.specs.declared.entries.ObjectEntry.{ObjectEntry}
+use Rattle.tpol_entities.specs.Members.{needed, optional}
+use Rattle.tpol_entities.specs.Targets.{handle_at, handle_or_bad, target_in}
+use Rattle.tpol_entities.specs.Values.{object_in, text_in, unsigned_in, bytes_up_to}
+use Rattle.tpol_entities.specs.declared.entities.Entities.{Entities}
+use Rattle.tpol_entities.specs.declared.targets.Target.{Target}
+use Rattle.tpol_entities.specs.declared.targets.Target.TheVariants.{Entity, Object, Index}
+use Rattle.tpol_entities.proofs.ValueLemmas.{any_ok, needed_ok, optional_ok, short_ok, unsigned_ok}
 use Rattle.tpol_scene.specs.Conditions.{HasOffset}
 use Rattle.tpol_scene.specs.Goals.{duplicate_in, goal_by, goal_command_in, goal_in, hmac_in, nv_read_in, nv_write_in, offset_in, path_target}
-use Rattle.tpol_scene.specs.Members.{needed, optional}
-use Rattle.tpol_scene.specs.Targets.{handle_at, handle_or_bad, target_in}
-use Rattle.tpol_scene.specs.Values.{object_in, text_in, unsigned_in, bytes_up_to}
-use Rattle.tpol_scene.specs.declared.entities.Entities.{Entities}
 use Rattle.tpol_scene.specs.declared.goals.GoalCommand.{GoalCommand}
 use Rattle.tpol_scene.specs.declared.goals.GoalCommand.TheVariants.{Unseal, Hmac, NvRead, NvWrite, NvIncrement, Duplicate}
-use Rattle.tpol_scene.specs.declared.targets.Target.{Target}
-use Rattle.tpol_scene.specs.declared.targets.Target.TheVariants.{Entity, Object, Index}
-use Rattle.tpol_scene.proofs.ValueLemmas.{any_ok, needed_ok, optional_ok, short_ok, unsigned_ok}
 
 -- ---- what is found is there
 

@@ -1,16 +1,9 @@
 pub mod BindLemmas
 pub mod ClientLemmas
-pub mod DistinctLemmas
-pub mod EntryLemmas
-pub mod FirstLemmas
 pub mod GoalLemmas
-pub mod ListLemmas
-pub mod PlaceLemmas
 pub mod ReadLemmas
 pub mod SceneFaultsLemmas
 pub mod SceneLemmas
 pub mod ScriptLemmas
 pub mod SetupLemmas
-pub mod ValueLemmas
 pub mod Worked
-pub mod ZerosLemmas

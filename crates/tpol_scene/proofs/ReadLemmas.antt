@@ -6,10 +6,10 @@ use Rattle.tpol_json.proofs.AllFound.{AllFound}
 use Rattle.tpol_json.specs.Document.{document_of}
 use Rattle.tpol_json.specs.Places.{root}
 use Rattle.tpol_json.specs.declared.place.Place.{Place}
-use Rattle.tpol_scene.specs.Faults.{Found}
+use Rattle.tpol_entities.specs.Faults.{Found}
+use Rattle.tpol_entities.specs.declared.fault.SceneKind.{SceneKind}
 use Rattle.tpol_scene.specs.Scenes.{IsDocumentOf, IsFaultOf, scene_in}
 use Rattle.tpol_scene.specs.declared.fault.SceneFault.TheVariants.{Bad}
-use Rattle.tpol_scene.specs.declared.fault.SceneKind.{SceneKind}
 use Rattle.tpol_scene.specs.declared.scene.Scene.{Scene}
 use Rattle.tpol_scene.proofs.SceneLemmas.{SceneFits, scene_ok}
 use Rattle.tpol_scene.proofs.SceneFaultsLemmas.{no_fault, first_fault}

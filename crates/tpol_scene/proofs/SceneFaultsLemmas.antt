@@ -6,19 +6,19 @@ use Rattle.tpol_base.specs.Answers.{◌>>=◌}
 use Rattle.tpol_base.specs.Digest.{zero_digest}
 use Rattle.tpol_json.specs.Places.{root}
 use Rattle.tpol_json.specs.declared.place.Place.{Place}
+use Rattle.tpol_entities.specs.Entities.{entity_in, entities_in, no_entities}
+use Rattle.tpol_entities.specs.Faults.{Fault, Found, first_of}
+use Rattle.tpol_entities.specs.Lists.{faults_of, list_faults, optional_faults, optional_kept}
+use Rattle.tpol_entities.specs.Members.{optional}
+use Rattle.tpol_entities.specs.Pcrs.{pcr_in, pcrs_in, zero_bank}
+use Rattle.tpol_entities.specs.Values.{object_in, u32_in, truth_in, digest_in, auth_in}
+use Rattle.tpol_entities.specs.declared.entities.Entities.{Entities}
+use Rattle.tpol_entities.proofs.FirstLemmas.{Leads, fault_in, kept-optional, leads-one, leads-optional, leads-read, leads-then, same_ok}
 use Rattle.tpol_scene.specs.Clients.{ClientList, client_in, clients_in}
-use Rattle.tpol_scene.specs.Entities.{entity_in, entities_in, no_entities}
-use Rattle.tpol_scene.specs.Faults.{Fault, Found, first_of}
-use Rattle.tpol_scene.specs.Lists.{faults_of, list_faults, optional_faults, optional_kept}
-use Rattle.tpol_scene.specs.Members.{optional}
-use Rattle.tpol_scene.specs.Pcrs.{pcr_in, pcrs_in, zero_bank}
 use Rattle.tpol_scene.specs.Scenes.{authorities_in, authorities_faults, cast_faults, cast_in, cast_kept, entities_kept, scene_faults, scene_in, start_faults, start_in, time_in, times_in, times_faults}
 use Rattle.tpol_scene.specs.Scripts.{event_in, no_events, script_in}
-use Rattle.tpol_scene.specs.Values.{object_in, u32_in, truth_in, digest_in, auth_in}
 use Rattle.tpol_scene.specs.declared.cast.Cast.{Cast}
-use Rattle.tpol_scene.specs.declared.entities.Entities.{Entities}
 use Rattle.tpol_scene.specs.declared.scene.Scene.{Scene}
-use Rattle.tpol_scene.proofs.FirstLemmas.{Leads, fault_in, kept-optional, leads-one, leads-optional, leads-read, leads-then, same_ok}
 
 -- a reading and nothing behind it
 leads-end : {A B : Type 0} (faults : List Fault) (reading : Found A) (next : A → B) → Leads faults reading → Leads faults (reading >>= λ x. Ok (next x))

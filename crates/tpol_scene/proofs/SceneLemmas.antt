@@ -5,24 +5,25 @@ use Rattle.serde_json.specs.Data.{Data}
 use Rattle.tpol_json.proofs.AllFound.{AllFound, all_then}
 use Rattle.tpol_json.specs.declared.place.Place.{Place}
 use Rattle.tpol_name.specs.Setups.{IsSetup}
+use Rattle.tpol_entities.specs.Entities.{entities_in, no_entities}
+use Rattle.tpol_entities.specs.Members.{optional}
+use Rattle.tpol_entities.specs.Values.{object_in}
+use Rattle.tpol_entities.specs.declared.entities.Entities.{Entities}
+use Rattle.tpol_entities.proofs.EntryLemmas.{Entered}
+use Rattle.tpol_entities.proofs.PlaceLemmas.{IsCounted, entities_counted}
+use Rattle.tpol_entities.proofs.EntityLemmas.{entities_ok}
+use Rattle.tpol_entities.proofs.ValueLemmas.{any_ok, both_ok}
 use Rattle.tpol_scene.specs.Clients.{clients_in}
 use Rattle.tpol_scene.specs.Conditions.{HasClients, HasLimits, HasPlaces, HasScript}
-use Rattle.tpol_scene.specs.Entities.{entities_in, no_entities}
-use Rattle.tpol_scene.specs.Members.{optional}
 use Rattle.tpol_scene.specs.Scenes.{cast_in, scene_in, scene_with, start_in}
 use Rattle.tpol_scene.specs.Scripts.{no_events, script_in}
-use Rattle.tpol_scene.specs.Values.{object_in}
 use Rattle.tpol_scene.specs.declared.cast.Cast.{Cast}
-use Rattle.tpol_scene.specs.declared.entities.Entities.{Entities}
 use Rattle.tpol_scene.specs.declared.scene.Scene.{Scene}
 use Rattle.tpol_scene.specs.declared.script.ScriptFront.{ScriptFront}
 use Rattle.tpol_scene.specs.declared.start.Start.{Start}
 use Rattle.tpol_scene.proofs.ClientLemmas.{AreFewClients, clients_ok}
-use Rattle.tpol_scene.proofs.EntryLemmas.{Entered}
-use Rattle.tpol_scene.proofs.PlaceLemmas.{IsCounted, entities_counted}
 use Rattle.tpol_scene.proofs.ScriptLemmas.{IsScriptOf, script_ok}
-use Rattle.tpol_scene.proofs.SetupLemmas.{StartFits, entities_ok, start_ok}
-use Rattle.tpol_scene.proofs.ValueLemmas.{any_ok, both_ok}
+use Rattle.tpol_scene.proofs.SetupLemmas.{StartFits, start_ok}
 
 -- the entities meet what the machine asks, stand in their places and are few
 abbrev EntitiesFit : Entities → Type 0

@@ -10,24 +10,24 @@ use Rattle.tpol_goal.specs.declared.grants.Grants.{Grants}
 use Rattle.tpol_json.proofs.AllFound.{AllFound, all_map, all_then}
 use Rattle.tpol_json.specs.Values.{is_within_limit}
 use Rattle.tpol_json.specs.declared.place.Place.{Place}
+use Rattle.tpol_entities.specs.Entities.{policy_name_in}
+use Rattle.tpol_entities.specs.Faults.{read_as}
+use Rattle.tpol_entities.specs.Members.{needed, optional}
+use Rattle.tpol_entities.specs.Values.{object_in, truth_in, u32_in, unsigned_in}
+use Rattle.tpol_entities.specs.declared.fault.SceneKind.TheVariants.{NoSuchClient, NoSuchRun, Twice}
+use Rattle.tpol_entities.proofs.DistinctLemmas.{list_any-map}
+use Rattle.tpol_entities.proofs.ValueLemmas.{any_ok, list_counted, needed_ok, optional_ok, refuted, tested, unsigned_ok}
 use Rattle.tpol_scene.specs.Clients.{ClientList, is_client, listed_client_in}
 use Rattle.tpol_scene.specs.Conditions.{AreEventsBehind, IsEventBehind}
-use Rattle.tpol_scene.specs.Entities.{policy_name_in}
-use Rattle.tpol_scene.specs.Faults.{read_as}
 use Rattle.tpol_scene.specs.Goals.{goal_in}
-use Rattle.tpol_scene.specs.Members.{needed, optional}
 use Rattle.tpol_scene.specs.Scripts.{begin_in, begun_run, begun_run_in, begun_runs, buffer_in, command_in, event_by, event_in, event_kind_in, is_begun, locality_in, new_run_in, no_events, presence_event_in, run_in, script_in, some_times_in, time_event_in, turn_in, with_event}
-use Rattle.tpol_scene.specs.Values.{object_in, truth_in, u32_in, unsigned_in}
 use Rattle.tpol_scene.specs.declared.cast.Cast.{Cast}
 use Rattle.tpol_scene.specs.declared.events.EventKind.{EventKind}
 use Rattle.tpol_scene.specs.declared.events.EventKind.TheVariants as kinds
-use Rattle.tpol_scene.specs.declared.fault.SceneKind.TheVariants.{NoSuchClient, NoSuchRun, Twice}
 use Rattle.tpol_scene.specs.declared.script.ScriptEvent.{ScriptEvent}
 use Rattle.tpol_scene.specs.declared.script.ScriptFront.{ScriptFront}
 use Rattle.tpol_scene.proofs.ClientLemmas.{within}
-use Rattle.tpol_scene.proofs.DistinctLemmas.{list_any-map}
 use Rattle.tpol_scene.proofs.GoalLemmas.{FitsEntities, goal_ok, indices_of, objects_of}
-use Rattle.tpol_scene.proofs.ValueLemmas.{any_ok, list_counted, needed_ok, optional_ok, refuted, tested, unsigned_ok}
 
 -- ---- numbers in a list
 

@@ -1,60 +1,18 @@
 -- What the definitions say of some values.
-use Rattle.std.specs.Prelude.{◌≡◌, ℕ, List, [], ◌∷◌, codes, true, false, Some, Ok, refl}
+use Rattle.std.specs.Prelude.{◌≡◌, ℕ, List, [], ◌∷◌, codes, Ok, refl}
 use Rattle.serde_json.specs.Data.{Data, Members, null, number, string, array, object, unsigned, no_items, item, no_members, member}
-use Rattle.tpol_base.specs.Handle.{rh_owner}
-use Rattle.tpol_base.specs.PolicyName.{without_folder}
 use Rattle.tpol_json.specs.Members.{items_from}
 use Rattle.tpol_json.specs.Places.{root, at_member, at_item}
 use Rattle.tpol_json.specs.Words.{find_word}
+use Rattle.tpol_entities.specs.Entities.{heading_in, entity_in}
+use Rattle.tpol_entities.specs.Faults.{bad}
+use Rattle.tpol_entities.specs.Lists.{item_faults, items_kept}
+use Rattle.tpol_entities.specs.declared.fault.SceneKind.TheVariants.{Missing, WrongKind, BadNumber, NoSuchClient, NoSuchRun, UnknownKind}
 use Rattle.tpol_scene.specs.Clients.{client_in}
-use Rattle.tpol_scene.specs.Entities.{no_entities, has_path, bytes_or_name, heading_in, index_attributes_in, entity_in}
-use Rattle.tpol_scene.specs.Faults.{bad}
 use Rattle.tpol_scene.specs.Goals.{goal_command_in}
-use Rattle.tpol_scene.specs.Lists.{item_faults, items_kept}
 use Rattle.tpol_scene.specs.Scenes.{authorities_in, times_in, scene_faults}
 use Rattle.tpol_scene.specs.Scripts.{begin_in, event_by, event_in, event_kind_in, turn_in}
-use Rattle.tpol_scene.specs.Targets.{handle_at, target_in}
-use Rattle.tpol_scene.specs.Values.{without_zeros}
-use Rattle.tpol_scene.specs.declared.fault.SceneKind.TheVariants.{Missing, WrongKind, BadNumber, Twice, BadState, NoSuchClient, NoSuchPath, NoSuchRun, UnknownKind}
 use Rattle.tpol_scene.specs.declared.goals.GoalCommand.TheVariants.{NvRead}
-use Rattle.tpol_scene.specs.declared.targets.Target.TheVariants.{Entity, Object}
-
--- zero bytes at the end are taken away, those before are not
-pub zeros : without_zeros (1 ∷ 0 ∷ 2 ∷ 0 ∷ 0 ∷ []) ≡ 1 ∷ 0 ∷ 2 ∷ []
-unfolding without_zeros
-zeros = refl
-
-pub name_in_folder : without_folder (codes "/policy/disk") ≡ codes "disk"
-name_in_folder = refl
-
-pub name_alone : without_folder (codes "policy/disk") ≡ codes "policy/disk"
-name_alone = refl
-
--- the paths of the hierarchies are taken, with or without a profile in front
-pub owner_path : has_path no_entities (codes "/P_RSA2048/HS") ≡ true
-unfolding has_path
-owner_path = refl
-
-pub free_path : has_path no_entities (codes "/HS/SRK") ≡ false
-unfolding has_path
-free_path = refl
-
--- a counter is an index of a scene, a PIN index is not, nor one that says that it is written
-pub counter : index_attributes_in (number (unsigned 0x10)) root ≡ Ok 0x10
-unfolding index_attributes_in
-counter = refl
-
-pub pin : index_attributes_in (number (unsigned 0x80)) root ≡ bad BadState root
-unfolding index_attributes_in
-pin = refl
-
-pub written : index_attributes_in (number (unsigned 0x20000000)) root ≡ bad BadState root
-unfolding index_attributes_in
-written = refl
-
--- `policy` beside `authPolicy`, whatever it is
-pub both : bytes_or_name (Some []) (Some null) root ≡ bad Twice root
-both = refl
 
 -- `{}` has no fault
 pub empty : scene_faults (object no_members) ≡ []
@@ -72,15 +30,6 @@ pub two_entities : scene_faults (object (member (codes "entities") (array (item 
     ≡ (WrongKind, at_item (at_member root (codes "entities")) 0) ∷ (Missing, at_member (at_item (at_member root (codes "entities")) 1) (codes "kind")) ∷ []
 unfolding scene_faults authorities_in times_in item_faults items_from entity_in heading_in
 two_entities = refl
-
--- a hierarchy may have a value, but no key
-pub value_of_owner : target_in no_entities Entity (string (codes "/P_RSA2048/HS")) root ≡ Ok rh_owner
-unfolding handle_at
-value_of_owner = refl
-
-pub no_key_of_owner : target_in no_entities Object (string (codes "HS")) root ≡ bad NoSuchPath root
-unfolding handle_at
-no_key_of_owner = refl
 
 -- the commands of goals are free in case and prefix, and the kinds of events are exact
 pub goal_word : goal_command_in (string (codes "tpm2_cc_NV_READ")) root ≡ Ok NvRead

@@ -6,17 +6,17 @@ use Rattle.tpol_base.specs.Answers.{◌>>=◌}
 use Rattle.tpol_goal.specs.declared.grants.Grants.{Grants}
 use Rattle.tpol_json.specs.Values.{is_within_limit}
 use Rattle.tpol_json.specs.declared.place.Place.{Place}
-use Rattle.tpol_scene.specs.declared.entities.Entities.{Entities}
+use Rattle.tpol_entities.specs.declared.entities.Entities.{Entities}
+use Rattle.tpol_entities.specs.declared.targets.Target.{Target}
+use Rattle.tpol_entities.specs.declared.targets.Target.TheVariants.{Entity, Object}
+use Rattle.tpol_entities.specs.declared.fault.SceneKind.TheVariants.{NoSuchClient, Twice}
+use Rattle.tpol_entities.specs.Faults.{Found, bad, read_as}
+use Rattle.tpol_entities.specs.Lists.{ItemReading, list_in}
+use Rattle.tpol_entities.specs.Members.{needed, optional}
+use Rattle.tpol_entities.specs.Targets.{target_in}
+use Rattle.tpol_entities.specs.Values.{object_in, u32_in, bytes_up_to, auth_in}
 use Rattle.tpol_scene.specs.declared.grants.GrantKind.{GrantKind}
 use Rattle.tpol_scene.specs.declared.grants.GrantKind.TheVariants.{Secret, Key}
-use Rattle.tpol_scene.specs.declared.targets.Target.{Target}
-use Rattle.tpol_scene.specs.declared.targets.Target.TheVariants.{Entity, Object}
-use Rattle.tpol_scene.specs.declared.fault.SceneKind.TheVariants.{NoSuchClient, Twice}
-use Rattle.tpol_scene.specs.Faults.{Found, bad, read_as}
-use Rattle.tpol_scene.specs.Lists.{ItemReading, list_in}
-use Rattle.tpol_scene.specs.Members.{needed, optional}
-use Rattle.tpol_scene.specs.Targets.{target_in}
-use Rattle.tpol_scene.specs.Values.{object_in, u32_in, bytes_up_to, auth_in}
 
 -- values by the handle of the entity that they are for
 abbrev pub Values : Type 0

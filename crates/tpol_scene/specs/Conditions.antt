@@ -1,13 +1,11 @@
 -- What holds of each scene that is read.
-use Rattle.std.specs.Prelude.{◌≡◌, ◌⊎◌, ⊤, ℕ, ◌+◌, ◌^◌, ◌≤◌, ◌<◌, nat_eq, List, [], ◌∷◌, ◌++◌, length, map, slice_get, All, Contains, Some, IfSome}
+use Rattle.std.specs.Prelude.{⊤, ℕ, ◌+◌, ◌^◌, ◌≤◌, ◌<◌, nat_eq, List, [], ◌∷◌, ◌++◌, length, map, All, Contains, IfSome}
 use Rattle.std.specs.List.{IsDistinct}
 use Rattle.tpol_goal.specs.declared.goal.Goal.{Goal}
 use Rattle.tpol_goal.specs.declared.goal.Goal.TheVariants.{Unseal, Hmac, NvRead, NvWrite, NvIncrement, Duplicate}
 use Rattle.tpol_goal.specs.Goals.{IsGoal, IsGoalAmong}
 use Rattle.tpol_goal.specs.Grants.{IsGrants}
-use Rattle.tpol_name.specs.declared.entries.IndexEntry.{IndexEntry}
-use Rattle.tpol_name.specs.declared.entries.ObjectEntry.{ObjectEntry}
-use Rattle.tpol_scene.specs.declared.entities.EntityPolicy.{EntityPolicy}
+use Rattle.tpol_entities.specs.Places.{StandsBehind}
 use Rattle.tpol_scene.specs.declared.scene.Scene.{Scene}
 use Rattle.tpol_scene.specs.declared.script.ScriptEvent.{ScriptEvent}
 use Rattle.tpol_scene.specs.declared.script.ScriptEvent.TheVariants.{Command, Begin, Turn, Time, Presence, Reset}
@@ -15,13 +13,6 @@ use Rattle.tpol_scene.specs.Clients.{ClientList}
 use Rattle.tpol_scene.specs.Scripts.{begun_run, begun_runs}
 
 -- ---- where the entities stand whose policy is named
-
--- an entity stands behind so many objects and so many indices: it is the next object or the next index
-pub record StandsBehind (objects : List ObjectEntry) (indices : List IndexEntry) (policy : EntityPolicy) : Type 0 where
-  pub objects_before : policy.objects_before ≤ length objects
-  pub indices_before : policy.indices_before ≤ length indices
-  pub is_next : (slice_get (map (λ o. o.handle) objects) policy.objects_before ≡ Some policy.handle)
-      ⊎ (slice_get (map (λ i. i.public.index) indices) policy.indices_before ≡ Some policy.handle)
 
 abbrev pub HasPlaces : Scene → Type 0
 HasPlaces scene = All (StandsBehind scene.setup.objects scene.setup.indices) scene.policies

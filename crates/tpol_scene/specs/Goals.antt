@@ -7,16 +7,16 @@ use Rattle.tpol_goal.specs.declared.goal.Goal.{Goal}
 use Rattle.tpol_goal.specs.declared.goal.Goal.TheVariants as goals
 use Rattle.tpol_json.specs.Values.{one_word}
 use Rattle.tpol_json.specs.declared.place.Place.{Place}
-use Rattle.tpol_scene.specs.declared.entities.Entities.{Entities}
+use Rattle.tpol_entities.specs.declared.entities.Entities.{Entities}
+use Rattle.tpol_entities.specs.declared.targets.Target.{Target}
+use Rattle.tpol_entities.specs.declared.targets.Target.TheVariants.{Object, Index}
+use Rattle.tpol_entities.specs.declared.fault.SceneKind.TheVariants.{UnknownKind}
+use Rattle.tpol_entities.specs.Faults.{Found, bad, read_as}
+use Rattle.tpol_entities.specs.Members.{needed, optional}
+use Rattle.tpol_entities.specs.Targets.{target_in}
+use Rattle.tpol_entities.specs.Values.{object_in, unsigned_in, bytes_up_to}
 use Rattle.tpol_scene.specs.declared.goals.GoalCommand.{GoalCommand}
 use Rattle.tpol_scene.specs.declared.goals.GoalCommand.TheVariants.{Unseal, Hmac, NvRead, NvWrite, NvIncrement, Duplicate}
-use Rattle.tpol_scene.specs.declared.targets.Target.{Target}
-use Rattle.tpol_scene.specs.declared.targets.Target.TheVariants.{Object, Index}
-use Rattle.tpol_scene.specs.declared.fault.SceneKind.TheVariants.{UnknownKind}
-use Rattle.tpol_scene.specs.Faults.{Found, bad, read_as}
-use Rattle.tpol_scene.specs.Members.{needed, optional}
-use Rattle.tpol_scene.specs.Targets.{target_in}
-use Rattle.tpol_scene.specs.Values.{object_in, unsigned_in, bytes_up_to}
 
 -- the commands that a goal may name
 abbrev pub goal_commands : List (List ℕ × GoalCommand)

@@ -1,11 +1,3 @@
-pub mod Faults
-pub mod Values
-pub mod Members
-pub mod Lists
-pub mod Pcrs
-pub mod Kinds
-pub mod Entities
-pub mod Targets
 pub mod Clients
 pub mod Goals
 pub mod Scripts

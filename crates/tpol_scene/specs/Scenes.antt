@@ -9,9 +9,15 @@ use Rattle.tpol_json.specs.declared.place.Place.{Place}
 use Rattle.tpol_name.specs.declared.entries.IndexEntry.{IndexEntry}
 use Rattle.tpol_name.specs.declared.entries.ObjectEntry.{ObjectEntry}
 use Rattle.tpol_name.specs.declared.setup.Setup.{Setup}
+use Rattle.tpol_entities.specs.declared.entities.Entities.{Entities}
+use Rattle.tpol_entities.specs.declared.fault.PartFault.{PartFault}
+use Rattle.tpol_entities.specs.Entities.{entity_in, entities_in, no_entities}
+use Rattle.tpol_entities.specs.Faults.{Fault, Found, GivesBy, first_of}
+use Rattle.tpol_entities.specs.Lists.{faults_of, list_faults, optional_faults, optional_kept}
+use Rattle.tpol_entities.specs.Members.{optional}
+use Rattle.tpol_entities.specs.Pcrs.{pcr_in, pcrs_in, zero_bank}
+use Rattle.tpol_entities.specs.Values.{object_in, unsigned_in, u32_in, truth_in, digest_in, auth_in}
 use Rattle.tpol_scene.specs.declared.cast.Cast.{Cast}
-use Rattle.tpol_scene.specs.declared.entities.Entities.{Entities}
-use Rattle.tpol_scene.specs.declared.fault.PartFault.{PartFault}
 use Rattle.tpol_scene.specs.declared.fault.SceneFault.{SceneFault}
 use Rattle.tpol_scene.specs.declared.fault.SceneFault.TheVariants.{NotJson, Bad, NoMemory}
 use Rattle.tpol_scene.specs.declared.start.Authorities.{Authorities}
@@ -21,13 +27,7 @@ use Rattle.tpol_scene.specs.declared.start.Times.{Times}
 use Rattle.tpol_scene.specs.declared.scene.Scene.{Scene}
 use Rattle.tpol_scene.specs.declared.script.ScriptEvent.{ScriptEvent}
 use Rattle.tpol_scene.specs.Clients.{ClientList, client_in, clients_in}
-use Rattle.tpol_scene.specs.Entities.{entity_in, entities_in, no_entities}
-use Rattle.tpol_scene.specs.Faults.{Fault, Found, GivesBy, first_of}
-use Rattle.tpol_scene.specs.Lists.{faults_of, list_faults, optional_faults, optional_kept}
-use Rattle.tpol_scene.specs.Members.{optional}
-use Rattle.tpol_scene.specs.Pcrs.{pcr_in, pcrs_in, zero_bank}
 use Rattle.tpol_scene.specs.Scripts.{event_in, no_events, script_in}
-use Rattle.tpol_scene.specs.Values.{object_in, unsigned_in, u32_in, truth_in, digest_in, auth_in}
 
 -- the seed of the nonces and the authorization values of the hierarchies
 unfoldable pub authorities_in : Data → Place → Found Authorities

@@ -9,20 +9,20 @@ use Rattle.tpol_json.specs.Faults as members
 use Rattle.tpol_json.specs.Reading as json
 use Rattle.tpol_json.specs.Values.{is_within_limit}
 use Rattle.tpol_json.specs.declared.place.Place.{Place}
+use Rattle.tpol_entities.specs.declared.fault.SceneKind.TheVariants.{NoSuchRun, Twice, UnknownKind}
+use Rattle.tpol_entities.specs.Entities.{policy_name_in}
+use Rattle.tpol_entities.specs.Faults.{Found, bad, read_as}
+use Rattle.tpol_entities.specs.Lists.{ItemReading, list_in}
+use Rattle.tpol_entities.specs.Members.{needed, optional}
+use Rattle.tpol_entities.specs.Values.{object_in, text_in, truth_in, unsigned_in, u32_in}
 use Rattle.tpol_scene.specs.declared.cast.Cast.{Cast}
 use Rattle.tpol_scene.specs.declared.events.EventKind.{EventKind}
 use Rattle.tpol_scene.specs.declared.events.EventKind.TheVariants as kinds
 use Rattle.tpol_scene.specs.declared.script.ScriptEvent.{ScriptEvent}
 use Rattle.tpol_scene.specs.declared.script.ScriptEvent.TheVariants.{Command, Begin, Turn, Time, Presence, Reset}
 use Rattle.tpol_scene.specs.declared.script.ScriptFront.{ScriptFront}
-use Rattle.tpol_scene.specs.declared.fault.SceneKind.TheVariants.{NoSuchRun, Twice, UnknownKind}
 use Rattle.tpol_scene.specs.Clients.{listed_client_in}
-use Rattle.tpol_scene.specs.Entities.{policy_name_in}
-use Rattle.tpol_scene.specs.Faults.{Found, bad, read_as}
 use Rattle.tpol_scene.specs.Goals.{goal_in}
-use Rattle.tpol_scene.specs.Lists.{ItemReading, list_in}
-use Rattle.tpol_scene.specs.Members.{needed, optional}
-use Rattle.tpol_scene.specs.Values.{object_in, text_in, truth_in, unsigned_in, u32_in}
 
 -- ---- the kinds of events
 

@@ -1,14 +1,13 @@
 //! The entities of a scene and its clients.
 
 ghost use Rattle.serde_json.specs.View.{view};
-ghost use Rattle.tpol_scene.specs.Faults.{Gives};
+ghost use Rattle.tpol_entities.specs.Faults.{Gives};
 ghost use Rattle.tpol_scene.specs.Scenes.{cast_in};
 
 use crate::clients::{Clients, optional_clients};
-use crate::entities::{Entities, optional_entities};
-use crate::fault::PartFault;
 use serde_json::Value;
 use std::alloc::Global;
+use tpol_entities::{Entities, PartFault, optional_entities};
 use tpol_json::PlaceRef;
 
 /// The entities of a scene and its clients, which the events of its script name.

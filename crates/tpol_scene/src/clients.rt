@@ -2,19 +2,17 @@
 
 ghost use Rattle.std.specs.Prelude.{[], codes};
 ghost use Rattle.serde_json.specs.View.{view};
+ghost use Rattle.tpol_entities.specs.Faults.{Gives};
+ghost use Rattle.tpol_entities.specs.Members.{needed, optional};
 ghost use Rattle.tpol_scene.specs.Clients.{clients_in, listed_client_in, new_client_in};
-ghost use Rattle.tpol_scene.specs.Faults.{Gives};
-ghost use Rattle.tpol_scene.specs.Members.{needed, optional};
 
-use crate::SceneKind;
-use crate::entities::Entities;
-use crate::fault::{PartFault, refuse};
 use crate::grants::{GrantKind, optional_grants};
-use crate::lists::{ItemReader, has_number, optional_list};
-use crate::members::needed_u32;
 use serde_json::Value;
 use std::alloc::Global;
 use tpol_base::Sequence;
+use tpol_entities::{
+    Entities, ItemReader, PartFault, SceneKind, has_number, needed_u32, optional_list, refuse,
+};
 use tpol_goal::Grants;
 use tpol_json::{PlaceRef, check_limit, check_object};
 

@@ -2,19 +2,17 @@
 
 ghost use Rattle.std.specs.Prelude.{◌≡◌, [], codes};
 ghost use Rattle.serde_json.specs.View.{view};
+ghost use Rattle.tpol_entities.specs.Faults.{Gives};
+ghost use Rattle.tpol_entities.specs.Members.{needed, optional};
 ghost use Rattle.tpol_scene.specs.Clients.{grant_target, grant_value_in, grants_in, new_target_in};
-ghost use Rattle.tpol_scene.specs.Faults.{Gives};
-ghost use Rattle.tpol_scene.specs.Members.{needed, optional};
 
-use crate::SceneKind;
-use crate::entities::Entities;
-use crate::fault::{PartFault, refuse};
-use crate::lists::{ItemReader, has_number, optional_list};
-use crate::members::{needed_bytes, optional_auth};
-use crate::targets::{Target, needed_target};
 use serde_json::Value;
 use std::alloc::Global;
 use tpol_base::{Blob, Sequence};
+use tpol_entities::{
+    Entities, ItemReader, PartFault, SceneKind, Target, has_number, needed_bytes, needed_target,
+    optional_auth, optional_list, refuse,
+};
 use tpol_goal::Secrets;
 use tpol_json::{PlaceRef, check_object};
 

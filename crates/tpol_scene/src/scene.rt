@@ -3,19 +3,18 @@
 ghost use Rattle.std.specs.Prelude.{◌≡◌, IfOk, IfErr};
 ghost use Rattle.serde_json.specs.View.{view};
 ghost use Rattle.tpol_name.specs.Setups.{IsSetup};
+ghost use Rattle.tpol_entities.specs.Faults.{Gives};
 ghost use Rattle.tpol_scene.specs.Conditions.{HasClients, HasLimits, HasPlaces, HasScript};
-ghost use Rattle.tpol_scene.specs.Faults.{Gives};
 ghost use Rattle.tpol_scene.specs.Scenes.{IsDocumentOf, IsFaultOf, scene_in, scene_with};
 
 use crate::SceneFault;
 use crate::cast::{Cast, read_cast};
 use crate::clients::Clients;
-use crate::entities::{Entities, EntityPolicies};
-use crate::fault::PartFault;
 use crate::script::{Script, optional_script};
 use crate::start::{Start, read_start, setup_with};
 use serde_json::Value;
 use std::alloc::Global;
+use tpol_entities::{Entities, EntityPolicies, PartFault};
 use tpol_json::{ParseFault, Place, PlaceRef, check_object, parse};
 use tpol_name::Setup;
 

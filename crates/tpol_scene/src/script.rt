@@ -2,17 +2,16 @@
 
 ghost use Rattle.std.specs.Prelude.{◌≡◌, codes, OnOk};
 ghost use Rattle.serde_json.specs.View.{view};
-ghost use Rattle.tpol_scene.specs.Faults.{Gives};
-ghost use Rattle.tpol_scene.specs.Members.{optional};
+ghost use Rattle.tpol_entities.specs.Faults.{Gives};
+ghost use Rattle.tpol_entities.specs.Members.{optional};
 ghost use Rattle.tpol_scene.specs.Scripts.{no_events, script_in, with_event};
 
 use crate::cast::Cast;
 use crate::events::{event_by, needed_event_kind};
-use crate::fault::PartFault;
-use crate::lists::{ItemReader, optional_list};
 use serde_json::Value;
 use std::alloc::Global;
 use tpol_base::{Blob, NoMemory, Sequence, Text};
+use tpol_entities::{ItemReader, PartFault, optional_list};
 use tpol_goal::Goal;
 use tpol_json::{Place, PlaceRef, check_limit, check_object};
 

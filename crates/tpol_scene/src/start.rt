@@ -3,17 +3,17 @@
 ghost use Rattle.std.specs.Prelude.{◌≡◌, codes};
 ghost use Rattle.serde_json.specs.View.{view};
 ghost use Rattle.tpol_base.specs.Digest.{zero_digest};
-ghost use Rattle.tpol_scene.specs.Faults.{Gives};
-ghost use Rattle.tpol_scene.specs.Members.{optional};
+ghost use Rattle.tpol_entities.specs.Faults.{Gives};
+ghost use Rattle.tpol_entities.specs.Members.{optional};
+ghost use Rattle.tpol_entities.specs.Values.{digest_in};
 ghost use Rattle.tpol_scene.specs.Scenes.{GivesStartRest, authorities_in, setup_with, start_in, time_in, times_in};
-ghost use Rattle.tpol_scene.specs.Values.{digest_in};
 
-use crate::fault::PartFault;
-use crate::members::{optional_auth, optional_truth, optional_u32, zero_digest};
-use crate::pcrs::optional_pcrs;
 use serde_json::Value;
 use std::alloc::Global;
 use tpol_base::{Blob, Digest32, Digests};
+use tpol_entities::{
+    PartFault, optional_auth, optional_pcrs, optional_truth, optional_u32, zero_digest,
+};
 use tpol_json::{PlaceRef, digest, member, unsigned};
 use tpol_name::{Indices, Objects, Setup};
 

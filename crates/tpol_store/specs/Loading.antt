@@ -6,9 +6,9 @@ use Rattle.serde_json.specs.Data.{Data}
 use Rattle.tpol_base.specs.declared.document.Document.{Document}
 use Rattle.tpol_base.specs.Answers.{◌>>=◌}
 use Rattle.tpol_base.specs.Documents.{document_of, handed_out, most_handed_out, names_of}
-use Rattle.tpol_elements.specs.declared.fault.PolicyFault.{PolicyFault}
-use Rattle.tpol_elements.specs.declared.fault.PolicyFault.TheVariants as policy_faults
-use Rattle.tpol_elements.specs.Faults.{Fault, Found}
+use Rattle.tpol_members.specs.declared.fault.PolicyFault.{PolicyFault}
+use Rattle.tpol_members.specs.declared.fault.PolicyFault.TheVariants as policy_faults
+use Rattle.tpol_members.specs.Faults.{Fault, Found}
 use Rattle.tpol_json.specs.declared.place.Place.{Place}
 use Rattle.tpol_json.specs.Document.{document_of as json_of}
 use Rattle.tpol_read.specs.Documents.{policy_faults as faults_of, policy_of}

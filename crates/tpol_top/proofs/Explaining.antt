@@ -3,11 +3,11 @@ use Rattle.std.proofs.Common.{inl, inr, ◌≡◌, ◌∙◌, refl, subst, sym, 
 use Rattle.std.proofs.lemmas.Bool.{false≢true}
 use Rattle.std.specs.Prelude.{⊤, ◌⊎◌}
 use Rattle.tpol_base.specs.declared.document.Document.{Document}
-use Rattle.tpol_prepare.specs.declared.answer.Answer.{Answer}
-use Rattle.tpol_prepare.specs.declared.answer.Verdict.{Verdict}
-use Rattle.tpol_prepare.specs.declared.answer.Verdict.TheVariants.{Done, Usage, TooLarge, BadPolicy, BadScene, PathLimit}
-use Rattle.tpol_prepare.specs.declared.halt.Halt.{Halt}
-use Rattle.tpol_prepare.specs.declared.halt.Halt.TheVariants.{Refused, ReadFailed, ShelfFailed, NoMemory}
+use Rattle.tpol_steps.specs.declared.answer.Answer.{Answer}
+use Rattle.tpol_steps.specs.declared.answer.Verdict.{Verdict}
+use Rattle.tpol_steps.specs.declared.answer.Verdict.TheVariants.{Done, Usage, TooLarge, BadPolicy, BadScene, PathLimit}
+use Rattle.tpol_steps.specs.declared.halt.Halt.{Halt}
+use Rattle.tpol_steps.specs.declared.halt.Halt.TheVariants.{Refused, ReadFailed, ShelfFailed, NoMemory}
 use Rattle.tpol_top.specs.declared.request.Request.{Request}
 use Rattle.tpol_top.specs.declared.request.Request.TheVariants.{Explain}
 use Rattle.tpol_top.specs.declared.status.Status.{Status}
@@ -16,7 +16,7 @@ use Rattle.tpol_top.specs.Explain.{IfExplain, OfExplain, OfHeld}
 use Rattle.tpol_perform.specs.Explained.{IsExplained, IsExplainedScene}
 use Rattle.tpol_top.specs.Report.{OfReport, most_read, report_of}
 use Rattle.tpol_top.specs.Status.{status_of}
-use Rattle.tpol_prepare.specs.Steps.{IfAnswered}
+use Rattle.tpol_steps.specs.Steps.{IfAnswered}
 use Rattle.tpol_top.specs.Words.{reads_source_for, request_of}
 
 -- ---- where the command is another

@@ -3,12 +3,12 @@ use Rattle.std.proofs.Common.{◌≡◌, ◌∙◌, ap, refl, sym, List, Option,
 use Rattle.std.specs.Prelude.{ℕ, IfOk, OnErr}
 use Rattle.tpol_base.specs.declared.document.Document.{Document}
 use Rattle.tpol_json.specs.declared.place.Place.{Place}
-use Rattle.tpol_prepare.specs.declared.answer.Answer.{Answer}
-use Rattle.tpol_prepare.specs.declared.halt.Halt.{Halt}
-use Rattle.tpol_prepare.specs.declared.halt.Halt.TheVariants.{Refused, ReadFailed, ShelfFailed, NoMemory}
+use Rattle.tpol_steps.specs.declared.answer.Answer.{Answer}
+use Rattle.tpol_steps.specs.declared.halt.Halt.{Halt}
+use Rattle.tpol_steps.specs.declared.halt.Halt.TheVariants.{Refused, ReadFailed, ShelfFailed, NoMemory}
 use Rattle.tpol_top.specs.Import.{documents_after_import, documents_with, import_step, imported}
-use Rattle.tpol_prepare.specs.ReadStep.{read_step}
-use Rattle.tpol_prepare.specs.Steps.{Answers, IfAnswered, Step, ◌>>=◌}
+use Rattle.tpol_steps.specs.ReadStep.{read_step}
+use Rattle.tpol_steps.specs.Steps.{Answers, IfAnswered, Step, ◌>>=◌}
 use Rattle.tpol_tree.specs.declared.policy.Policy.{Policy}
 
 -- the documents are as before where nothing was read

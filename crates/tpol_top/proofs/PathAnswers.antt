@@ -3,7 +3,7 @@ use Rattle.std.proofs.Common.{◌≡◌, List, map}
 use Rattle.tpol_digest.specs.Paths.{paths_of}
 use Rattle.tpol_digest.proofs.Erasures.{paths_ignore_boxes}
 use Rattle.tpol_tree.specs.ClosedErased.{erased, erased_document}
-use Rattle.tpol_prepare.proofs.FilledErased.{policy_digest_erased}
+use Rattle.tpol_steps.proofs.FilledErased.{policy_digest_erased}
 use Rattle.tpol_top.specs.Paths.{path_answer}
 use Rattle.tpol_tree.specs.declared.closed.Closed.{Closed}
 use Rattle.tpol_tree.specs.declared.path.ApprovedDoc.{ApprovedDoc}

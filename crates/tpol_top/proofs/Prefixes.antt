@@ -5,7 +5,7 @@ use Rattle.std.proofs.Math.Seq.{drop-cons, take-append-add}
 use Rattle.std.proofs.lemmas.Grind.{flat_map-append}
 use Rattle.std.specs.Io.KnownBytes.{append_known}
 use Rattle.tpol_base.specs.Causes.{Grows, GrowsInPart}
-use Rattle.tpol_prepare.specs.Answer.{text_of}
+use Rattle.tpol_steps.specs.Answer.{text_of}
 
 -- the text is that of the lines before place i, the line there, and those behind
 text_of-split : (lines : List (List ℕ)) (i : ℕ) (line : List ℕ) → i < length lines → line ≡ get_or lines i line → text_of lines ≡ text_of (take i lines) ++ (line ++ text_of (drop (suc i) lines))

@@ -3,12 +3,12 @@ use Rattle.std.proofs.Common.{◌≡◌, List, Option, Some, None, Result, Ok, I
 use Rattle.std.specs.Prelude.{ℕ}
 use Rattle.tpol_base.specs.declared.document.Document.{Document}
 use Rattle.tpol_json.specs.declared.place.Place.{Place}
-use Rattle.tpol_prepare.specs.declared.answer.Answer.{Answer}
-use Rattle.tpol_prepare.specs.declared.halt.Halt.{Halt}
+use Rattle.tpol_steps.specs.declared.answer.Answer.{Answer}
+use Rattle.tpol_steps.specs.declared.halt.Halt.{Halt}
 use Rattle.tpol_top.specs.Compile.{compile_step, compiled_with}
 use Rattle.tpol_top.specs.Paths.{listed_with, paths_step}
-use Rattle.tpol_prepare.specs.ReadStep.{read_step}
-use Rattle.tpol_prepare.specs.Steps.{Answers}
+use Rattle.tpol_steps.specs.ReadStep.{read_step}
+use Rattle.tpol_steps.specs.Steps.{Answers}
 use Rattle.tpol_tree.specs.declared.policy.Policy.{Policy}
 
 pub compiled_after : (documents : Option (List Document)) (scene : Option (List ℕ)) (input : List ℕ) (policy : Policy) (notes : List Place) (result : Result Answer Halt) → read_step input ≡ Ok (policy, notes) → IfSome documents (λ all. Answers (λ answer. answer) (compiled_with scene policy notes all) result) → IfSome documents (λ all. Answers (λ answer. answer) (compile_step scene input all) result)

@@ -3,14 +3,14 @@ use Rattle.std.specs.Prelude.{ℕ, List, true, false}
 use Rattle.tpol_base.specs.declared.document.Document.{Document}
 use Rattle.tpol_top.specs.declared.request.Request.{Request}
 use Rattle.tpol_top.specs.declared.request.Request.TheVariants.{Compile, Paths, Canon, Import, Run, Explain, Generate}
-use Rattle.tpol_prepare.specs.declared.answer.Answer.{Answer}
+use Rattle.tpol_steps.specs.declared.answer.Answer.{Answer}
 use Rattle.tpol_top.specs.Canon.{canon_step}
 use Rattle.tpol_top.specs.Compile.{compile_step}
-use Rattle.tpol_perform.specs.Generate.{generate_step}
+use Rattle.tpol_generate.specs.Generate.{generate_step}
 use Rattle.tpol_top.specs.Import.{documents_after_import, import_step}
 use Rattle.tpol_top.specs.Paths.{paths_step}
 use Rattle.tpol_perform.specs.Script.{perform_step}
-use Rattle.tpol_prepare.specs.Steps.{Step}
+use Rattle.tpol_steps.specs.Steps.{Step}
 
 -- one equation a command
 abbrev pub request_step : Request → List ℕ → List Document → Step Answer

@@ -5,13 +5,13 @@ use Rattle.tpol_digest.specs.Digest.{policy_digest}
 use Rattle.tpol_json.specs.declared.place.Place.{Place}
 use Rattle.tpol_lines.specs.Lines.{line_of}
 use Rattle.tpol_name.specs.declared.sight.Sight.{Sight}
-use Rattle.tpol_prepare.specs.declared.answer.Answer.{Answer}
-use Rattle.tpol_prepare.specs.declared.answer.Verdict.TheVariants.{Done}
-use Rattle.tpol_prepare.specs.Filled.{filled_step}
-use Rattle.tpol_prepare.specs.Lines.{digest_line, note_line}
+use Rattle.tpol_steps.specs.declared.answer.Answer.{Answer}
+use Rattle.tpol_steps.specs.declared.answer.Verdict.TheVariants.{Done}
+use Rattle.tpol_steps.specs.Filled.{filled_step}
+use Rattle.tpol_steps.specs.Lines.{digest_line, note_line}
 use Rattle.tpol_prepare.specs.Prepared.{sight_step}
-use Rattle.tpol_prepare.specs.ReadStep.{read_step}
-use Rattle.tpol_prepare.specs.Steps.{Step, ◌>>=◌}
+use Rattle.tpol_steps.specs.ReadStep.{read_step}
+use Rattle.tpol_steps.specs.Steps.{Step, ◌>>=◌}
 use Rattle.tpol_tree.specs.declared.closed.Closed.{Closed}
 use Rattle.tpol_tree.specs.declared.policy.Policy.{Policy}
 

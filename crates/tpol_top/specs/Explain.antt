@@ -1,13 +1,13 @@
 -- The command `explain`: of which words, source and answer something is said.
 use Rattle.std.specs.Prelude.{◌≡◌, ⊤, ℕ, List, take, Option, Some, IfSome, Result}
 use Rattle.tpol_base.specs.declared.document.Document.{Document}
-use Rattle.tpol_prepare.specs.declared.answer.Answer.{Answer}
-use Rattle.tpol_prepare.specs.declared.answer.Verdict.TheVariants.{Done}
-use Rattle.tpol_prepare.specs.declared.halt.Halt.{Halt}
+use Rattle.tpol_steps.specs.declared.answer.Answer.{Answer}
+use Rattle.tpol_steps.specs.declared.answer.Verdict.TheVariants.{Done}
+use Rattle.tpol_steps.specs.declared.halt.Halt.{Halt}
 use Rattle.tpol_top.specs.declared.request.Request.{Request}
 use Rattle.tpol_top.specs.declared.request.Request.TheVariants.{Explain}
 use Rattle.tpol_top.specs.Report.{most_read}
-use Rattle.tpol_prepare.specs.Steps.{IfAnswered}
+use Rattle.tpol_steps.specs.Steps.{IfAnswered}
 
 -- P, where the command is `explain`
 abbrev pub IfExplain : Option Request → Type 0 → Type 0

@@ -4,11 +4,11 @@ use Rattle.tpol_base.specs.declared.document.Document.{Document}
 use Rattle.tpol_base.specs.Documents.{put_document}
 use Rattle.tpol_json.specs.declared.place.Place.{Place}
 use Rattle.tpol_store.specs.FileNames.{file_name}
-use Rattle.tpol_prepare.specs.declared.answer.Answer.{Answer}
-use Rattle.tpol_prepare.specs.declared.answer.Verdict.TheVariants.{Done}
-use Rattle.tpol_prepare.specs.Answer.{one_line}
-use Rattle.tpol_prepare.specs.ReadStep.{read_step}
-use Rattle.tpol_prepare.specs.Steps.{Step, ◌>>=◌}
+use Rattle.tpol_steps.specs.declared.answer.Answer.{Answer}
+use Rattle.tpol_steps.specs.declared.answer.Verdict.TheVariants.{Done}
+use Rattle.tpol_steps.specs.Answer.{one_line}
+use Rattle.tpol_steps.specs.ReadStep.{read_step}
+use Rattle.tpol_steps.specs.Steps.{Step, ◌>>=◌}
 use Rattle.tpol_tree.specs.declared.policy.Policy.{Policy}
 use Rattle.tpol_write.specs.Canonical.{canonical_text}
 

@@ -8,15 +8,16 @@ use Rattle.tpol_lines.specs.PathLine.{path_lines}
 use Rattle.tpol_scene.specs.declared.scene.Scene.{Scene}
 use Rattle.tpol_store.specs.Approvals.{approved_documents}
 use Rattle.tpol_store.specs.Stores.{NamedPolicy}
-use Rattle.tpol_prepare.specs.declared.answer.Answer.{Answer}
-use Rattle.tpol_prepare.specs.declared.answer.Verdict.TheVariants.{Done}
-use Rattle.tpol_prepare.specs.Filled.{filled_step}
-use Rattle.tpol_prepare.specs.Limits.{limit_step}
-use Rattle.tpol_prepare.specs.Lines.{digest_line}
-use Rattle.tpol_prepare.specs.Prepared.{named_scene_step, opening_step}
-use Rattle.tpol_prepare.specs.ReadStep.{read_step}
-use Rattle.tpol_prepare.specs.Steps.{Step, ◌>>=◌}
-use Rattle.tpol_prepare.specs.StoreStep.{store_step}
+use Rattle.tpol_steps.specs.declared.answer.Answer.{Answer}
+use Rattle.tpol_steps.specs.declared.answer.Verdict.TheVariants.{Done}
+use Rattle.tpol_steps.specs.Filled.{filled_step}
+use Rattle.tpol_steps.specs.Limits.{limit_step}
+use Rattle.tpol_steps.specs.Lines.{digest_line}
+use Rattle.tpol_prepare.specs.Prepared.{opening_step}
+use Rattle.tpol_steps.specs.SceneStep.{named_scene_step}
+use Rattle.tpol_steps.specs.ReadStep.{read_step}
+use Rattle.tpol_steps.specs.Steps.{Step, ◌>>=◌}
+use Rattle.tpol_steps.specs.StoreStep.{store_step}
 use Rattle.tpol_tree.specs.declared.closed.Closed.{Closed}
 use Rattle.tpol_tree.specs.declared.path.ApprovedDoc.{ApprovedDoc}
 use Rattle.tpol_tree.specs.declared.path.Path.{Path}

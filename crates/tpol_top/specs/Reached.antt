@@ -2,9 +2,9 @@
 use Rattle.std.specs.Prelude.{ℕ, List, ◌<◌, length, IsOk, Option, Some, None}
 use Rattle.tpol_top.specs.declared.request.Request.{Request}
 use Rattle.tpol_top.specs.declared.request.Request.TheVariants.{Run, Explain, Generate}
-use Rattle.tpol_prepare.specs.ReadStep.{read_step}
+use Rattle.tpol_steps.specs.ReadStep.{read_step}
 use Rattle.tpol_top.specs.Report.{most_read}
-use Rattle.tpol_prepare.specs.SceneStep.{scene_of_bytes}
+use Rattle.tpol_steps.specs.SceneStep.{scene_of_bytes}
 use Rattle.tpol_top.specs.Words.{request_of}
 
 -- the bytes are the document that a command reads: a scene, or a policy

@@ -1,12 +1,12 @@
 -- What a run of the program prints and answers, and what it leaves on the shelf.
 use Rattle.std.specs.Prelude.{◌≡◌, ◌≤◌, ℕ, List, [], take, drop, length, codes, nat_le, Option, None, Some, IfSome, if◌then◌else◌}
 use Rattle.tpol_base.specs.declared.document.Document.{Document}
-use Rattle.tpol_prepare.specs.declared.answer.Answer.{Answer}
-use Rattle.tpol_prepare.specs.declared.answer.Verdict.TheVariants.{Usage, TooLarge}
+use Rattle.tpol_steps.specs.declared.answer.Answer.{Answer}
+use Rattle.tpol_steps.specs.declared.answer.Verdict.TheVariants.{Usage, TooLarge}
 use Rattle.tpol_top.specs.declared.request.Request.{Request}
 use Rattle.tpol_top.specs.Commands.{documents_after, request_step}
-use Rattle.tpol_prepare.specs.Answer.{one_line}
-use Rattle.tpol_prepare.specs.Steps.{answer_of}
+use Rattle.tpol_steps.specs.Answer.{one_line}
+use Rattle.tpol_steps.specs.Steps.{answer_of}
 use Rattle.tpol_top.specs.Words.{reads_source_for, request_of}
 
 -- the lines, how the run ends, and the shelf's documents afterwards

@@ -1,10 +1,10 @@
 -- The status of each verdict, the numbers of statuses, and which of them say that the whole report was written.
 use Rattle.std.specs.Prelude.{ℕ, ⊤, Result, Ok, Err}
-use Rattle.tpol_prepare.specs.declared.answer.Verdict.{Verdict}
-use Rattle.tpol_prepare.specs.declared.answer.Verdict.TheVariants as V
-use Rattle.tpol_prepare.specs.declared.halt.Halt.{Halt}
-use Rattle.tpol_prepare.specs.declared.halt.Halt.TheVariants.{Refused, ReadFailed, ShelfFailed}
-use Rattle.tpol_prepare.specs.declared.halt.Halt.TheVariants as halts
+use Rattle.tpol_steps.specs.declared.answer.Verdict.{Verdict}
+use Rattle.tpol_steps.specs.declared.answer.Verdict.TheVariants as V
+use Rattle.tpol_steps.specs.declared.halt.Halt.{Halt}
+use Rattle.tpol_steps.specs.declared.halt.Halt.TheVariants.{Refused, ReadFailed, ShelfFailed}
+use Rattle.tpol_steps.specs.declared.halt.Halt.TheVariants as halts
 use Rattle.tpol_top.specs.declared.status.Status.{Status}
 use Rattle.tpol_top.specs.declared.status.Status.TheVariants.{Done, Usage, ReadFault, WriteFault, ShelfFault, TooLarge, BadPolicy, BadScene, NoMemory, PathLimit}
 

@@ -1,8 +1,8 @@
 // The command `canon`.
 
 ghost use Rattle.std.specs.Prelude.{◌≡◌, IfOk};
-ghost use Rattle.tpol_prepare.specs.Answer.{one_line};
-ghost use Rattle.tpol_prepare.specs.Steps.{Answers, IsInside};
+ghost use Rattle.tpol_steps.specs.Answer.{one_line};
+ghost use Rattle.tpol_steps.specs.Steps.{Answers, IsInside};
 ghost use Rattle.tpol_top.specs.Canon.{canon_step};
 ghost use Rattle.tpol_tree.specs.Erased.{erased_policy};
 ghost use Rattle.tpol_write.specs.Canonical.{canonical_text};
@@ -10,7 +10,7 @@ ghost use Rattle.tpol_write.specs.Canonical.{canonical_text};
 use std::alloc::Global;
 use tpol_base::NoMemory;
 use tpol_lines::{Lines, push_bytes};
-use tpol_prepare::{Answer, Halt, Verdict, read_document};
+use tpol_steps::{Answer, Halt, Verdict, read_document};
 use tpol_tree::Policy;
 use tpol_write::write_policy;
 

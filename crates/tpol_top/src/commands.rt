@@ -1,6 +1,6 @@
 ghost use Rattle.std.specs.Prelude.{◌≡◌, Some, IfSome, OnErr};
 ghost use Rattle.tpol_perform.specs.Explained.{IsExplainedScene};
-ghost use Rattle.tpol_prepare.specs.Steps.{Answers, AsksShelf, IfAnswered};
+ghost use Rattle.tpol_steps.specs.Steps.{Answers, AsksShelf, IfAnswered};
 ghost use Rattle.tpol_top.specs.Commands.{documents_after, request_step};
 ghost use Rattle.tpol_top.specs.Explain.{OfExplain};
 ghost use Rattle.tpol_top.specs.Reached.{IsDocumentFor};
@@ -13,8 +13,9 @@ use crate::paths::list_paths;
 use crate::request::Request;
 use std::alloc::Global;
 use tpol_base::Shelf;
-use tpol_perform::{perform_generated, perform_scene};
-use tpol_prepare::{Answer, Halt};
+use tpol_generate::perform_generated;
+use tpol_perform::perform_scene;
+use tpol_steps::{Answer, Halt};
 
 /// What a command has to say of a document that is not too large.
 ///

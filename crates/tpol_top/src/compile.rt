@@ -3,9 +3,9 @@
 ghost use Rattle.std.specs.Prelude.{◌≡◌, ◌++◌, is_some, IfSome, IfOk, IsOk, OnOk, map, ⊤};
 ghost use Rattle.std.specs.Option.{option_copied};
 ghost use Rattle.tpol_lines.specs.Lines.{line_of};
-ghost use Rattle.tpol_prepare.specs.Lines.{note_line};
-ghost use Rattle.tpol_prepare.specs.ReadStep.{read_step};
-ghost use Rattle.tpol_prepare.specs.Steps.{Answers, AsksShelf, IsInside};
+ghost use Rattle.tpol_steps.specs.Lines.{note_line};
+ghost use Rattle.tpol_steps.specs.ReadStep.{read_step};
+ghost use Rattle.tpol_steps.specs.Steps.{Answers, AsksShelf, IsInside};
 ghost use Rattle.tpol_top.specs.Compile.{compile_step, compiled, compiled_in, compiled_with};
 ghost use Rattle.tpol_tree.specs.ClosedErased.{erased};
 ghost use Rattle.tpol_tree.specs.Erased.{erased_policy};
@@ -16,9 +16,8 @@ use tpol_digest::digest_of;
 use tpol_json::Place;
 use tpol_lines::{Lines, push_line};
 use tpol_name::Sight;
-use tpol_prepare::{
-    Answer, Halt, Verdict, digest_line, fill_document, note_line, read_document, sight_of_scene,
-};
+use tpol_prepare::sight_of_scene;
+use tpol_steps::{Answer, Halt, Verdict, digest_line, fill_document, note_line, read_document};
 use tpol_tree::{Closed, Policy};
 
 /// The command `compile`: the notes on the document in the source, and its digest. It is filled with the scene
@@ -79,7 +78,7 @@ fn compile_policy(
 }
 
 // A line for each note, and the digest.
-#[tactic(auto, using(tpol_prepare::proofs::FilledErased::policy_digest_erased), unfolding(crate::specs::Compile::compiled))]
+#[tactic(auto, using(tpol_steps::proofs::FilledErased::policy_digest_erased), unfolding(crate::specs::Compile::compiled))]
 fn compiled(alloc: Global, notes: &[Place], closed: &Closed) -> Result<Answer, NoMemory>
     ensures { IfOk result (λ answer. answer ≡ compiled notes.now (erased closed.now)) }
 {

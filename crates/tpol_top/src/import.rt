@@ -1,13 +1,13 @@
 // The command `import`.
 
 ghost use Rattle.std.specs.Prelude.{◌≡◌, true, Some, IfSome, IfOk, IsOk, OnErr};
-ghost use Rattle.tpol_prepare.specs.ReadStep.{read_step};
-ghost use Rattle.tpol_prepare.specs.Steps.{Answers, AsksShelf};
+ghost use Rattle.tpol_steps.specs.ReadStep.{read_step};
+ghost use Rattle.tpol_steps.specs.Steps.{Answers, AsksShelf};
 ghost use Rattle.tpol_top.specs.Import.{documents_after_import, import_step, imported};
 
 use std::alloc::Global;
 use tpol_base::{NoMemory, Shelf, Text};
-use tpol_prepare::{Answer, Halt, Verdict, read_document};
+use tpol_steps::{Answer, Halt, Verdict, read_document};
 use tpol_store::put_policy;
 
 /// The command `import`: puts the canonical text of the document in the source on the shelf, under this name.

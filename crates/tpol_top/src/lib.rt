@@ -2,9 +2,9 @@
 //!
 //! `policy_main` reads the words, then the source, makes the answer of the command (its lines and its verdict),
 //! and prints it. No command sees the sink. What a run prints, answers and leaves on the shelf is `report_of`, a
-//! definition over the definitions of the crates below. A command is a file of its own, but for `run`, `explain`
-//! and `gen`, which tpol_perform carries out; it goes through steps, each of which gives a value or ends the run
-//! with an answer.
+//! definition over the definitions of the crates below. A command is a file of its own, but for `run` and
+//! `explain`, which tpol_perform carries out, and `gen`, which is tpol_generate's; it goes through steps, each of
+//! which gives a value or ends the run with an answer.
 #![tactic(auto)]
 
 mod canon;

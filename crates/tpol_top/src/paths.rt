@@ -3,8 +3,8 @@
 ghost use Rattle.std.specs.Prelude.{◌≡◌, true, All, IfSome, IfOk, IsOk, map, ⊤};
 ghost use Rattle.tpol_digest.specs.Paths.{paths_of};
 ghost use Rattle.tpol_digest.specs.WellFormed.{HaveBranchCounts};
-ghost use Rattle.tpol_prepare.specs.ReadStep.{read_step};
-ghost use Rattle.tpol_prepare.specs.Steps.{Answers, AsksShelf, IsInside};
+ghost use Rattle.tpol_steps.specs.ReadStep.{read_step};
+ghost use Rattle.tpol_steps.specs.Steps.{Answers, AsksShelf, IsInside};
 ghost use Rattle.tpol_store.specs.Stores.{IsReadable, policies_of, stored};
 ghost use Rattle.tpol_top.specs.Paths.{listed, listed_in, listed_with, path_answer, paths_step};
 ghost use Rattle.tpol_tree.specs.ClosedErased.{erased, erased_document};
@@ -15,11 +15,12 @@ use std::alloc::Global;
 use tpol_base::{NoMemory, Shelf, Text};
 use tpol_digest::digest_of;
 use tpol_lines::{push_line, write_paths};
-use tpol_prepare::{
-    Answer, Halt, Verdict, check_limits, digest_line, fill_document, load_store, named_scene,
-    opening_of, read_document,
-};
+use tpol_prepare::opening_of;
 use tpol_scene::Scene;
+use tpol_steps::{
+    Answer, Halt, Verdict, check_limits, digest_line, fill_document, load_store, named_scene,
+    read_document,
+};
 use tpol_store::Store;
 use tpol_tree::{Approvals, Closed, Policy};
 

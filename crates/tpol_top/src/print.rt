@@ -1,11 +1,11 @@
 ghost use Rattle.std.specs.Prelude.{◌≡◌, ◌≤◌, ◌⊎◌, MatchResult, OnOk};
 ghost use Rattle.tpol_base.specs.Causes.{HasCause, Grows, GrowsInPart, Rose};
-ghost use Rattle.tpol_prepare.specs.Answer.{text_of};
+ghost use Rattle.tpol_steps.specs.Answer.{text_of};
 ghost use Rattle.tpol_top.specs.Status.{status_of};
 
 use crate::Status;
 use tpol_base::{Blob, Failed, Sink};
-use tpol_prepare::Answer;
+use tpol_steps::Answer;
 
 /// Prints an answer: the status that it ends with, or that the sink failed.
 pub fn print_answer<K: Sink>(out: &mut K, answer: &Answer) -> Status

@@ -2,7 +2,7 @@ ghost use Rattle.std.specs.Prelude.{◌≡◌, ◌≤◌, ◌⊎◌, Some, false
 ghost use Rattle.std.specs.String.{string_bytes};
 ghost use Rattle.tpol_base.specs.Causes.{Rose};
 ghost use Rattle.tpol_perform.specs.Explained.{IsExplainedScene};
-ghost use Rattle.tpol_prepare.specs.Steps.{AsksShelf, IfAnswered};
+ghost use Rattle.tpol_steps.specs.Steps.{AsksShelf, IfAnswered};
 ghost use Rattle.tpol_top.specs.Explain.{OfExplain, OfHeld};
 ghost use Rattle.tpol_top.specs.Reached.{IsDocumentFor, IsReadable, IsReadableOf};
 ghost use Rattle.tpol_top.specs.Report.{LosesAtMost, OfChoice, OfReport, most_read, report_of_input, report_of_request};
@@ -14,7 +14,7 @@ use crate::input::read_input;
 use crate::request::Request;
 use std::alloc::Global;
 use tpol_base::{Lapse, Shelf, Source};
-use tpol_prepare::{Answer, Halt, Verdict};
+use tpol_steps::{Answer, Halt, Verdict};
 
 /// The answer of the words: of no command, or of the command that they are.
 ///

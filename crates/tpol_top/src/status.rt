@@ -1,7 +1,7 @@
 ghost use Rattle.std.specs.Prelude.{◌≡◌};
 ghost use Rattle.tpol_top.specs.Status.{number_of_status, status_of};
 
-use tpol_prepare::Verdict;
+use tpol_steps::Verdict;
 
 /// How a run of the program ended.
 #[derive(Clone, Copy, Debug, PartialEq, Eq)]

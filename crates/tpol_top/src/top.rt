@@ -2,7 +2,7 @@ ghost use Rattle.std.specs.Prelude.{◌≡◌, ◌≤◌, ◌⊎◌, Some, false
 ghost use Rattle.std.specs.String.{string_bytes};
 ghost use Rattle.tpol_base.specs.Causes.{Rose, Grows, GrowsInPart};
 ghost use Rattle.tpol_perform.specs.Explained.{IsExplainedScene};
-ghost use Rattle.tpol_prepare.specs.Answer.{text_of};
+ghost use Rattle.tpol_steps.specs.Answer.{text_of};
 ghost use Rattle.tpol_top.specs.Explain.{IfExplain, OfHeld};
 ghost use Rattle.tpol_top.specs.Reached.{IsReadableOf};
 ghost use Rattle.tpol_top.specs.Report.{LosesAtMost, OfReport, most_read, report_of};
@@ -14,7 +14,7 @@ use crate::print::print_answer;
 use crate::run::answer_of_words;
 use std::alloc::Global;
 use tpol_base::{Shelf, Sink, Source};
-use tpol_prepare::Halt;
+use tpol_steps::Halt;
 
 /// Does all that the program does: takes the words behind the program's name, reads the document from
 /// `source` where the command wants one, prints the report to `out`, one write a line, and answers the

@@ -14,8 +14,8 @@ use Rattle.tpol_json.specs.Reading as reading
 use Rattle.tpol_json.specs.Reading.{ReadAs, bad}
 use Rattle.tpol_json.specs.declared.fault.MemberKind.TheVariants.{BadHex}
 use Rattle.tpol_json.specs.declared.place.Place.{Place}
-use Rattle.tpol_elements.specs.Faults.{read_as}
-use Rattle.tpol_elements.specs.Values.{bytes_up_to, empty_or_32, digest_in, unsigned_in, signed_in}
+use Rattle.tpol_members.specs.Faults.{read_as}
+use Rattle.tpol_members.specs.Values.{bytes_up_to, empty_or_32, digest_in, unsigned_in, signed_in}
 use Rattle.tpol_write.proofs.ReadBack.{bytes_back, numbers_back}
 use Rattle.tpol_write.specs.Objects.{hex_text, natural, integer}
 

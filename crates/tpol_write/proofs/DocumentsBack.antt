@@ -5,7 +5,7 @@ use Rattle.serde_json.specs.Data.{Data, string, Items, no_items, item}
 use Rattle.serde_json.specs.Find.{get, as_array}
 use Rattle.serde_json.specs.View.{items_of}
 use Rattle.tpol_base.specs.declared.digest.Digest32.{Digest32}
-use Rattle.tpol_elements.proofs.Limits.{FitsRef, digest-fits, policy_ref-fits}
+use Rattle.tpol_members.proofs.Limits.{FitsRef, digest-fits, policy_ref-fits}
 use Rattle.tpol_json.proofs.Limits.{FitsDigest}
 use Rattle.tpol_write.proofs.BytesBack.{bound, digest-back}
 use Rattle.tpol_write.proofs.ElementsBack.{Takes, ListBack, list_again, element_at-all, policy-all, policy-takes, description-back}
@@ -20,16 +20,16 @@ use Rattle.tpol_read.specs.Documents.{start, document_in, policy_of}
 use Rattle.tpol_read.specs.Elements.{element_at, max_levels, description_member, policy_member}
 use Rattle.tpol_read.specs.declared.approvals.ApprovalType.{ApprovalType}
 use Rattle.tpol_read.specs.declared.approvals.ApprovalType.TheVariants as types
-use Rattle.tpol_elements.specs.Values.{digest_in}
+use Rattle.tpol_members.specs.Values.{digest_in}
 use Rattle.tpol_base.specs.Answers.{◌>>=◌}
-use Rattle.tpol_elements.specs.Faults.{bad}
-use Rattle.tpol_elements.specs.Fields.{policy_ref_in}
-use Rattle.tpol_elements.specs.Members.{object_in, noted}
+use Rattle.tpol_members.specs.Faults.{bad}
+use Rattle.tpol_members.specs.Fields.{policy_ref_in}
+use Rattle.tpol_members.specs.Members.{object_in, noted}
 use Rattle.tpol_elements.specs.Rows.{without_pem}
 use Rattle.tpol_elements.specs.Wishes.{key_in, index_in}
 use Rattle.tpol_json.specs.Words.{find_word}
-use Rattle.tpol_elements.specs.declared.fault.PolicyKind.TheVariants as kinds
-use Rattle.tpol_elements.specs.declared.walk.Walk.{Walk}
+use Rattle.tpol_members.specs.declared.fault.PolicyKind.TheVariants as kinds
+use Rattle.tpol_members.specs.declared.walk.Walk.{Walk}
 use Rattle.tpol_tree.specs.declared.policy.Elements.{Elements}
 use Rattle.tpol_tree.specs.declared.policy.Policy.{Policy}
 use Rattle.tpol_tree.specs.declared.wishes.ApprovalWish.{ApprovalWish}

@@ -13,18 +13,18 @@ use Rattle.tpol_json.specs.Places.{at_member, at_item}
 use Rattle.tpol_json.specs.declared.place.Place.{Place}
 use Rattle.tpol_json.proofs.AllFound.{AllFound, all_after, all_then, all_map, all_if, needed-fits}
 use Rattle.tpol_read.specs.Elements.{element_type_in, leaf_element, element_of_type, element_by, counted, elements_from, elements_of, elements_in, policy_member, description_member, name_member, branch_in, branches_from, is_branch_count, branches_of, branches_in, or_by, or_at, element_at}
-use Rattle.tpol_elements.specs.Values.{text_in}
-use Rattle.tpol_elements.specs.Faults.{bad}
-use Rattle.tpol_elements.specs.Members.{object_in, needed, noted}
+use Rattle.tpol_members.specs.Values.{text_in}
+use Rattle.tpol_members.specs.Faults.{bad}
+use Rattle.tpol_members.specs.Members.{object_in, needed, noted}
 use Rattle.tpol_elements.specs.Rows.{leaf_row}
 use Rattle.tpol_elements.specs.Types.{type_in}
-use Rattle.tpol_elements.specs.Walks.{Reading}
+use Rattle.tpol_members.specs.Walks.{Reading}
 use Rattle.tpol_json.specs.Words.{find_word}
-use Rattle.tpol_elements.specs.declared.fault.PolicyKind.TheVariants as kinds
+use Rattle.tpol_members.specs.declared.fault.PolicyKind.TheVariants as kinds
 use Rattle.tpol_elements.specs.declared.types.ElementType.{ElementType}
 use Rattle.tpol_elements.specs.declared.types.ElementType.TheVariants as types
 use Rattle.tpol_elements.specs.declared.types.LeafType.{LeafType}
-use Rattle.tpol_elements.specs.declared.walk.Walk.{Walk}
+use Rattle.tpol_members.specs.declared.walk.Walk.{Walk}
 use Rattle.tpol_tree.specs.Erased.{nowhere}
 use Rattle.tpol_tree.specs.declared.policy.Branch.{Branch}
 use Rattle.tpol_tree.specs.declared.policy.Branches.{Branches}

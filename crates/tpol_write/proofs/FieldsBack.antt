@@ -7,7 +7,7 @@ use Rattle.tpol_base.specs.declared.compare.Compare.{Compare}
 use Rattle.tpol_base.specs.declared.digest.Digest32.{Digest32}
 use Rattle.tpol_base.specs.declared.name.Name.{Name}
 use Rattle.tpol_base.specs.declared.name.Name.TheVariants.{Empty}
-use Rattle.tpol_elements.proofs.Limits.{FitsOffset, FitsRef, digest-fits}
+use Rattle.tpol_members.proofs.Limits.{FitsOffset, FitsRef, digest-fits}
 use Rattle.tpol_json.proofs.Limits.{FitsDigest, IsSigned32}
 use Rattle.tpol_write.proofs.BytesBack.{as_member, bound, up_to-back, digest-back, signed-back, unsigned-back, read_bytes-back}
 use Rattle.tpol_write.proofs.PublicsBack.{name_back}
@@ -18,13 +18,13 @@ use Rattle.tpol_json.specs.Places.{at_member}
 use Rattle.tpol_json.specs.declared.place.Place.{Place}
 use Rattle.tpol_json.proofs.AllFound.{AllFound, all_then, optional-fits}
 use Rattle.tpol_json.specs.Values.{name_or_bad}
-use Rattle.tpol_elements.specs.Values.{bytes_up_to, digest_in, name_in, is_empty_name, unsigned_in, signed_in, truth_in}
-use Rattle.tpol_elements.specs.Operations.{operation_in}
-use Rattle.tpol_elements.specs.Faults.{Found, bad, read_as}
-use Rattle.tpol_elements.specs.Fields.{policy_ref_in, some_digest_in, cp_hash_in, expiration_in, operand_in, offset_in, operation_member_in}
-use Rattle.tpol_elements.specs.Members.{read_needed}
+use Rattle.tpol_members.specs.Values.{bytes_up_to, digest_in, name_in, is_empty_name, unsigned_in, signed_in, truth_in}
+use Rattle.tpol_members.specs.Operations.{operation_in}
+use Rattle.tpol_members.specs.Faults.{Found, bad, read_as}
+use Rattle.tpol_members.specs.Fields.{policy_ref_in, some_digest_in, cp_hash_in, expiration_in, operand_in, offset_in, operation_member_in}
+use Rattle.tpol_members.specs.Members.{read_needed}
 use Rattle.tpol_elements.specs.Rows.{include_member, object_member, included_object, written_member}
-use Rattle.tpol_elements.specs.declared.fault.PolicyKind.TheVariants.{Missing}
+use Rattle.tpol_members.specs.declared.fault.PolicyKind.TheVariants.{Missing}
 use Rattle.tpol_base.specs.Compare.{name_of_compare}
 use Rattle.tpol_write.specs.Objects.{hex_text, natural, integer}
 use Rattle.tpol_write.specs.Wishes.{name_value}

@@ -12,8 +12,8 @@ use Rattle.serde_json.specs.View.{items_of}
 use Rattle.tpol_base.specs.declared.digest.Digest32.{Digest32}
 use Rattle.tpol_base.specs.Answers.{◌>>=◌}
 use Rattle.tpol_base.specs.Pcr.{is_in_mask, pcrs_of_mask}
-use Rattle.tpol_elements.proofs.OneOf.{all_of}
-use Rattle.tpol_elements.proofs.Limits.{Is32, digest-fits, localities-fits, mask-fits, unsigned-fits}
+use Rattle.tpol_members.proofs.OneOf.{all_of}
+use Rattle.tpol_members.proofs.Limits.{Is32, digest-fits, localities-fits, mask-fits, unsigned-fits}
 use Rattle.tpol_json.proofs.Limits.{FitsDigest}
 use Rattle.tpol_tree.specs.Bounds.{LocalityHasBounds}
 use Rattle.tpol_write.proofs.BytesBack.{bound, unsigned-back, digest-back}
@@ -23,14 +23,14 @@ use Rattle.tpol_json.specs.Places.{at_member, at_item}
 use Rattle.tpol_json.specs.declared.place.Place.{Place}
 use Rattle.tpol_json.proofs.AllFound.{AllFound, all_after, all_then, all_map, needed-fits}
 use Rattle.tpol_read.proofs.PcrOrder.{put_value, with_value-is, first_no, second_no}
-use Rattle.tpol_elements.specs.Values.{digest_in, unsigned_in}
-use Rattle.tpol_elements.specs.Faults.{Found, bad}
-use Rattle.tpol_elements.specs.Members.{object_in, noted}
-use Rattle.tpol_elements.specs.Localities.{locality_in}
-use Rattle.tpol_elements.specs.Pcrs.{PcrList, has_value, with_value, new_pcr_in, pcr_member, bank_member, value_member, pcr_value_in, pcr_values_from, wish_of_values, pcr_bit, mask_from, mask_in, current_pcrs_in, select_member, bank_in, only_bank, bank_or_list, pcrs_at, pcrs_in}
-use Rattle.tpol_elements.specs.Walks.{still}
-use Rattle.tpol_elements.specs.declared.fault.PolicyKind.TheVariants.{Missing, Twice}
-use Rattle.tpol_elements.specs.declared.walk.Walk.{Walk}
+use Rattle.tpol_members.specs.Values.{digest_in, unsigned_in}
+use Rattle.tpol_members.specs.Faults.{Found, bad}
+use Rattle.tpol_members.specs.Members.{object_in, noted}
+use Rattle.tpol_members.specs.Localities.{locality_in}
+use Rattle.tpol_members.specs.Pcrs.{PcrList, has_value, with_value, new_pcr_in, pcr_member, bank_member, value_member, pcr_value_in, pcr_values_from, wish_of_values, pcr_bit, mask_from, mask_in, current_pcrs_in, select_member, bank_in, only_bank, bank_or_list, pcrs_at, pcrs_in}
+use Rattle.tpol_members.specs.Walks.{still}
+use Rattle.tpol_members.specs.declared.fault.PolicyKind.TheVariants.{Missing, Twice}
+use Rattle.tpol_members.specs.declared.walk.Walk.{Walk}
 use Rattle.tpol_tree.specs.declared.wishes.PcrWish.{PcrWish}
 use Rattle.tpol_tree.specs.declared.wishes.PcrWish.TheVariants.{Values, Current}
 use Rattle.tpol_write.specs.Elements.{typed}

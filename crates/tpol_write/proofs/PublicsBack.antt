@@ -13,7 +13,7 @@ use Rattle.std.specs.Cmp.Lexicographic.{slice_cmp}
 use Rattle.std.specs.Ordering.{nat_cmp, match_ordering}
 use Rattle.std.specs.declared.cmp.Ordering.{Ordering}
 use Rattle.std.specs.declared.cmp.Ordering.TheVariants.{Less, Equal, Greater}
-use Rattle.tpol_elements.proofs.Limits.{empty_or_32-fits, name-fits, unsigned-fits}
+use Rattle.tpol_members.proofs.Limits.{empty_or_32-fits, name-fits, unsigned-fits}
 use Rattle.tpol_json.proofs.Limits.{FitsBytes, FitsName, is_empty_or_32}
 use Rattle.tpol_write.proofs.BytesBack.{as_member, bound, read_bytes-back, empty_or_32-back, unsigned-back}
 use Rattle.tpol_json.specs.Bytes.{bytes_in}
@@ -21,15 +21,15 @@ use Rattle.tpol_json.specs.declared.place.Place.{Place}
 use Rattle.tpol_json.proofs.AllFound.{AllFound, all_after, all_then, all_map}
 use Rattle.tpol_json.specs.Places.{at_member}
 use Rattle.tpol_json.specs.Values.{name_or_bad}
-use Rattle.tpol_elements.specs.Algorithms.{scheme_in}
-use Rattle.tpol_elements.specs.Values.{name_in, empty_or_32, u32_in, unsigned_in}
+use Rattle.tpol_members.specs.Algorithms.{scheme_in}
+use Rattle.tpol_members.specs.Values.{name_in, empty_or_32, u32_in, unsigned_in}
 use Rattle.tpol_base.specs.Answers.{◌>>=◌}
-use Rattle.tpol_elements.specs.Faults.{Found, read_as}
-use Rattle.tpol_elements.specs.Members.{object_in, needed, optional, read_needed, noted}
+use Rattle.tpol_members.specs.Faults.{Found, read_as}
+use Rattle.tpol_members.specs.Members.{object_in, needed, optional, read_needed, noted}
 use Rattle.tpol_elements.specs.Publics.{then_noted, through, through_member, object_public, index_public, object_public_in, index_public_in, key_type_member, name_hash_member, attributes_member, auth_policy_member, scheme_member, unique_member, nv_index_member, data_size_member}
-use Rattle.tpol_elements.specs.Walks.{Reading}
+use Rattle.tpol_members.specs.Walks.{Reading}
 use Rattle.tpol_json.specs.Words.{find_word}
-use Rattle.tpol_elements.specs.declared.walk.Walk.{Walk}
+use Rattle.tpol_members.specs.declared.walk.Walk.{Walk}
 use Rattle.tpol_tree.specs.declared.wishes.ObjectPublicText.{ObjectPublicText}
 use Rattle.tpol_tree.specs.declared.wishes.NvPublicText.{NvPublicText}
 use Rattle.tpol_write.specs.Objects.{hex_text, natural}

@@ -5,7 +5,7 @@ use Rattle.serde_json.specs.Find.{get}
 use Rattle.tpol_base.specs.declared.compare.Compare.{Compare}
 use Rattle.tpol_base.specs.declared.digest.Digest32.{Digest32}
 use Rattle.tpol_base.specs.declared.name.Name.{Name}
-use Rattle.tpol_elements.proofs.Limits.{FitsOffset, FitsRef, digest-fits, expiration-fits, offset-fits, operand-fits, policy_ref-fits}
+use Rattle.tpol_members.proofs.Limits.{FitsOffset, FitsRef, digest-fits, expiration-fits, offset-fits, operand-fits, policy_ref-fits}
 use Rattle.tpol_json.proofs.Limits.{FitsDigest, IsSigned32}
 use Rattle.tpol_write.proofs.BytesBack.{bound, digest-back}
 use Rattle.tpol_write.proofs.FieldsBack.{needed-back, policy_ref-back, FitsCpHash, HasCpHash, cp_hash-fits, cp_hash-back, expiration-back, operand-back, offset-back, operation-back, include-back, written-back, FitsObject, object-fits, object-back}
@@ -16,23 +16,23 @@ use Rattle.tpol_json.specs.Places.{at_member}
 use Rattle.tpol_json.specs.declared.place.Place.{Place}
 use Rattle.tpol_json.proofs.AllFound.{AllFound, all_after, all_then, needed-fits}
 use Rattle.tpol_read.specs.Elements.{element_by, element_of_type, element_type_in, leaf_element}
-use Rattle.tpol_elements.specs.Values.{digest_in}
-use Rattle.tpol_elements.specs.Faults.{Found}
-use Rattle.tpol_elements.specs.Fields.{policy_ref_in, cp_hash_in, expiration_in, operand_in, offset_in, operation_member_in}
-use Rattle.tpol_elements.specs.Members.{needed, object_in, noted}
-use Rattle.tpol_elements.specs.Localities.{locality_in}
-use Rattle.tpol_elements.specs.Operations.{code_in}
-use Rattle.tpol_elements.specs.declared.fault.PolicyKind.TheVariants.{Missing}
-use Rattle.tpol_elements.specs.Pcrs.{pcrs_in}
+use Rattle.tpol_members.specs.Values.{digest_in}
+use Rattle.tpol_members.specs.Faults.{Found}
+use Rattle.tpol_members.specs.Fields.{policy_ref_in, cp_hash_in, expiration_in, operand_in, offset_in, operation_member_in}
+use Rattle.tpol_members.specs.Members.{needed, object_in, noted}
+use Rattle.tpol_members.specs.Localities.{locality_in}
+use Rattle.tpol_members.specs.Operations.{code_in}
+use Rattle.tpol_members.specs.declared.fault.PolicyKind.TheVariants.{Missing}
+use Rattle.tpol_members.specs.Pcrs.{pcrs_in}
 use Rattle.tpol_elements.specs.Rows.{leaf_row, pcr_row, nv_row, secret_row, signed_row, authorize_row, authorize_nv_row, locality_member, locality_row, command_code_row, cp_hash_row, name_hash_row, counter_timer_row, duplication_row, nv_written_row, without_pem, include_member, included_object, written_member}
 use Rattle.tpol_elements.specs.Types.{type_in, leaf_members}
-use Rattle.tpol_elements.specs.Walks.{Reading, still}
+use Rattle.tpol_members.specs.Walks.{Reading, still}
 use Rattle.tpol_elements.specs.Wishes.{key_in, index_in, entity_in, parent_in, names_in}
 use Rattle.tpol_json.specs.Words.{find_word}
 use Rattle.tpol_elements.specs.declared.types.ElementType.TheVariants.{Leaf}
 use Rattle.tpol_elements.specs.declared.types.LeafType.{LeafType}
 use Rattle.tpol_elements.specs.declared.types.LeafType.TheVariants as types
-use Rattle.tpol_elements.specs.declared.walk.Walk.{Walk}
+use Rattle.tpol_members.specs.declared.walk.Walk.{Walk}
 use Rattle.tpol_tree.specs.declared.policy.Branches.{Branches}
 use Rattle.tpol_tree.specs.declared.policy.Element.{Element}
 use Rattle.tpol_tree.specs.declared.policy.Element.TheVariants.{Pcr, Nv, Secret, Signed, Authorize, AuthorizeNv, Locality, CommandCode, CpHash, NameHash, CounterTimer, Duplication, NvWritten, AuthValue, Password, PhysicalPresence}

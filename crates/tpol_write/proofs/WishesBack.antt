@@ -5,8 +5,8 @@ use Rattle.serde_json.specs.Data.{Data, string, Items, no_items, item}
 use Rattle.serde_json.specs.Find.{get}
 use Rattle.serde_json.specs.View.{items_of}
 use Rattle.tpol_base.specs.declared.name.Name.{Name}
-use Rattle.tpol_elements.proofs.OneOf.{all_of}
-use Rattle.tpol_elements.proofs.Limits.{digest-fits}
+use Rattle.tpol_members.proofs.OneOf.{all_of}
+use Rattle.tpol_members.proofs.Limits.{digest-fits}
 use Rattle.tpol_json.proofs.Limits.{FitsDigest}
 use Rattle.tpol_write.proofs.BytesBack.{bound, digest-back}
 use Rattle.tpol_write.proofs.OneBack.{one_of-back}
@@ -15,14 +15,14 @@ use Rattle.tpol_json.specs.Places.{at_member, at_item}
 use Rattle.tpol_json.specs.declared.place.Place.{Place}
 use Rattle.tpol_json.proofs.AllFound.{AllFound, all_after, all_then, all_map, all_if}
 use Rattle.tpol_json.specs.Members.{items_count}
-use Rattle.tpol_elements.specs.Values.{text_in, digest_in, name_in, full_name_in, is_empty_name, items_in, one_to_three}
+use Rattle.tpol_members.specs.Values.{text_in, digest_in, name_in, full_name_in, is_empty_name, items_in, one_to_three}
 use Rattle.tpol_base.specs.Answers.{◌>>=◌}
-use Rattle.tpol_elements.specs.Faults.{Found, bad}
+use Rattle.tpol_members.specs.Faults.{Found, bad}
 use Rattle.tpol_elements.specs.Publics.{object_public_in, index_public_in}
-use Rattle.tpol_elements.specs.Walks.{still}
+use Rattle.tpol_members.specs.Walks.{still}
 use Rattle.tpol_elements.specs.Wishes.{key_at, key_in, index_at, index_in, entity_at, entity_in, parent_at, parent_in, each_from, names_at, names_in}
-use Rattle.tpol_elements.specs.declared.fault.PolicyKind.TheVariants.{BadHex, BadNumber}
-use Rattle.tpol_elements.specs.declared.walk.Walk.{Walk}
+use Rattle.tpol_members.specs.declared.fault.PolicyKind.TheVariants.{BadHex, BadNumber}
+use Rattle.tpol_members.specs.declared.walk.Walk.{Walk}
 use Rattle.tpol_tree.specs.declared.wishes.ObjectPublicText.{ObjectPublicText}
 use Rattle.tpol_tree.specs.declared.wishes.NvPublicText.{NvPublicText}
 use Rattle.tpol_tree.specs.declared.wishes.KeyWish.{KeyWish}

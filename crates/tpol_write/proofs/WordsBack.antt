@@ -14,7 +14,7 @@ use Rattle.tpol_base.specs.declared.compare.Compare.{Compare}
 use Rattle.tpol_base.specs.declared.compare.Compare.TheVariants.{Eq, Neq, SignedGt, UnsignedGt, SignedLt, UnsignedLt, SignedGe, UnsignedGe, SignedLe, UnsignedLe, BitSet, BitClear}
 use Rattle.tpol_base.specs.CommandCode.{command_codes, find_name}
 use Rattle.tpol_base.specs.Compare.{name_of_compare}
-use Rattle.tpol_elements.proofs.Limits.{Is32, code-fits}
+use Rattle.tpol_members.proofs.Limits.{Is32, code-fits}
 use Rattle.tpol_write.proofs.BytesBack.{as_member}
 use Rattle.tpol_json.specs.Numbers.{number_of_text, is_hex_digit, within}
 use Rattle.tpol_json.specs.Reading as json
@@ -23,10 +23,10 @@ use Rattle.tpol_json.specs.Words.{find_word, same_word}
 use Rattle.tpol_json.specs.declared.place.Place.{Place}
 use Rattle.tpol_json.proofs.AllFound.{AllFound, all_map}
 use Rattle.tpol_base.specs.Answers.{◌>>=◌}
-use Rattle.tpol_elements.specs.Faults.{read_as}
-use Rattle.tpol_elements.specs.Operations.{operation_in, code_in}
-use Rattle.tpol_elements.specs.Values.{u32_in}
-use Rattle.tpol_elements.specs.Words.{found_or}
+use Rattle.tpol_members.specs.Faults.{read_as}
+use Rattle.tpol_members.specs.Operations.{operation_in, code_in}
+use Rattle.tpol_members.specs.Values.{u32_in}
+use Rattle.tpol_members.specs.Words.{found_or}
 use Rattle.tpol_write.specs.Names.{code_text, name_or_digits}
 
 -- ---- comparisons

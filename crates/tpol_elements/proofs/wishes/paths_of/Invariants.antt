@@ -1,6 +1,6 @@
 use Rattle.std.proofs.Common.{◌≡◌, [], drop}
 use Rattle.serde_json.specs.View.{items_view}
-use Rattle.tpol_elements.specs.Values.{text_in}
+use Rattle.tpol_members.specs.Values.{text_in}
 use Rattle.tpol_elements.specs.Wishes.{each_from}
 use Rattle.tpol_elements.proofs.wishes.paths_of.Given as goal
 

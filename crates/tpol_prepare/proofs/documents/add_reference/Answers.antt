@@ -4,7 +4,7 @@ use Rattle.std.specs.Option.{option_copied}
 use Rattle.std.specs.Prelude.{All}
 use Rattle.tpol_store.specs.Stores.{policies_of}
 use Rattle.tpol_prepare.proofs.FilledNames.{document_added}
-use Rattle.tpol_prepare.specs.FilledDocuments.{IsReadyDocument}
+use Rattle.tpol_steps.specs.Filled.{IsReadyDocument}
 use Rattle.tpol_prepare.proofs.documents.add_reference.Goals as goal
 
 pub returns-clause-answer : goal.returns-clause-answer

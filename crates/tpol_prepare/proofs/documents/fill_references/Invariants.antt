@@ -1,7 +1,8 @@
 use Rattle.std.proofs.Common.{◌≡◌, [], All, drop, map}
 use Rattle.std.specs.Option.{option_copied}
 use Rattle.tpol_store.specs.Stores.{IsReadable, policies_of, stored}
-use Rattle.tpol_prepare.specs.FilledDocuments.{IsReadyDocument, documents_from, erased_filled}
+use Rattle.tpol_prepare.specs.FilledDocuments.{documents_from}
+use Rattle.tpol_steps.specs.Filled.{IsReadyDocument, erased_filled}
 use Rattle.tpol_prepare.proofs.documents.fill_references.Given as goal
 
 -- the documents so far, with those to come, are all of them

@@ -1,8 +1,8 @@
 use Rattle.std.proofs.Common.{◌≡◌, ◌<◌, ℕ, drop, get_or, map}
 use Rattle.tpol_prepare.specs.declared.entities.CompiledEntity.{CompiledEntity}
 use Rattle.tpol_prepare.specs.Entities.{erased_entity}
-use Rattle.tpol_prepare.specs.Limits.{limits_step}
 use Rattle.tpol_prepare.specs.Scenario.{IsWalkable, entity_document}
+use Rattle.tpol_steps.specs.Limits.{limits_step}
 use Rattle.tpol_prepare.proofs.scenario.check_entities.Given as goal
 use Rattle.tpol_tree.specs.ClosedErased.{erased_document}
 

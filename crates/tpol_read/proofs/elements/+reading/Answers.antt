@@ -2,11 +2,11 @@ use Rattle.std.proofs.Common.{◌∙◌, sym, ap, subst}
 use Rattle.serde_json.proofs.Views.{view-Array}
 use Rattle.serde_json.specs.View.{view}
 use Rattle.tpol_read.specs.Elements.{element_at}
-use Rattle.tpol_elements.specs.Walks.{LeavesAs}
+use Rattle.tpol_members.specs.Walks.{LeavesAs}
 use Rattle.tpol_read.proofs.ItemLists.{elements_in-each}
 use Rattle.tpol_read.proofs.elements.+reading.Goals as goal
-use Rattle.tpol_elements.specs.Faults.{Found}
-use Rattle.tpol_elements.specs.declared.walk.Walk.{Walk}
+use Rattle.tpol_members.specs.Faults.{Found}
+use Rattle.tpol_members.specs.declared.walk.Walk.{Walk}
 use Rattle.tpol_tree.specs.Erased.{erased_elements}
 use Rattle.tpol_tree.specs.declared.policy.Elements.{Elements}
 

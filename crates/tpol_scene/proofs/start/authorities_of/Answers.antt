@@ -1,7 +1,7 @@
 use Rattle.std.proofs.Common.{refl}
 use Rattle.std.proofs.lemmas.Result.{err_from_is_err_and}
+use Rattle.tpol_entities.proofs.BindLemmas.{refused_then}
 use Rattle.tpol_scene.specs.Scenes.{authorities_in}
-use Rattle.tpol_scene.proofs.BindLemmas.{refused_then}
 use Rattle.tpol_scene.proofs.start.authorities_of.Goals as goal
 
 pub returns-in_err-endorsement : goal.returns-in_err-endorsement

@@ -1,7 +1,7 @@
 use Rattle.std.proofs.Common.{refl}
 use Rattle.std.proofs.lemmas.Result.{err_from_is_err_and}
+use Rattle.tpol_entities.proofs.BindLemmas.{refused_then}
 use Rattle.tpol_scene.specs.Scenes.{times_in}
-use Rattle.tpol_scene.proofs.BindLemmas.{refused_then}
 use Rattle.tpol_scene.proofs.start.times_of.Goals as goal
 
 pub returns-in_err-restart_count : goal.returns-in_err-restart_count

@@ -1,5 +1,5 @@
 use Rattle.std.proofs.Common.{◌≡◌, ◌++◌, map, take}
-use Rattle.tpol_prepare.specs.Lines.{note_line}
+use Rattle.tpol_steps.specs.Lines.{note_line}
 use Rattle.tpol_lines.specs.Lines.{line_of}
 use Rattle.tpol_top.proofs.compile.push_notes.Given as goal
 

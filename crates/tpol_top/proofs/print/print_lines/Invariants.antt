@@ -1,6 +1,6 @@
 use Rattle.std.proofs.Common.{◌≡◌, take}
 use Rattle.tpol_base.specs.Causes.{Grows}
-use Rattle.tpol_prepare.specs.Answer.{text_of}
+use Rattle.tpol_steps.specs.Answer.{text_of}
 use Rattle.tpol_top.proofs.print.print_lines.Given as goal
 
 -- the lines so far are written

@@ -1,8 +1,0 @@
-use Rattle.std.proofs.Common.{refl}
-use Rattle.tpol_elements.specs.Pcrs.{bank_in}
-use Rattle.tpol_elements.proofs.pcrs.bank.Goals as goal
-
-pub returns : goal.returns
-unfolding bank_in
-returns c =
-    rw (c.in_ok-check_object.ensures, c.in_ok-bank_member.ensures, c.in_ok-mask.ensures, c.in_ok-note_unknown.ensures) refl

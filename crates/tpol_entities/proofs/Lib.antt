@@ -1,0 +1,11 @@
+pub mod BindLemmas
+pub mod DistinctLemmas
+pub mod EntityLemmas
+pub mod EntryLemmas
+pub mod FirstLemmas
+pub mod ListLemmas
+pub mod PcrLemmas
+pub mod PlaceLemmas
+pub mod ValueLemmas
+pub mod Worked
+pub mod ZerosLemmas

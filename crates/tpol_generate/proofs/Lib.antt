@@ -1,0 +1,4 @@
+pub mod GeneratedErased
+pub mod GeneratedRuns
+pub mod GeneratedScenarios
+pub mod GeneratedSetups

@@ -1,0 +1,3 @@
+mod Banks
+pub mod OneOf
+pub mod Limits

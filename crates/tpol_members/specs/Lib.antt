@@ -1,0 +1,10 @@
+pub mod Faults
+pub mod Walks
+pub mod Members
+pub mod Values
+pub mod Words
+pub mod Algorithms
+pub mod Operations
+pub mod Localities
+pub mod Fields
+pub mod Pcrs

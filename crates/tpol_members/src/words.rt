@@ -1,0 +1,30 @@
+//! Words of which one has to stand.
+
+ghost use Rattle.std.specs.Prelude.{map};
+ghost use Rattle.serde_json.specs.View.{view};
+ghost use Rattle.tpol_members.specs.Faults.{Gives};
+ghost use Rattle.tpol_members.specs.Words.{only_word};
+
+use crate::fault::refuse;
+use crate::{ElementFault, PolicyKind};
+use serde_json::Value;
+use std::alloc::Global;
+use tpol_json::{PlaceRef, word};
+
+/// One of these words and nothing else. Another text is refused with the kind given, a value of another
+/// JSON kind with `WrongKind`.
+pub fn only_word<T: Copy>(
+    alloc: Global,
+    value: &Value,
+    prefix: &str,
+    words: &[(&str, T)],
+    kind: PolicyKind,
+    place: &PlaceRef<'_>,
+) -> Result<T, ElementFault>
+    ensures { Gives result (only_word prefix.now (map (λ word. (word.0.now, word.1)) words.now) kind (view value.now) place.now) }
+{
+    match word(alloc, value, prefix, words, place)? {
+        Some(meaning) => Ok(meaning),
+        None => refuse(alloc, kind, place),
+    }
+}

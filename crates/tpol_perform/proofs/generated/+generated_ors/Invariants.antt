@@ -1,4 +1,0 @@
-use Rattle.tpol_perform.proofs.generated.+generated_ors.Given as goal
-
-abbrev pub decreases-generated_ors : goal.decreases-generated_ors
-decreases-generated_ors l = l.more

@@ -1,0 +1,3 @@
+pub mod FilledErased
+pub mod LimitTests
+pub mod PathSteps

@@ -1,0 +1,10 @@
+pub mod Answer
+pub mod Filled
+pub mod Halts
+pub mod Limits
+pub mod Lines
+pub mod ReadStep
+pub mod Refusals
+pub mod SceneStep
+pub mod Steps
+pub mod StoreStep
