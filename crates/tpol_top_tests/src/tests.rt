@@ -1,9 +1,9 @@
-//! Whole runs over objects in memory whose calls fail where a test says so: what they print and answer. What is
+//! Whole runs over objects in memory whose calls fail where a run says so: what they print and answer. What is
 //! printed where nothing fails, `docs/check` compares as the built program prints it.
 //!
 //! The proof of a function proves the drop of each value that it holds, wherever it may end early, and is longest
-//! where it names long texts too. So functions that may end early are given what they fill, and the tests, which
-//! name the texts, hold nothing.
+//! where it names long texts too. So functions that may end early are given what they fill, the runs are a table,
+//! and the test holds nothing.
 
 use std::alloc::Global;
 use tpol_base::{Failing, Lapse, MemoryShelf, MemorySink, MemorySource, NoMemory, Shelf};
@@ -11,9 +11,6 @@ use tpol_top::{Status, policy_main};
 
 const SECRET: &str =
     r#"{"description":"ek","policy":[{"type":"POLICYSECRET","objectPath":"/HE"}]}"#;
-
-const SECRET_DIGEST: &str =
-    "digest 837197674484b3f81a90cc8d46a5d724fd52d76e06520b64f2a1da1b331469aa\n";
 
 // PCR 23 with 32 zero bytes.
 const PCR_23_DIGEST: &str =
@@ -24,19 +21,80 @@ const BEFORE_AN_OR: &str =
 
 const CURRENT_PCR: &str = r#"{"policy":[{"type":"POLICYPCR","currentPCRs":[23]}]}"#;
 
-// The calls of the source, of the sink and of the shelf that fail, counted from 1.
+// A command line with its input, the calls of the source, of the sink and of the shelf that fail, counted from 1,
+// and what the run answers and prints.
 #[derive(Clone, Copy)]
-struct Failures {
+struct Run {
+    words: &'static str,
+    input: &'static str,
     source: &'static [u64],
     sink: &'static [u64],
     shelf: &'static [u64],
+    status: Status,
+    printed: &'static str,
 }
 
-const NO_FAILURES: Failures = Failures {
-    source: &[],
-    sink: &[],
-    shelf: &[],
-};
+static RUNS: [Run; 6] = [
+    Run {
+        words: "compile",
+        input: SECRET,
+        source: &[2],
+        sink: &[],
+        shelf: &[],
+        status: Status::ReadFault,
+        printed: "",
+    },
+    // Each line is one write.
+    Run {
+        words: "paths",
+        input: BEFORE_AN_OR,
+        source: &[],
+        sink: &[3],
+        shelf: &[],
+        status: Status::WriteFault,
+        printed: "path 1 \"a\" CommandCode,AuthValue,Or\npath 2 \"b\" CommandCode,Locality,Or\n",
+    },
+    Run {
+        words: "compile --scene m",
+        input: SECRET,
+        source: &[],
+        sink: &[],
+        shelf: &[1],
+        status: Status::ShelfFault,
+        printed: "",
+    },
+    // The shelf hands out the scene, and then does not list its names.
+    Run {
+        words: "compile --scene m",
+        input: CURRENT_PCR,
+        source: &[],
+        sink: &[],
+        shelf: &[2],
+        status: Status::ShelfFault,
+        printed: "",
+    },
+    // The source is called until it answers that it is at its end, and the shelf for the scene and for the names of
+    // its documents alone.
+    Run {
+        words: "compile --scene m",
+        input: CURRENT_PCR,
+        source: &[3],
+        sink: &[],
+        shelf: &[3],
+        status: Status::Done,
+        printed: PCR_23_DIGEST,
+    },
+    // `import` makes one call of the shelf, which puts the document: every other one fails here.
+    Run {
+        words: "import /policy/disk",
+        input: SECRET,
+        source: &[],
+        sink: &[],
+        shelf: &[2, 3, 4],
+        status: Status::Done,
+        printed: "imported disk\n",
+    },
+];
 
 fn push_words(list: &mut Vec<String>, alloc: Global, words: &str) -> Result<(), NoMemory> {
     for word in words.split_ascii_whitespace() {
@@ -105,24 +163,17 @@ fn answer_from(
 fn answer_to(
     alloc: Global,
     words: &Vec<String>,
-    input: &[u8],
-    failures: &Failures,
+    run: &Run,
     sink: &mut Failing<MemorySink>,
 ) -> Result<Status, Lapse> {
-    let mut source = source(alloc, input, failures.source)?;
-    answer_from(alloc, words, &mut source, sink, failures.shelf)
+    let mut source = source(alloc, run.input.as_bytes(), run.source)?;
+    answer_from(alloc, words, &mut source, sink, run.shelf)
 }
 
 // What a run answers that prints to this sink.
-fn answer(
-    alloc: Global,
-    words: &str,
-    input: &[u8],
-    failures: &Failures,
-    sink: &mut Failing<MemorySink>,
-) -> Result<Status, Lapse> {
-    let words = words_of(alloc, words)?;
-    answer_to(alloc, &words, input, failures, sink)
+fn answer(alloc: Global, run: &Run, sink: &mut Failing<MemorySink>) -> Result<Status, Lapse> {
+    let words = words_of(alloc, run.words)?;
+    answer_to(alloc, &words, run, sink)
 }
 
 fn has_printed(sink: &Failing<MemorySink>, text: &str) -> bool {
@@ -132,158 +183,19 @@ fn has_printed(sink: &Failing<MemorySink>, text: &str) -> bool {
     }
 }
 
-// Whether a run with these failures answers so, and prints this text.
-fn ends(
-    alloc: Global,
-    words: &str,
-    input: &str,
-    failures: &Failures,
-    status: Status,
-    text: &str,
-) -> bool {
-    match sink(alloc, failures.sink) {
+// Whether a run answers and prints what the table says.
+fn ends_as_told(alloc: Global, run: &Run) -> bool {
+    match sink(alloc, run.sink) {
         Ok(mut sink) => {
-            answer(alloc, words, input.as_bytes(), failures, &mut sink) == Ok(status)
-                && has_printed(&sink, text)
+            answer(alloc, run, &mut sink) == Ok(run.status) && has_printed(&sink, run.printed)
         }
         Err(_) => false,
     }
 }
 
-// Whether a run answers so, and prints this text.
-fn prints(alloc: Global, words: &str, input: &str, status: Status, text: &str) -> bool {
-    ends(alloc, words, input, &NO_FAILURES, status, text)
-}
-
 #[test]
-fn a_document_compiles(rt: HostRuntime) {
-    assert!(rt; prints(rt.alloc(), "compile", SECRET, Status::Done, SECRET_DIGEST));
-}
-
-#[test]
-fn failures_of_the_source_are_told(rt: HostRuntime) {
-    let failures = Failures {
-        source: &[2],
-        ..NO_FAILURES
-    };
-    assert!(rt;
-        ends(
-            rt.alloc(),
-            "compile",
-            SECRET,
-            &failures,
-            Status::ReadFault,
-            ""
-        )
-    );
-}
-
-#[test]
-fn failures_of_the_sink_are_told(rt: HostRuntime) {
-    let failures = Failures {
-        sink: &[1],
-        ..NO_FAILURES
-    };
-    assert!(rt;
-        ends(
-            rt.alloc(),
-            "compile",
-            SECRET,
-            &failures,
-            Status::WriteFault,
-            ""
-        )
-    );
-}
-
-#[test]
-fn failures_of_the_shelf_are_told(rt: HostRuntime) {
-    let failures = Failures {
-        shelf: &[1],
-        ..NO_FAILURES
-    };
-    let words = "compile --scene m";
-    assert!(rt; ends(rt.alloc(), words, SECRET, &failures, Status::ShelfFault, ""));
-}
-
-// The source is called until it answers that it is at its end, and the shelf for the scene and for the names of
-// its documents alone.
-#[test]
-fn nothing_is_called_again(rt: HostRuntime) {
-    let failures = Failures {
-        source: &[3],
-        sink: &[],
-        shelf: &[3],
-    };
-    let words = "compile --scene m";
-    assert!(rt;
-        ends(
-            rt.alloc(),
-            words,
-            CURRENT_PCR,
-            &failures,
-            Status::Done,
-            PCR_23_DIGEST
-        )
-    );
-}
-
-// `import` makes one call of the shelf, which puts the document: every other one fails here.
-#[test]
-fn import_neither_lists_nor_fetches(rt: HostRuntime) {
-    let failures = Failures {
-        shelf: &[2, 3, 4],
-        ..NO_FAILURES
-    };
-    let words = "import /policy/disk";
-    assert!(rt;
-        ends(
-            rt.alloc(),
-            words,
-            SECRET,
-            &failures,
-            Status::Done,
-            "imported disk\n"
-        )
-    );
-}
-
-#[test]
-fn each_line_is_one_write(rt: HostRuntime) {
-    let failures = Failures {
-        sink: &[3],
-        ..NO_FAILURES
-    };
-    let want = "path 1 \"a\" CommandCode,AuthValue,Or\npath 2 \"b\" CommandCode,Locality,Or\n";
-    assert!(rt;
-        ends(
-            rt.alloc(),
-            "paths",
-            BEFORE_AN_OR,
-            &failures,
-            Status::WriteFault,
-            want
-        )
-    );
-}
-
-// Whether `compile` of so many blanks answers so.
-fn blanks_answer(alloc: Global, blanks: &[u8], status: Status) -> bool {
-    match sink(alloc, &[]) {
-        Ok(mut sink) => { answer(alloc, "compile", blanks, &NO_FAILURES, &mut sink) == Ok(status) }
-        Err(_) => false,
+fn failures_are_told_and_nothing_is_called_again(rt: HostRuntime) {
+    for run in &RUNS {
+        assert!(rt; ends_as_told(rt.alloc(), run));
     }
-}
-
-fn answers_to_blanks(alloc: Global, length: usize, status: Status) -> bool {
-    match vec![in alloc; b' '; length] {
-        Ok(blanks) => blanks_answer(alloc, blanks.as_slice(), status),
-        Err(_) => false,
-    }
-}
-
-#[test]
-fn a_source_is_read_to_its_limit(rt: HostRuntime) {
-    assert!(rt; answers_to_blanks(rt.alloc(), 16_777_216, Status::BadPolicy));
-    assert!(rt; answers_to_blanks(rt.alloc(), 16_777_217, Status::TooLarge));
 }
