@@ -11,23 +11,31 @@ use tpol_tree::{Assertion, Move, Moves, Path};
 
 /// A command of a run, and its reply.
 #[derive(Clone, Copy)]
-struct Step {
+struct Step<'a> {
     command: &'static [u8],
-    reply: &'static [u8],
+    reply: &'a [u8],
 }
 
 /// A reply to the step at this place by which a run fails: the code that denies it, 0 where the reply is bad,
 /// and the stage of the end.
 #[derive(Clone, Copy)]
-struct Failing {
+struct Failing<'a> {
     place: usize,
-    reply: &'static [u8],
+    reply: &'a [u8],
     code: u32,
     stage: Stage,
 }
 
+/// The reply to Unseal in the disk's run.
+const UNSEALED: &[u8; 88] =
+    b"\x80\x02\x00\x00\x00\x58\x00\x00\x00\x00\x00\x00\x00\x05\x00\x03\x6b\x65\x79\x00\
+      \x20\x65\x1d\x25\x73\x7d\x57\xd8\xb1\xa2\xd1\x03\xaf\x4a\xae\xe5\x99\x18\x0f\x87\
+      \x44\x4b\x4f\x20\xb6\x9d\x2c\xa1\xec\x95\xed\xf6\x3c\x00\x00\x20\xe0\x28\xe8\x53\
+      \x1b\x8f\x3d\xd8\x63\xc9\xdb\x22\xc8\x78\xf5\x50\x9a\xb6\x06\x6e\xe8\x6d\x7c\x6c\
+      \xd9\xe0\x7a\xf5\x26\x05\xff\x85";
+
 /// The commands and replies of the disk's run.
-const DISK_STEPS: [Step; 5] = [
+const DISK_STEPS: [Step<'static>; 5] = [
     Step {
         command: b"\x80\x01\x00\x00\x00\x3b\x00\x00\x01\x76\x40\x00\x00\x07\x40\x00\x00\x07\x00\x20\
           \x01\xdb\x4b\xaa\x43\xff\xba\x54\x51\xe6\x42\x7b\x4b\x6a\x4e\x56\xeb\x70\x5b\x08\
@@ -60,16 +68,12 @@ const DISK_STEPS: [Step; 5] = [
           \x0b\x92\x78\xa8\x6f\x24\xd4\x60\x7a\xa7\xe9\x65\x36\x13\x5e\x86\x00\x00\x20\x22\
           \x09\x4c\x69\x0a\x0c\xa3\x7f\x0d\x2f\x31\x70\x88\x5b\x0f\x7a\x69\xa4\xb0\x08\x58\
           \xbe\x87\x93\x20\x2e\xfc\xcf\xd4\xa2\x7e\xa9",
-        reply: b"\x80\x02\x00\x00\x00\x58\x00\x00\x00\x00\x00\x00\x00\x05\x00\x03\x6b\x65\x79\x00\
-          \x20\x65\x1d\x25\x73\x7d\x57\xd8\xb1\xa2\xd1\x03\xaf\x4a\xae\xe5\x99\x18\x0f\x87\
-          \x44\x4b\x4f\x20\xb6\x9d\x2c\xa1\xec\x95\xed\xf6\x3c\x00\x00\x20\xe0\x28\xe8\x53\
-          \x1b\x8f\x3d\xd8\x63\xc9\xdb\x22\xc8\x78\xf5\x50\x9a\xb6\x06\x6e\xe8\x6d\x7c\x6c\
-          \xd9\xe0\x7a\xf5\x26\x05\xff\x85",
+        reply: UNSEALED,
     },
 ];
 
 /// The commands and replies of the device's run.
-const DEVICE_STEPS: [Step; 10] = [
+const DEVICE_STEPS: [Step<'static>; 10] = [
     Step {
         command: b"\x80\x01\x00\x00\x00\x3b\x00\x00\x01\x76\x40\x00\x00\x07\x40\x00\x00\x07\x00\x20\
           \x18\x99\x9f\x7e\x07\xdd\x6b\xa2\x49\xea\xe3\x9d\x45\x4d\x2f\x46\x00\xf5\xa0\x7c\
@@ -148,7 +152,7 @@ const DEVICE_STEPS: [Step; 10] = [
 ];
 
 /// Replies that fail in the run of the disk.
-static DISK_FAILURES: [Failing; 10] = [
+static DISK_FAILURES: [Failing<'static>; 10] = [
     Failing {
         place: 0,
         reply: b"\x80\x01\x00\x00\x00\x0a\x00\x00\x09\x03",
@@ -226,7 +230,7 @@ static DISK_FAILURES: [Failing; 10] = [
 ];
 
 /// The same in the run of the device.
-static DEVICE_FAILURES: [Failing; 4] = [
+static DEVICE_FAILURES: [Failing<'static>; 4] = [
     Failing {
         place: 4,
         reply: b"\x80\x01\x00\x00\x00\x0a\x00\x00\x02\xdb",
@@ -255,6 +259,15 @@ static DEVICE_FAILURES: [Failing; 4] = [
         code: 0,
         stage: Stage::Goal,
     },
+];
+
+/// The stage of each step of the disk's run.
+static DISK_STAGES: [Stage; 5] = [
+    Stage::Start,
+    Stage::Move(1),
+    Stage::Move(2),
+    Stage::Move(3),
+    Stage::Goal,
 ];
 
 /// FlushContext of the disk's session.
@@ -331,7 +344,7 @@ struct Run {
     keys: &'static [(u32, &'static [u8])],
     directory: &'static [(u32, [u8; 32], u32)],
     nonce_seed: [u8; 32],
-    steps: &'static [Step],
+    steps: &'static [Step<'static>],
     flush: &'static [u8],
 }
 
@@ -596,7 +609,7 @@ fn begun(alloc: Global, run: &Run, step: &Step) -> Option<Next> {
 }
 
 /// The step of a run at this place with another reply.
-fn answered_by(run: &Run, place: usize, reply: &'static [u8]) -> Option<Step> {
+fn answered_by<'a>(run: &Run, place: usize, reply: &'a [u8]) -> Option<Step<'a>> {
     let step = run.steps.get(place)?;
     Some(Step {
         command: step.command,
@@ -605,7 +618,7 @@ fn answered_by(run: &Run, place: usize, reply: &'static [u8]) -> Option<Step> {
 }
 
 /// The step of a run at this place, behind the steps before the one that is to fail.
-fn failing_step(run: &Run, failing: &Failing, place: usize) -> Option<Step> {
+fn failing_step<'a>(run: &Run, failing: &Failing<'a>, place: usize) -> Option<Step<'a>> {
     match place.checked_sub(failing.place) {
         Some(0) => answered_by(run, place, failing.reply),
         Some(1) if failing.place > 0 => Some(Step {
@@ -618,7 +631,7 @@ fn failing_step(run: &Run, failing: &Failing, place: usize) -> Option<Step> {
 
 /// The step of a run at this place. Where one is to fail, it has the reply by which it fails, and behind it stands
 /// the flush of the session, if there is one, which no reply answers.
-fn step_at(run: &Run, failing: Option<&Failing>, place: usize) -> Option<Step> {
+fn step_at<'a>(run: &Run, failing: Option<&Failing<'a>>, place: usize) -> Option<Step<'a>> {
     match failing {
         Some(failing) if place >= failing.place => failing_step(run, failing, place),
         _ => run.steps.get(place).copied(),
@@ -704,6 +717,57 @@ fn first_other(alloc: Global, run: &Run, failures: &[Failing]) -> Option<usize> 
         }
     }
     None
+}
+
+/// Whether the run hears a bad reply at this place, wherever the step's reply is cut short.
+fn fails_when_cut(alloc: Global, run: &Run, place: usize, stage: Stage) -> bool {
+    let Some(step) = run.steps.get(place) else {
+        return false;
+    };
+    for length in 0..step.reply.len() {
+        let failing = Failing {
+            place,
+            reply: &step.reply[..length],
+            code: 0,
+            stage,
+        };
+        if !fails(alloc, run, &failing) {
+            return false;
+        }
+    }
+    true
+}
+
+/// Whether the disk's run hears a bad reply at its goal where the last bit of this byte of Unseal's reply is changed.
+fn fails_when_changed(alloc: Global, byte: usize) -> bool {
+    let mut changed = *UNSEALED;
+    if byte >= changed.len() {
+        return false;
+    }
+    changed[byte] ^= 0x01;
+    let failing = Failing {
+        place: 4,
+        reply: &changed,
+        code: 0,
+        stage: Stage::Goal,
+    };
+    fails(alloc, &DISK, &failing)
+}
+
+#[test]
+fn replies_that_are_cut_or_changed(rt: HostRuntime) {
+    for (place, stage) in DISK_STAGES.iter().enumerate() {
+        assert!(rt;
+            fails_when_cut(rt.alloc(), &DISK, place, *stage),
+            "cut at step {place}"
+        );
+    }
+    for byte in 0..UNSEALED.len() {
+        assert!(rt;
+            fails_when_changed(rt.alloc(), byte),
+            "changed at byte {byte}"
+        );
+    }
 }
 
 #[test]
