@@ -1,2 +1,3 @@
 pub mod Digests
 mod Worked
+pub mod Written

@@ -1,6 +1,6 @@
 -- When a call of the outside may answer that it failed, and what a call of a sink leaves.
-use Rattle.std.specs.Prelude.{◌≡◌, ℕ, ◌+◌, ◌-◌, ◌^◌, ◌≤◌, List, min, take, Option, Some, IfSome, Result, OnOk, OnErr, IsErrOf}
-use Rattle.std.specs.Io.KnownBytes.{append_known}
+use Rattle.std.specs.Prelude.{◌≡◌, ℕ, ◌+◌, ◌-◌, ◌^◌, ◌≤◌, List, min, take, Option, Result, OnOk, OnErr, IsErrOf}
+use Rattle.std.specs.Io.KnownBytes.{Appends}
 use Rattle.tpol_base.specs.declared.outside.Lapse.{Lapse}
 use Rattle.tpol_base.specs.declared.outside.Lapse.TheVariants.{Failed, NoMemory}
 
@@ -23,9 +23,9 @@ pub record IsQuiet {T : Type 0} (before now : ℕ) (result : Result T Lapse) : T
   pub ok : OnOk result (now ≡ before)
   pub memory : IsErrOf result NoMemory → now ≡ before
 
--- what is told afterwards is what was told before, and then these bytes
+-- where it was told before, it is told afterwards, and is what was told before and then these bytes
 abbrev pub Grows : Option (List ℕ) → Option (List ℕ) → List ℕ → Type 0
-Grows old new bytes = IfSome new (λ held. append_known old bytes ≡ Some held)
+Grows old new bytes = Appends old new bytes
 
 -- the same with a first part of the bytes
 abbrev pub GrowsInPart : Option (List ℕ) → Option (List ℕ) → List ℕ → Type 0

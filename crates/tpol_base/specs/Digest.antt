@@ -1,5 +1,5 @@
 -- Digests out of bytes, and the zero digest.
-use Rattle.std.specs.Prelude.{◌≡◌, ℕ, Bool, zero, suc, List, [], ◌∷◌, length, replicate, refl}
+use Rattle.std.specs.Prelude.{◌≡◌, ℕ, Bool, zero, suc, List, [], ◌∷◌, length, Option, None, Some, replicate, refl}
 use Rattle.std.proofs.Common.{ap}
 use Rattle.std.specs.Str.{bytes_eq}
 use Rattle.tpol_base.specs.declared.digest.Digest32.{Digest32}
@@ -22,6 +22,11 @@ digest_of_bytes bytes = record { bytes = front 32 bytes; whole = length-front 32
 -- whether two digests are the same
 abbrev pub is_same_digest : Digest32 → Digest32 → Bool
 is_same_digest a b = bytes_eq a.bytes b.bytes
+
+-- the bytes of a digest that may be left out: 32, or none
+abbrev pub optional_bytes : Option Digest32 → List ℕ
+optional_bytes None = []
+optional_bytes (Some digest) = digest.bytes
 
 -- 32 zero bytes
 abbrev pub zero_digest : Digest32

@@ -11,8 +11,10 @@ pub mod Documents
 pub mod Failing
 pub mod Flag
 pub mod Handle
+pub mod Lends
 pub mod Name
 pub mod Pcr
 pub mod PolicyName
 pub mod ResponseCode
 pub mod Sized
+pub mod TrailingZeros

@@ -42,43 +42,6 @@ pub enum CommandCode {
     PolicyAuthorizeNv = 0x192,
 }
 
-/// Every command, in ascending order of the codes.
-const COMMANDS: [CommandCode; 33] = [
-    CommandCode::NvIncrement,
-    CommandCode::NvWrite,
-    CommandCode::PolicyNv,
-    CommandCode::Duplicate,
-    CommandCode::NvRead,
-    CommandCode::PolicySecret,
-    CommandCode::Hmac,
-    CommandCode::Unseal,
-    CommandCode::PolicySigned,
-    CommandCode::ContextLoad,
-    CommandCode::ContextSave,
-    CommandCode::FlushContext,
-    CommandCode::PolicyAuthorize,
-    CommandCode::PolicyAuthValue,
-    CommandCode::PolicyCommandCode,
-    CommandCode::PolicyCounterTimer,
-    CommandCode::PolicyCpHash,
-    CommandCode::PolicyLocality,
-    CommandCode::PolicyNameHash,
-    CommandCode::PolicyOr,
-    CommandCode::PolicyTicket,
-    CommandCode::StartAuthSession,
-    CommandCode::VerifySignature,
-    CommandCode::PcrRead,
-    CommandCode::PolicyPcr,
-    CommandCode::PolicyRestart,
-    CommandCode::PcrExtend,
-    CommandCode::PolicyPhysicalPresence,
-    CommandCode::PolicyDuplicationSelect,
-    CommandCode::PolicyGetDigest,
-    CommandCode::PolicyPassword,
-    CommandCode::PolicyNvWritten,
-    CommandCode::PolicyAuthorizeNv,
-];
-
 impl CommandCode {
     /// The command's code.
     pub fn number(self) -> u32
@@ -92,10 +55,42 @@ impl CommandCode {
     pub fn from_number(number: u32) -> Option<CommandCode>
         ensures { result ≡ code_of_number number }
     {
-        COMMANDS
-            .iter()
-            .copied()
-            .find(|command| command.number() == number)
+        match number {
+            0x134 => Some(CommandCode::NvIncrement),
+            0x137 => Some(CommandCode::NvWrite),
+            0x149 => Some(CommandCode::PolicyNv),
+            0x14b => Some(CommandCode::Duplicate),
+            0x14e => Some(CommandCode::NvRead),
+            0x151 => Some(CommandCode::PolicySecret),
+            0x155 => Some(CommandCode::Hmac),
+            0x15e => Some(CommandCode::Unseal),
+            0x160 => Some(CommandCode::PolicySigned),
+            0x161 => Some(CommandCode::ContextLoad),
+            0x162 => Some(CommandCode::ContextSave),
+            0x165 => Some(CommandCode::FlushContext),
+            0x16a => Some(CommandCode::PolicyAuthorize),
+            0x16b => Some(CommandCode::PolicyAuthValue),
+            0x16c => Some(CommandCode::PolicyCommandCode),
+            0x16d => Some(CommandCode::PolicyCounterTimer),
+            0x16e => Some(CommandCode::PolicyCpHash),
+            0x16f => Some(CommandCode::PolicyLocality),
+            0x170 => Some(CommandCode::PolicyNameHash),
+            0x171 => Some(CommandCode::PolicyOr),
+            0x172 => Some(CommandCode::PolicyTicket),
+            0x176 => Some(CommandCode::StartAuthSession),
+            0x177 => Some(CommandCode::VerifySignature),
+            0x17e => Some(CommandCode::PcrRead),
+            0x17f => Some(CommandCode::PolicyPcr),
+            0x180 => Some(CommandCode::PolicyRestart),
+            0x182 => Some(CommandCode::PcrExtend),
+            0x187 => Some(CommandCode::PolicyPhysicalPresence),
+            0x188 => Some(CommandCode::PolicyDuplicationSelect),
+            0x189 => Some(CommandCode::PolicyGetDigest),
+            0x18c => Some(CommandCode::PolicyPassword),
+            0x18f => Some(CommandCode::PolicyNvWritten),
+            0x192 => Some(CommandCode::PolicyAuthorizeNv),
+            _ => None,
+        }
     }
 }
 

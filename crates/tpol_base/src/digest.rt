@@ -11,7 +11,7 @@ pub struct Digest32 {
 }
 
 impl Digest32 {
-    ghost use Rattle.tpol_base.specs.Digest.{digest_of_bytes};
+    ghost use Rattle.tpol_base.specs.Digest.{digest_of_bytes, optional_bytes};
 
     /// 32 zero bytes: the digest that a policy and a session start from.
     pub const ZERO: Digest32 = Digest32 { bytes: [0; 32] };
@@ -25,5 +25,15 @@ impl Digest32 {
         let mut digest = [0; 32];
         digest.copy_from_slice(bytes);
         Digest32 { bytes: digest }
+    }
+
+    /// The bytes of a digest that may be left out, as of a cpHashA: 32, or none.
+    pub fn optional_bytes(digest: &Option<Digest32>) -> &[u8]
+        ensures { result.now ≡ optional_bytes digest.now }
+    {
+        match digest {
+            Some(digest) => &digest.bytes,
+            None => &[],
+        }
     }
 }

@@ -52,6 +52,7 @@ impl<T> Failing<T> {
         ensures counted { IsCounted self.old self.new }
         ensures inner { inner self.new ≡ inner self.old }
         ensures later { own_faults self.old ≤ own_faults self.new }
+        ensures once { own_faults self.new ≤ own_faults self.old + 1 }
         ensures passes { OnFalse result (own_faults self.new ≡ own_faults self.old) }
         ensures rose { OnTrue result (Rose (own_faults self.old) (own_faults self.new)) }
     {
@@ -75,6 +76,8 @@ impl<T: Source> Source for Failing<T> {
         ensures bytes { ReadConsumes (T.left (inner self.old)) (T.left (inner self.new)) result buf.new }
         ensures cause { HasCause (own_faults self.old + T.faults (inner self.old))
             (own_faults self.new + T.faults (inner self.new)) result }
+        ensures once { own_faults self.new + T.faults (inner self.new)
+            ≤ own_faults self.old + T.faults (inner self.old) + 1 }
         ensures quiet { OnOk result (own_faults self.new + T.faults (inner self.new)
             ≡ own_faults self.old + T.faults (inner self.old)) }
         ensures counted { IsCounted self.old self.new }
@@ -100,6 +103,8 @@ impl<T: Sink> Sink for Failing<T> {
             (λ _. GrowsInPart (T.contents (inner self.old)) (T.contents (inner self.new)) bytes.now) }
         ensures cause { HasCause (own_faults self.old + T.faults (inner self.old))
             (own_faults self.new + T.faults (inner self.new)) result }
+        ensures once { own_faults self.new + T.faults (inner self.new)
+            ≤ own_faults self.old + T.faults (inner self.old) + 1 }
         ensures quiet { OnOk result (own_faults self.new + T.faults (inner self.new)
             ≡ own_faults self.old + T.faults (inner self.old)) }
         ensures counted { IsCounted self.old self.new }
@@ -125,6 +130,8 @@ impl<T: Shelf> Shelf for Failing<T> {
             (λ all. IfOk result (λ found. found ≡ handed_out (document_of name.now all))) }
         ensures cause { HasLapse (own_faults self.old + T.faults (inner self.old))
             (own_faults self.new + T.faults (inner self.new)) result }
+        ensures once { own_faults self.new + T.faults (inner self.new)
+            ≤ own_faults self.old + T.faults (inner self.old) + 1 }
         ensures quiet { IsQuiet (own_faults self.old + T.faults (inner self.old))
             (own_faults self.new + T.faults (inner self.new)) result }
         ensures counted { IsCounted self.old self.new }
@@ -144,6 +151,8 @@ impl<T: Shelf> Shelf for Failing<T> {
         ensures keeps { OnErr result (T.documents (inner self.new) ≡ T.documents (inner self.old)) }
         ensures cause { HasLapse (own_faults self.old + T.faults (inner self.old))
             (own_faults self.new + T.faults (inner self.new)) result }
+        ensures once { own_faults self.new + T.faults (inner self.new)
+            ≤ own_faults self.old + T.faults (inner self.old) + 1 }
         ensures quiet { IsQuiet (own_faults self.old + T.faults (inner self.old))
             (own_faults self.new + T.faults (inner self.new)) result }
         ensures counted { IsCounted self.old self.new }
@@ -163,6 +172,8 @@ impl<T: Shelf> Shelf for Failing<T> {
             (λ all. IfOk result (λ listed. IsPermutation (names_of all) listed)) }
         ensures cause { HasLapse (own_faults self.old + T.faults (inner self.old))
             (own_faults self.new + T.faults (inner self.new)) result }
+        ensures once { own_faults self.new + T.faults (inner self.new)
+            ≤ own_faults self.old + T.faults (inner self.old) + 1 }
         ensures quiet { IsQuiet (own_faults self.old + T.faults (inner self.old))
             (own_faults self.new + T.faults (inner self.new)) result }
         ensures counted { IsCounted self.old self.new }

@@ -1,6 +1,6 @@
 //! A folder of the file system as a shelf.
 
-ghost use Rattle.std.specs.Prelude.{None, ◌≡◌, ◌≤◌, ◌↔◌};
+ghost use Rattle.std.specs.Prelude.{None, ◌≡◌, ◌≤◌, ◌+◌, ◌↔◌};
 ghost use Rattle.std.specs.IoError.{error_kind};
 ghost use Rattle.std.specs.String.{string_bytes};
 ghost use Rattle.tpol_base.specs.Adapters.{folder_of, shelf_faults};
@@ -39,6 +39,7 @@ impl<R: Files + AllocGlobal + Clone + Drop> FolderShelf<R> {
     // The lapse that an error of the file system is.
     fn lapse(&mut self, error: io::Error) -> Lapse
         ensures later { self.old.faults ≤ self.new.faults }
+        ensures once { self.new.faults ≤ self.old.faults + 1 }
         ensures failed { result ≡ Lapse.Failed → Rose self.old.faults self.new.faults }
         ensures quiet { result ≡ Lapse.NoMemory → self.new.faults ≡ self.old.faults }
         ensures memory { (result ≡ Lapse.NoMemory) ↔ (error_kind error ≡ ErrorKind.OutOfMemory) }

@@ -21,7 +21,6 @@ mod flag;
 mod folder_shelf;
 pub mod handle;
 mod memory_shelf;
-mod memory_sink;
 mod memory_source;
 mod name;
 mod no_memory;
@@ -34,6 +33,7 @@ mod sequence;
 mod std_sink;
 mod std_source;
 mod text;
+mod trailing_zeros;
 
 pub use check::Check;
 pub use command_code::{CommandCode, command_codes, command_name};
@@ -47,7 +47,6 @@ pub use flag::yes_no;
 pub use folder_shelf::FolderShelf;
 pub use handle::HandleKind;
 pub use memory_shelf::{MemoryShelf, most_handed_out};
-pub use memory_sink::MemorySink;
 pub use memory_source::MemorySource;
 pub use name::{Name, NameBytes};
 pub use no_memory::NoMemory;
@@ -58,6 +57,7 @@ pub use sequence::Sequence;
 pub use std_sink::StdSink;
 pub use std_source::StdSource;
 pub use text::Text;
+pub use trailing_zeros::without_trailing_zeros;
 
 /// Bytes; contracts see the list of them.
 pub type Blob = Sequence<u8>;

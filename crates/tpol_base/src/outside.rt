@@ -1,6 +1,6 @@
 //! The outside: sources, sinks and shelves, and how they fail.
 
-ghost use Rattle.std.specs.Prelude.{◌≡◌, ◌<◌, List, ℕ, length, Option, IfSome, IfOk, OnOk, OnErr, MatchResult};
+ghost use Rattle.std.specs.Prelude.{◌≡◌, ◌+◌, ◌≤◌, ◌<◌, List, ℕ, length, Option, IfSome, IfOk, OnOk, OnErr, MatchResult};
 ghost use Rattle.std.specs.Option.{option_map};
 ghost use Rattle.std.specs.Io.{ReadsAtMost};
 ghost use Rattle.std.specs.Io.KnownBytes.{ReadConsumes};
@@ -41,13 +41,14 @@ pub trait Source {
     ghost faults: { Self → ℕ };
 
     /// Reads into `buf`, which is not empty: the number of bytes read, which is 0 at the end of the input
-    /// alone. `Failed` comes only where the count of faults rose in this call, and the count rises in no
-    /// call that is answered `Ok`.
+    /// alone. `Failed` comes only where the count of faults rose in this call, and the count rises by one at
+    /// most, and in no call that is answered `Ok`.
     fn read(&mut self, buf: &mut [u8]) -> Result<usize, Failed>
         requires { 0 < length buf.old }
         ensures bound { ReadsAtMost result buf.new }
         ensures bytes { ReadConsumes (left self.old) (left self.new) result buf.new }
         ensures cause { HasCause (faults self.old) (faults self.new) result }
+        ensures once { faults self.new ≤ faults self.old + 1 }
         ensures quiet { OnOk result (faults self.new ≡ faults self.old) };
 }
 
@@ -60,17 +61,19 @@ pub trait Sink {
     ghost faults: { Self → ℕ };
 
     /// Appends all of `bytes`. After `Failed`, which comes only where the count of faults rose in this
-    /// call, a first part of them was appended. The count rises in no call that is answered `Ok`.
+    /// call, a first part of them was appended. The count rises by one at most, and in no call that is
+    /// answered `Ok`. What told its content before tells it afterwards.
     fn write(&mut self, bytes: &[u8]) -> Result<(), Failed>
         ensures written { MatchResult result
             (λ _. Grows (contents self.old) (contents self.new) bytes.now)
             (λ _. GrowsInPart (contents self.old) (contents self.new) bytes.now) }
         ensures cause { HasCause (faults self.old) (faults self.new) result }
+        ensures once { faults self.new ≤ faults self.old + 1 }
         ensures quiet { OnOk result (faults self.new ≡ faults self.old) };
 }
 
-/// Where documents are kept, by name. `Failed` comes only where the count of faults rose in the call, and
-/// the count rises in no other call.
+/// Where documents are kept, by name. `Failed` comes only where the count of faults rose in the call; the
+/// count rises by one at most, and in no other call.
 pub trait Shelf {
     /// The documents, where the shelf tells them.
     ghost documents: { Self → Option (List Document) };
@@ -85,6 +88,7 @@ pub trait Shelf {
         ensures found { IfSome (documents self.old)
             (λ all. IfOk result (λ found. found ≡ handed_out (document_of name.now all))) }
         ensures cause { HasLapse (faults self.old) (faults self.new) result }
+        ensures once { faults self.new ≤ faults self.old + 1 }
         ensures quiet { IsQuiet (faults self.old) (faults self.new) result };
 
     /// Replaces the document of this name, or adds it. After a lapse the documents are as before.
@@ -93,6 +97,7 @@ pub trait Shelf {
             (documents self.new ≡ option_map (put_document name.now bytes.now) (documents self.old)) }
         ensures keeps { OnErr result (documents self.new ≡ documents self.old) }
         ensures cause { HasLapse (faults self.old) (faults self.new) result }
+        ensures once { faults self.new ≤ faults self.old + 1 }
         ensures quiet { IsQuiet (faults self.old) (faults self.new) result };
 
     /// The names of all documents, in any order.
@@ -101,5 +106,6 @@ pub trait Shelf {
         ensures listed { IfSome (documents self.old)
             (λ all. IfOk result (λ listed. IsPermutation (names_of all) listed)) }
         ensures cause { HasLapse (faults self.old) (faults self.new) result }
+        ensures once { faults self.new ≤ faults self.old + 1 }
         ensures quiet { IsQuiet (faults self.old) (faults self.new) result };
 }

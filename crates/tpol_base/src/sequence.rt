@@ -32,6 +32,10 @@ impl<T: ExactClone> Clone for Sequence<T> {
 }
 
 impl<T> Sequence<T> {
+    ghost use Rattle.std.specs.Borrow.{sem};
+    ghost use Rattle.std.specs.Option.{option_copied_mut};
+    ghost use Rattle.tpol_base.specs.Lends.{lends_item};
+
     /// The empty list; it takes no memory.
     pub fn new(alloc: Global) -> Sequence<T>
         ensures { result ≡ [] }
@@ -82,6 +86,15 @@ impl<T> Sequence<T> {
         ensures { option_copied result ≡ slice_get self.now index }
     {
         self.items.get(index)
+    }
+
+    /// The item at `index`, counted from 0, to be written to; `None` past the end. What is left behind the
+    /// reference stands in the item's place afterwards, and the other items stay.
+    pub fn get_mut(&mut self, index: usize) -> Option<&mut T>
+        ensures* writes_back { sem 𝓛 (lends_item T.row self.entry index result) }
+        ensures value { option_copied_mut result ≡ slice_get self.old index }
+    {
+        self.items.get_mut(index)
     }
 }
 

@@ -1,14 +1,15 @@
 //! A writer of std as a sink.
 
-ghost use Rattle.std.specs.Prelude.{◌≡◌, None};
+ghost use Rattle.std.specs.Prelude.{◌≡◌};
 ghost use Rattle.tpol_base.specs.Adapters as adapters;
 ghost use Rattle.tpol_base.specs.Adapters.{sink_faults};
 
 use crate::{Failed, Sink};
 use std::io::Write;
 
-/// Standard output, or any other writer of std, as a sink. It raises its count at each `Err` of the writer
-/// and at each write that takes nothing of a piece that is not empty, and tells nothing of the content.
+/// Standard output, or any other writer of std, as a sink. It raises its count by one at each `Err` of the
+/// writer and at each write that takes nothing of a piece that is not empty. It tells what its writer tells:
+/// of a `Vec` its bytes, of standard output nothing.
 #[derive(Drop)]
 pub struct StdSink<W: Write> {
     writer: W,
@@ -23,10 +24,17 @@ impl<W: Write> StdSink<W> {
     {
         StdSink { writer, faults: 0 }
     }
+
+    /// The writer.
+    pub fn writer(&self) -> &W
+        ensures { result.now ≡ adapters.writer self.now }
+    {
+        &self.writer
+    }
 }
 
 impl<W: Write> Sink for StdSink<W> {
-    ghost contents = { λ _. None };
+    ghost contents = { λ s. W.contents (adapters.writer s) };
 
     ghost faults = { λ s. sink_faults s };
 

@@ -7,8 +7,8 @@ ghost use Rattle.tpol_base.specs.Adapters.{source_faults};
 use crate::{Failed, Source};
 use std::io::Read;
 
-/// Standard input, or any other reader of std, as a source. It raises its count at each `Err` of the
-/// reader. It tells what its reader tells: of standard input nothing.
+/// Standard input, or any other reader of std, as a source. It raises its count by one at each `Err` of the
+/// reader. It tells what its reader tells: of a slice the bytes that are left, of standard input nothing.
 #[derive(Drop)]
 pub struct StdSource<R: Read> {
     reader: R,

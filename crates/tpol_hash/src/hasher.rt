@@ -2,6 +2,7 @@
 
 ghost use Rattle.std.specs.Prelude.{◌≡◌, ℕ, List, [], ◌++◌};
 ghost use Rattle.tpol_base.specs.Name.{name_bytes};
+ghost use Rattle.tpol_base.specs.Sized.{sized};
 ghost use Rattle.tpol_hash.specs.Messages.{Holds};
 ghost use Rattle.tpol_hash.specs.Sha256.{sha256_digest};
 
@@ -34,6 +35,16 @@ impl Hasher {
         ensures longer { (m : List ℕ) → Holds self.old m → Holds self.new (m ++ name_bytes name.now) }
     {
         self.put(name.bytes().as_slice());
+    }
+
+    /// Adds a sized buffer to the message: the last two bytes of the length, the high one first, and the
+    /// bytes (TPM 2.0 Part 2, "TPM2B").
+    pub fn put_sized(&mut self, bytes: &[u8])
+        ensures longer { (m : List ℕ) → Holds self.old m → Holds self.new (m ++ sized bytes.now) }
+    {
+        let length = bytes.len().to_be_bytes();
+        self.put(&length[6..]);
+        self.put(bytes);
     }
 
     /// The digest of the message.

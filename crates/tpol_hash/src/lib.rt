@@ -10,7 +10,7 @@ mod mac;
 mod tests;
 
 pub use hasher::{Hasher, hash};
-pub use mac::Mac;
+pub use mac::{Mac, key_block};
 use tpol_base::{Blob, Sequence};
 
 /// Strings that were hashed, in the order of making.

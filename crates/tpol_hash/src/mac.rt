@@ -1,6 +1,7 @@
 //! HMAC over SHA-256.
 
 ghost use Rattle.std.specs.Prelude.{◌≡◌, ℕ, List, [], ◌++◌, map, bit_xor};
+ghost use Rattle.tpol_base.specs.Sized.{sized};
 ghost use Rattle.tpol_hash.specs.Hmac.{block_key, hmac_sha256};
 ghost use Rattle.tpol_hash.specs.Messages.{HoldsUnder};
 
@@ -45,6 +46,17 @@ impl Mac {
         self.inner.put(bytes);
     }
 
+    /// Adds a sized buffer to the message: the last two bytes of the length, the high one first, and the
+    /// bytes (TPM 2.0 Part 2, "TPM2B").
+    pub fn put_sized(&mut self, bytes: &[u8])
+        ensures longer { (key m : List ℕ) → HoldsUnder self.old key m
+            → HoldsUnder self.new key (m ++ sized bytes.now) }
+    {
+        let length = bytes.len().to_be_bytes();
+        self.put(&length[6..]);
+        self.put(bytes);
+    }
+
     /// The HMAC of the message.
     pub fn done(self) -> Digest32
         ensures digest { (key m : List ℕ) → HoldsUnder self key m → result ≡ hmac_sha256 key m }
@@ -56,8 +68,9 @@ impl Mac {
     }
 }
 
-// The key with zero bytes behind it, one block long.
-fn key_block(key: &[u8]) -> [u8; BLOCK]
+/// The block that an HMAC makes of its key, `K0` in the standard: the key, or its digest where it is longer
+/// than a block of 64 bytes, with zero bytes behind it. Two keys of one block give the same HMACs.
+pub fn key_block(key: &[u8]) -> [u8; BLOCK]
     ensures { result ≡ block_key key.now }
 {
     let mut block = [0; BLOCK];
