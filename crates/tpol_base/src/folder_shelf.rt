@@ -1,21 +1,25 @@
 //! A folder of the file system as a shelf.
 
-ghost use Rattle.std.specs.Prelude.{None, ◌≡◌, ◌≤◌, ◌+◌, ◌↔◌};
+ghost use Rattle.std.specs.Prelude.{None, ◌≡◌, ◌≤◌, ◌+◌, ◌↔◌, Ok, IfOk, IfErr, IsErrAnd};
 ghost use Rattle.std.specs.IoError.{error_kind};
 ghost use Rattle.std.specs.String.{string_bytes};
 ghost use Rattle.tpol_base.specs.Adapters.{folder_of, shelf_faults};
-ghost use Rattle.tpol_base.specs.Causes.{Rose};
+ghost use Rattle.tpol_base.specs.Causes.{HasLapse, IsQuiet, Rose};
 
-use crate::{Blob, Lapse, Shelf, Text, Texts, is_policy_name, most_handed_out};
-use std::alloc::{AllocError, Global};
-use std::io::{ErrorKind, Read, Write};
+use crate::folder_files::{list_documents, read_document, write_document};
+use crate::{Blob, Lapse, Shelf, Texts};
+use std::alloc::Global;
+use std::io;
+use std::io::ErrorKind;
 use std::rt::Files;
-use std::{fs, io};
 
 /// A folder of the file system as a shelf: a document's name is its file's name. A file is listed where its
-/// name is the name of a policy followed by `.json` or `.scene`; a folder inside is not. A folder that is not there is an empty
-/// shelf; `put` makes it. The shelf raises its count at each error of the file system but want of memory,
-/// and tells nothing of the content.
+/// name is the name of a policy followed by `.json` or `.scene`. What is no regular file after links are
+/// followed, as a folder or a pipe, is no document, and is never opened. A folder that is not there is an
+/// empty shelf; `put` makes it.
+///
+/// The shelf raises its count by one at each error of the file system but want of memory, and tells nothing
+/// of the content.
 #[derive(Drop)]
 pub struct FolderShelf<R: Files + AllocGlobal + Clone + Drop> {
     rt: R,
@@ -33,6 +37,22 @@ impl<R: Files + AllocGlobal + Clone + Drop> FolderShelf<R> {
             rt,
             folder,
             faults: 0,
+        }
+    }
+
+    // What the shelf answers where the file system answered so: the same value, want of memory where that
+    // was the error, and else a fault, which is counted.
+    fn told<T>(&mut self, answer: io::Result<T>) -> Result<T, Lapse>
+        ensures ok { IfOk answer (λ value. result ≡ Ok value) }
+        ensures err { IfErr answer (λ error. IsErrAnd result (λ lapse.
+            (lapse ≡ Lapse.NoMemory) ↔ (error_kind error ≡ ErrorKind.OutOfMemory))) }
+        ensures cause { HasLapse self.old.faults self.new.faults result }
+        ensures once { self.new.faults ≤ self.old.faults + 1 }
+        ensures quiet { IsQuiet self.old.faults self.new.faults result }
+    {
+        match answer {
+            Ok(value) => Ok(value),
+            Err(error) => Err(self.lapse(error)),
         }
     }
 
@@ -58,93 +78,17 @@ impl<R: Files + AllocGlobal + Clone + Drop> Shelf for FolderShelf<R> {
     ghost faults = { λ s. shelf_faults s };
 
     fn fetch(&mut self, name: &str) -> Result<Option<Blob>, Lapse> {
-        match read_document(&self.rt, self.folder.as_str(), name) {
-            Ok(found) => Ok(found),
-            Err(error) => Err(self.lapse(error)),
-        }
+        let read = read_document(&self.rt, self.folder.as_str(), name);
+        self.told(read)
     }
 
     fn put(&mut self, name: &str, bytes: &[u8]) -> Result<(), Lapse> {
-        match write_document(&self.rt, self.folder.as_str(), name, bytes) {
-            Ok(()) => Ok(()),
-            Err(error) => Err(self.lapse(error)),
-        }
+        let written = write_document(&self.rt, self.folder.as_str(), name, bytes);
+        self.told(written)
     }
 
     fn names(&mut self) -> Result<Texts, Lapse> {
-        match list_documents(&self.rt, self.folder.as_str()) {
-            Ok(names) => Ok(names),
-            Err(error) => Err(self.lapse(error)),
-        }
+        let listed = list_documents(&self.rt, self.folder.as_str());
+        self.told(listed)
     }
-}
-
-fn is_listed(name: &str) -> bool {
-    match (name.strip_suffix(".json"), name.strip_suffix(".scene")) {
-        (Some(stem), _) | (None, Some(stem)) => is_policy_name(stem),
-        (None, None) => false,
-    }
-}
-
-fn path_of(alloc: Global, folder: &str, name: &str, ending: &str) -> Result<String, AllocError> {
-    format!(in alloc; "{folder}/{name}{ending}")
-}
-
-fn read_document<R: Files + AllocGlobal>(
-    rt: &R,
-    folder: &str,
-    name: &str,
-) -> io::Result<Option<Blob>> {
-    let path = path_of(rt.alloc(), folder, name, "")?;
-    let file = match fs::open(rt, path.as_str()) {
-        Ok(file) => file,
-        Err(error) if error.kind() == ErrorKind::NotFound => return Ok(None),
-        Err(error) => return Err(error),
-    };
-    let mut bytes = Vec::new(rt.alloc());
-    file.take(most_handed_out() as u64).read_to_end(&mut bytes)?;
-    Ok(Some(Blob::from_vec(bytes)))
-}
-
-// The new file takes the old one's place when all of it is written.
-fn write_document<R: Files + AllocGlobal>(
-    rt: &R,
-    folder: &str,
-    name: &str,
-    bytes: &[u8],
-) -> io::Result<()> {
-    fs::create_dir_all(rt, folder)?;
-    let path = path_of(rt.alloc(), folder, name, "")?;
-    let part = path_of(rt.alloc(), folder, name, ".part")?;
-    fs::create(rt, part.as_str())?.write_all(bytes)?;
-    fs::rename(rt, part.as_str(), path.as_str())
-}
-
-fn list_documents<R: Files + AllocGlobal + Clone + Drop>(
-    rt: &R,
-    folder: &str,
-) -> io::Result<Texts> {
-    let mut names = Texts::new(rt.alloc());
-    let entries = match fs::read_dir(rt, folder) {
-        Ok(entries) => entries,
-        Err(error) if error.kind() == ErrorKind::NotFound => return Ok(names),
-        Err(error) => return Err(error),
-    };
-    for entry in entries {
-        let entry = match entry {
-            Ok(entry) => entry,
-            // A name that is no text is not a policy's.
-            Err(error) if error.kind() == ErrorKind::InvalidFilename => continue,
-            Err(error) => return Err(error),
-        };
-        if is_listed(entry.file_name()) && !entry.file_type()?.is_dir() {
-            add_name(rt.alloc(), &mut names, entry.file_name())?;
-        }
-    }
-    Ok(names)
-}
-
-fn add_name(alloc: Global, names: &mut Texts, name: &str) -> Result<(), AllocError> {
-    let name = Text::from_str(alloc, name).map_err(|_| AllocError)?;
-    names.push(name).map_err(|_| AllocError)
 }

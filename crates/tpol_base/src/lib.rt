@@ -18,6 +18,7 @@ mod document;
 mod exact_clone;
 mod failing;
 mod flag;
+mod folder_files;
 mod folder_shelf;
 pub mod handle;
 mod memory_shelf;

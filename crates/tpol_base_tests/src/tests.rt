@@ -1,14 +1,17 @@
-//! Sources, sinks and shelves: what no clause says of them, since those of the standard library tell nothing of their
-//! content, and a shelf in memory once with ample memory.
+//! Sources, sinks and shelves: what no clause says of them, since standard input and output and a folder tell nothing of
+//! their content, and those in memory once with ample memory.
 //!
 //! The proof of a function proves the drop of each value that it holds, wherever it may end early. So a shelf is held
 //! by a function that ends in one place, and what is asked of it stands in others that are lent it.
+
+ghost use Rattle.std.specs.Prelude.{◌≡◌, ◌++◌, IfOk};
 
 use std::alloc::{AllocError, Global};
 use std::io::Write;
 use std::{fs, io};
 use tpol_base::{
-    Failed, FolderShelf, MemoryShelf, Shelf, Sink, Source, StdSink, StdSource, is_policy_name,
+    Failed, FolderShelf, Lapse, MemoryShelf, Shelf, Sink, Source, StdSink, StdSource,
+    is_policy_name,
 };
 
 /// Whether the shelf takes these bytes under this name.
@@ -60,14 +63,29 @@ fn is_written(rt: &HostRuntime, path: &str) -> bool {
     fs::write(rt, path, "not listed").is_ok()
 }
 
-// Of three names two are none of a document, and the third is that of a folder, which is a fault.
+// Of three names two are none of a document, and the third is that of a folder.
 fn lists_documents_alone<S: Shelf>(rt: &HostRuntime, shelf: &mut S) -> bool {
     is_written(rt, "policies/notes.txt")
         && is_written(rt, "policies/.json")
         && fs::create_dir(rt, "policies/b.json").is_ok()
-        && shelf.fetch("b.json").is_err()
+        && lacks(shelf, "b.json")
         && puts(shelf, "a.scene", b"{}")
         && lists(shelf, 2)
+}
+
+fn is_there(rt: &HostRuntime, path: &str) -> bool {
+    fs::exists(rt, path).is_ok_and(|found| found)
+}
+
+// A part file of another import is left alone, and where nothing can take a folder's place no part file stays.
+fn takes_parts_of_its_own<S: Shelf>(rt: &HostRuntime, shelf: &mut S) -> bool {
+    is_written(rt, "policies/c.json.0.part")
+        && puts(shelf, "c.json", b"third")
+        && holds(shelf, "c.json", b"third")
+        && is_there(rt, "policies/c.json.0.part")
+        && !is_there(rt, "policies/c.json.1.part")
+        && shelf.put("b.json", b"{}") == Err(Lapse::Failed)
+        && !is_there(rt, "policies/b.json.0.part")
 }
 
 /// Whether the shelf hands out so many bytes under this name.
@@ -100,6 +118,7 @@ fn folder_keeps_documents(rt: &HostRuntime) -> bool {
         Ok(mut shelf) => {
             keeps_the_last(&mut shelf)
                 && lists_documents_alone(rt, &mut shelf)
+                && takes_parts_of_its_own(rt, &mut shelf)
                 && hands_out_too_many(rt.alloc(), &mut shelf)
         }
         Err(_) => false,
@@ -134,6 +153,22 @@ fn standard_output_takes_all_of_a_line(rt: HostRuntime) {
     let mut room = [0; 4];
     let mut sink = StdSink::new(room.as_mut_slice());
     assert!(rt; writes_four_bytes(&mut sink));
+}
+
+// What a sink over a list of bytes was given, as its clauses tell it: both lines, one behind the other.
+fn both_lines(alloc: Global, first: &[u8], second: &[u8]) -> Result<Vec<u8>, Failed>
+    ensures { IfOk result (λ bytes. bytes.items ≡ first.now ++ second.now) }
+{
+    let mut sink = StdSink::new(Vec::new(alloc));
+    sink.write(first)?;
+    sink.write(second)?;
+    sink.writer().to_vec(alloc).map_err(|_| Failed)
+}
+
+#[test]
+fn a_sink_over_a_list_tells_its_bytes(rt: HostRuntime) {
+    let told = both_lines(rt.alloc(), b"digest 3c87\n", b"path 1\n");
+    assert!(rt; told.is_ok_and(|bytes| bytes.as_slice() == b"digest 3c87\npath 1\n".as_slice()));
 }
 
 /// A writer that takes one byte a call.

@@ -1,9 +1,9 @@
 -- A first part of a line behind whole lines is a first part of the text.
-use Rattle.std.proofs.Common.{◌≡◌, ℕ, ◌+◌, ◌<◌, List, ◌∷◌, ◌++◌, length, get_or, take, drop, min, Option, None, Some, sym, ap, ◌∙◌, append_assoc, subst, arith, suc}
+use Rattle.std.proofs.Common.{◌≡◌, ℕ, ◌+◌, ◌<◌, List, ◌∷◌, ◌++◌, length, get_or, take, drop, min, Option, sym, ap, ◌∙◌, subst, arith, suc}
 use Rattle.std.proofs.lemmas.List.{take-append-drop, take-append-le, take_min}
 use Rattle.std.proofs.Math.Seq.{drop-cons, take-append-add}
 use Rattle.std.proofs.lemmas.Grind.{flat_map-append}
-use Rattle.std.specs.Io.KnownBytes.{append_known}
+use Rattle.std.proofs.KnownBytes.{Appends-trans}
 use Rattle.tpol_base.specs.Causes.{Grows, GrowsInPart}
 use Rattle.tpol_steps.specs.Answer.{text_of}
 
@@ -20,17 +20,10 @@ take-split before line rest m =
     take-append-add before (line ++ rest) (min m (length line))
     ∙ ap (λ l. before ++ l) (take-append-le (min m (length line)) line rest (omega arith) ∙ take_min m line)
 
-Grows-then : (a b c : Option (List ℕ)) (x y : List ℕ) → Grows a b x → Grows b c y → Grows a c (x ++ y)
-Grows-then a b None x y first second = tt
-Grows-then a None (Some zs) x y first second = cc
-Grows-then None (Some ys) (Some zs) x y first second = cc
-Grows-then (Some xs) (Some ys) (Some zs) x y first second =
-    ap Some (sym (append_assoc xs x y)) ∙ ap (λ (known : Option (List ℕ)). append_known known y) first ∙ second
-
 -- the lines before place i are written, and a first part of the line there
 pub GrowsInPart-line : (a b c : Option (List ℕ)) (lines : List (List ℕ)) (i : ℕ) (line : List ℕ) → i < length lines → line ≡ get_or lines i line → Grows a b (text_of (take i lines)) → GrowsInPart b c line → GrowsInPart a c (text_of lines)
 GrowsInPart-line a b c lines i line within at whole part =
     let n : ℕ = length (text_of (take i lines)) + min part.0 (length line) in
     let front : text_of (take i lines) ++ take part.0 line ≡ take n (text_of lines) =
     sym (take-split (text_of (take i lines)) line (text_of (drop (suc i) lines)) part.0) ∙ ap (take n) (sym (text_of-split lines i line within at)) in
-    (n, subst (λ (text : List ℕ). Grows a c text) front (Grows-then a b c _ _ whole part.1))
+    (n, subst (λ (text : List ℕ). Grows a c text) front (Appends-trans a b c _ _ whole part.1))

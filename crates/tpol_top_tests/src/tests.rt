@@ -6,7 +6,7 @@
 //! and the test holds nothing.
 
 use std::alloc::Global;
-use tpol_base::{Failing, Lapse, MemoryShelf, MemorySink, MemorySource, NoMemory, Shelf};
+use tpol_base::{Failing, Lapse, MemoryShelf, MemorySource, NoMemory, Shelf, StdSink};
 use tpol_top::{Status, policy_main};
 
 const SECRET: &str =
@@ -20,6 +20,9 @@ const BEFORE_AN_OR: &str =
     r#"{"policy":[{"type":"POLICYCOMMANDCODE","code":"TPM2_CC_UNSEAL"},{"type":"POLICYOR","branches":[{"name":"a","policy":[{"type":"POLICYAUTHVALUE"}]},{"name":"b","policy":[{"type":"POLICYLOCALITY","locality":1}]}]}]}"#;
 
 const CURRENT_PCR: &str = r#"{"policy":[{"type":"POLICYPCR","currentPCRs":[23]}]}"#;
+
+// A sink over a list of bytes that fails where a run says so.
+type Printer = Failing<StdSink<Vec<u8>>>;
 
 // A command line with its input, the calls of the source, of the sink and of the shelf that fail, counted from 1,
 // and what the run answers and prints.
@@ -126,9 +129,9 @@ fn source(alloc: Global, input: &[u8], failing: &[u64]) -> Result<Failing<Memory
     Ok(Failing::new(MemorySource::new(input.to_vec(alloc)?), failing))
 }
 
-fn sink(alloc: Global, failing: &[u64]) -> Result<Failing<MemorySink>, NoMemory> {
+fn sink(alloc: Global, failing: &[u64]) -> Result<Printer, NoMemory> {
     let failing = calls(alloc, failing)?;
-    Ok(Failing::new(MemorySink::new(alloc), failing))
+    Ok(Failing::new(StdSink::new(Vec::new(alloc)), failing))
 }
 
 fn shelf(alloc: Global, failing: &[u64]) -> Result<Failing<MemoryShelf>, Lapse> {
@@ -141,7 +144,7 @@ fn answer_over(
     alloc: Global,
     words: &Vec<String>,
     source: &mut Failing<MemorySource>,
-    sink: &mut Failing<MemorySink>,
+    sink: &mut Printer,
     shelf: &mut Failing<MemoryShelf>,
 ) -> Status {
     policy_main(alloc, words, source, sink, shelf)
@@ -152,7 +155,7 @@ fn answer_from(
     alloc: Global,
     words: &Vec<String>,
     source: &mut Failing<MemorySource>,
-    sink: &mut Failing<MemorySink>,
+    sink: &mut Printer,
     failing: &[u64],
 ) -> Result<Status, Lapse> {
     let mut shelf = shelf(alloc, failing)?;
@@ -164,23 +167,20 @@ fn answer_to(
     alloc: Global,
     words: &Vec<String>,
     run: &Run,
-    sink: &mut Failing<MemorySink>,
+    sink: &mut Printer,
 ) -> Result<Status, Lapse> {
     let mut source = source(alloc, run.input.as_bytes(), run.source)?;
     answer_from(alloc, words, &mut source, sink, run.shelf)
 }
 
 // What a run answers that prints to this sink.
-fn answer(alloc: Global, run: &Run, sink: &mut Failing<MemorySink>) -> Result<Status, Lapse> {
+fn answer(alloc: Global, run: &Run, sink: &mut Printer) -> Result<Status, Lapse> {
     let words = words_of(alloc, run.words)?;
     answer_to(alloc, &words, run, sink)
 }
 
-fn has_printed(sink: &Failing<MemorySink>, text: &str) -> bool {
-    match sink.inner().written() {
-        Some(printed) => printed == text.as_bytes(),
-        None => false,
-    }
+fn has_printed(sink: &Printer, text: &str) -> bool {
+    sink.inner().writer().as_slice() == text.as_bytes()
 }
 
 // Whether a run answers and prints what the table says.
