@@ -1,5 +1,5 @@
 -- What is bound by facts with one more.
-use Rattle.std.proofs.Common.{◌≡◌, ℕ, Bool, ◌||◌, List, [], ◌∷◌, ◌++◌, fold, Option, None, Some, refl, ap, sym, ◌∙◌, nat_eq, nat_le, ◌&&◌, min, arith, bit_and, true, false}
+use Rattle.std.proofs.Common.{◌≡◌, ℕ, Bool, ◌||◌, List, [], ◌∷◌, ◌++◌, fold, Option, None, refl, ap, sym, ◌∙◌, nat_eq, nat_le, ◌&&◌, min, arith, bit_and, true, false}
 use Rattle.std.specs.Bool.{beq}
 use Rattle.std.specs.List.{list_all, list_any}
 use Rattle.std.proofs.lemmas.List.{map-append, append-nil}
@@ -7,13 +7,16 @@ use Rattle.std.proofs.lemmas.List.Concat.{flat_map-append}
 use Rattle.std.proofs.lemmas.List.Sums.{fold-append}
 use Rattle.std.proofs.lemmas.List.Folds.{list_any-append}
 use Rattle.std.proofs.lemmas.Bool.Decides.{nat_tests}
+use Rattle.tpol_base.specs.declared.digest.Digest32.{Digest32}
+use Rattle.tpol_tree.specs.declared.closed.Assertion.{Assertion}
 use Rattle.tpol_tree.specs.declared.path.Move.{Move}
+use Rattle.tpol_tree.specs.declared.path.Move.TheVariants.{Assert, Or, Approve, ApproveNv}
 use Rattle.tpol_tree.specs.declared.facts.Fact.{Fact}
 use Rattle.tpm_bindings.specs.declared.last_auth.LastAuth.{LastAuth}
 use Rattle.tpm_bindings.specs.declared.last_auth.LastAuth.TheVariants.{Neither}
 use Rattle.tpm_bindings.specs.Held.{each_of, listed, held}
-use Rattle.tpm_bindings.specs.Facts.{moves_of, codes_of, common_localities, localities_of, cp_hashes_of, limits_of, name_hashes_of, parent_hashes_of, written_of, deadlines_of, auths_of, asks_presence, last_auth, has_pcr, same_digest, in_assertion, code_in, locality_in, cp_hash_in, name_hash_in, parent_hash_in, written_in, auth_in, is_pcr, is_presence}
-use Rattle.tpm_bindings.specs.Merged.{merged, least}
+use Rattle.tpm_bindings.specs.Facts.{moves_of, codes_of, common_localities, localities_of, cp_hashes_of, limits_of, name_hashes_of, parent_hashes_of, written_of, deadlines_of, auths_of, asks_presence, last_auth, has_pcr, same_digest, in_assertion, is_before, code_in, locality_in, cp_hash_in, name_hash_in, parent_hash_in, written_in, auth_in, is_pcr, is_presence}
+use Rattle.tpm_bindings.specs.Merged.{fact_of, least, merged}
 
 pub each_of-push : {A B : Type 0} (f : A → Option B) (xs : List A) (x : A) → each_of f (xs ++ x ∷ []) ≡ each_of f xs ++ listed (f x)
 each_of-push f xs x = flat_map-append (λ y. listed (f y)) xs (x ∷ []) ∙ ap (λ ys. each_of f xs ++ ys) (append-nil (listed (f x)))
@@ -82,11 +85,49 @@ nat_le-least time first (next ∷ rest) =
     ∙ ap (λ b. b && list_all (nat_le time) rest) (nat_le-min time first next)
     ∙ and_assoc (nat_le time first) (nat_le time next) (list_all (nat_le time) rest)
 
--- whether a time is at most a deadline, if there is one
-abbrev pub within : ℕ → Option ℕ → Bool
-within time None = true
-within time (Some deadline) = nat_le time deadline
+-- the least deadline is that which comes first
+pub before-least : (time : ℕ) (deadlines : List ℕ) → is_before time (least deadlines) ≡ list_all (nat_le time) deadlines
+before-least time [] = refl
+before-least time (first ∷ rest) = nat_le-least time first rest
 
-pub within-least : (time : ℕ) (deadlines : List ℕ) → within time (least deadlines) ≡ list_all (nat_le time) deadlines
-within-least time [] = refl
-within-least time (first ∷ rest) = nat_le-least time first rest
+-- what a fact binds does not depend on its event
+pub merged-event : (facts : List Fact) (event other : ℕ) (act : Move) (cp_hash : Option Digest32) (deadline : Option ℕ)
+    → merged (facts ++ fact_of event act cp_hash deadline ∷ []) ≡ merged (facts ++ fact_of other act cp_hash deadline ∷ [])
+merged-event facts event other act cp_hash deadline =
+    merged-push facts (fact_of event act cp_hash deadline) ∙ sym (merged-push facts (fact_of other act cp_hash deadline))
+
+nothing_more : (facts : List Fact) → record {
+  codes = held nat_eq (codes_of (moves_of facts) ++ []);
+  localities = common_localities (moves_of facts);
+  cp_hash = held same_digest (cp_hashes_of (moves_of facts) ++ []);
+  limit = held same_digest (limits_of facts ++ []);
+  name_hash = held same_digest (name_hashes_of (moves_of facts) ++ []);
+  parent_hash = held same_digest (parent_hashes_of (moves_of facts) ++ []);
+  written = held beq (written_of (moves_of facts) ++ []);
+  deadline = least (deadlines_of facts ++ []);
+  presence = asks_presence facts || false;
+  auth = last_auth facts;
+  pcr = has_pcr facts || false;
+} ≡ merged facts
+nothing_more facts =
+    rw (
+      append-nil (codes_of (moves_of facts)),
+      append-nil (cp_hashes_of (moves_of facts)),
+      append-nil (limits_of facts),
+      append-nil (name_hashes_of (moves_of facts)),
+      append-nil (parent_hashes_of (moves_of facts)),
+      append-nil (written_of (moves_of facts)),
+      append-nil (deadlines_of facts),
+      or_false (asks_presence facts),
+      or_false (has_pcr facts),
+    )
+    refl
+
+-- a move that is no assertion binds nothing by itself
+pub merged-nothing : (facts : List Fact) (event : ℕ) (act : Move) → ((assertion : Assertion) → act ≡ Assert assertion → ⊥)
+    → merged (facts ++ fact_of event act None None ∷ []) ≡ merged facts
+merged-nothing facts event (Assert assertion) none = absurd (none assertion refl)
+merged-nothing facts event (Or digests) none = merged-push facts (fact_of event (Or digests) None None) ∙ nothing_more facts
+merged-nothing facts event (Approve key policy_ref approved signature) none =
+    merged-push facts (fact_of event (Approve key policy_ref approved signature) None None) ∙ nothing_more facts
+merged-nothing facts event (ApproveNv index approved) none = merged-push facts (fact_of event (ApproveNv index approved) None None) ∙ nothing_more facts

@@ -1,6 +1,6 @@
 -- What the facts of a policy session bind a later use to, each as one list or one word over the facts
 -- (TPM 2.0 Part 1, "Policy Session"; Part 3, the policy commands). No word looks at a fact's event.
-use Rattle.std.specs.Prelude.{ℕ, ◌&&◌, ◌||◌, Bool, true, false, List, ◌++◌, fold, map, bit_and, nat_eq, nat_le, Option, Some, None}
+use Rattle.std.specs.Prelude.{ℕ, ◌/◌, ◌%◌, ◌^◌, ◌==◌, ◌&&◌, ◌||◌, Bool, true, false, List, ◌++◌, fold, map, bit_and, nat_eq, nat_le, nat_lt, Option, Some, None}
 use Rattle.std.specs.List.{list_all, list_any}
 use Rattle.std.specs.Bool.{beq}
 use Rattle.std.specs.Str.{bytes_eq}
@@ -110,6 +110,10 @@ auths_of moves = each_of (in_assertion auth_in) moves
 abbrev pub common_localities : List Move → ℕ
 common_localities moves = fold bit_and 0xff (localities_of moves)
 
+-- whether a set of localities, bit n for locality n, has this one; the set of all eight excludes none
+abbrev pub has_locality : ℕ → ℕ → Bool
+has_locality localities locality = localities == 0xff || (nat_lt locality 8 && localities / 2 ^ locality % 2 == 1)
+
 -- the cpHashA of the facts that have one, and the deadlines
 abbrev pub limits_of : List Fact → List Digest32
 limits_of facts = each_of (λ fact. fact.cp_hash) facts
@@ -152,6 +156,15 @@ sets_written facts = any_of (written_of (moves_of facts))
 -- whether each state that is asked for is this one
 abbrev pub every_written : List Fact → Bool → Bool
 every_written facts written = all_are beq written (written_of (moves_of facts))
+
+-- whether every PolicyLocality allows the locality
+abbrev pub allows_locality : List Fact → ℕ → Bool
+allows_locality facts locality = has_locality (common_localities (moves_of facts)) locality
+
+-- whether the time is at most the deadline, if there is one
+abbrev pub is_before : ℕ → Option ℕ → Bool
+is_before time None = true
+is_before time (Some deadline) = nat_le time deadline
 
 -- whether the time is at most every deadline
 abbrev pub is_in_time : List Fact → ℕ → Bool

@@ -1,5 +1,4 @@
-ghost use Rattle.std.specs.Prelude.{◌≡◌, ℕ, List, [], ◌∷◌, ◌++◌, bit_and, fold, nat_le, ◌&&◌};
-ghost use Rattle.std.specs.List.{list_all};
+ghost use Rattle.std.specs.Prelude.{◌≡◌, ℕ, List, [], ◌∷◌, ◌++◌, bit_and, fold, ◌&&◌, None};
 ghost use Rattle.tpm_bindings.specs.Facts as spec;
 ghost use Rattle.tpm_bindings.specs.Facts.{same_digest};
 ghost use Rattle.tpm_bindings.specs.Merged.{merged, fact_of, least};
@@ -7,10 +6,13 @@ ghost use Rattle.tpm_bindings.specs.Held.{all_are, held, listed};
 ghost use Rattle.tpm_bindings.specs.Agreement.{disagreement};
 ghost use Rattle.tpol_base.specs.declared.digest.Digest32.{Digest32 as OneDigest};
 ghost use Rattle.tpol_tree.specs.declared.facts.Fact.{Fact as OneFact};
+ghost use Rattle.tpol_tree.specs.declared.path.Move.{Move as OneMove};
+ghost use Rattle.tpol_tree.specs.declared.path.Move.TheVariants.{Assert};
 
-use crate::{Disagreement, Held, LastAuth, act};
+use crate::deadline::is_before;
+use crate::{Disagreement, Held, LastAuth, assertion};
 use tpol_base::Digest32;
-use tpol_tree::Move;
+use tpol_tree::{Assertion, Move};
 
 /// What the facts of a session bind together. It is merged of one fact after another and takes no memory;
 /// the order of the facts counts for `last_auth` alone, and their events for nothing.
@@ -54,17 +56,36 @@ impl Bindings {
         ensures { (facts : List OneFact) (event : ℕ) → self.old ≡ merged facts
             → self.new ≡ merged (facts ++ fact_of event act.now cp_hash deadline ∷ []) }
     {
-        self.codes = self.codes.with(act::code(act));
-        self.localities = both(self.localities, act::localities(act));
-        self.cp_hash = self.cp_hash.with(act::cp_hash(act));
+        if let Move::Assert(assertion) = act {
+            self.bind(assertion);
+        }
+        self.limit(cp_hash, deadline);
+    }
+
+    /// Adds what an assertion alone binds, without a cpHashA and without a deadline.
+    pub fn bind(&mut self, assertion: &Assertion)
+        ensures binds { (facts : List OneFact) → self.old ≡ merged facts
+            → self.new ≡ merged (facts ++ fact_of 0 (Assert assertion.now) None None ∷ []) }
+    {
+        self.codes = self.codes.with(assertion::code(assertion));
+        self.localities = both(self.localities, assertion::localities(assertion));
+        self.cp_hash = self.cp_hash.with(assertion::cp_hash(assertion));
+        self.name_hash = self.name_hash.with(assertion::name_hash(assertion));
+        self.parent_hash = self.parent_hash.with(assertion::parent_hash(assertion));
+        self.written = self.written.with(assertion::written(assertion));
+        self.presence |= assertion::is_presence(assertion);
+        self.auth = later(self.auth, assertion::auth(assertion));
+        self.pcr |= assertion::is_pcr(assertion);
+    }
+
+    /// Adds the cpHashA and the deadline, in milliseconds, of the fact whose move was added last.
+    pub fn limit(&mut self, cp_hash: Option<Digest32>, deadline: Option<u64>)
+        ensures limits { (facts : List OneFact) (event : ℕ) (act : OneMove)
+            → self.old ≡ merged (facts ++ fact_of event act None None ∷ [])
+            → self.new ≡ merged (facts ++ fact_of event act cp_hash deadline ∷ []) }
+    {
         self.limit = self.limit.with(cp_hash);
-        self.name_hash = self.name_hash.with(act::name_hash(act));
-        self.parent_hash = self.parent_hash.with(act::parent_hash(act));
-        self.written = self.written.with(act::written(act));
         self.deadline = earlier(self.deadline, deadline);
-        self.presence |= act::is_presence(act);
-        self.auth = later(self.auth, act::auth(act));
-        self.pcr |= act::is_pcr(act);
     }
 
     /// Whether a command code is set, by PolicyCommandCode or PolicyDuplicationSelect.
@@ -87,6 +108,15 @@ impl Bindings {
             → result ≡ spec.common_localities (spec.moves_of facts) }
     {
         self.localities
+    }
+
+    /// Whether every PolicyLocality allows this locality: one of 0 to 7 that all sets have, and any at all where no
+    /// set leaves one of them out.
+    pub fn allows_locality(&self, locality: u8) -> bool
+        ensures allows { (facts : List OneFact) → self.now ≡ merged facts
+            → result ≡ spec.allows_locality facts locality }
+    {
+        self.localities == u8::MAX || locality < 8 && self.localities >> locality & 1 == 1
     }
 
     /// Whether a cpHash is set, by PolicyCpHash or by the cpHashA of PolicySecret or PolicySigned.
@@ -191,16 +221,6 @@ impl Bindings {
         let mut together = *self;
         together.merge(act, None, None);
         together.disagreement()
-    }
-}
-
-// Whether the time is at most the deadline, if there is one.
-fn is_before(time: u64, deadline: Option<u64>) -> bool
-    ensures { (deadlines : List ℕ) → deadline ≡ least deadlines → result ≡ list_all (nat_le time) deadlines }
-{
-    match deadline {
-        None => true,
-        Some(deadline) => time <= deadline,
     }
 }
 

@@ -6,8 +6,9 @@
 //! that its answer is the word's, whatever list of facts was merged.
 #![tactic(auto)]
 
-mod act;
+mod assertion;
 mod bindings;
+mod deadline;
 mod disagreement;
 mod held;
 mod last_auth;
@@ -15,6 +16,7 @@ mod last_auth;
 mod tests;
 
 pub use bindings::Bindings;
+pub use deadline::is_before;
 pub use disagreement::Disagreement;
 pub use held::Held;
 pub use last_auth::LastAuth;

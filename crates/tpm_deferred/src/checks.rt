@@ -5,7 +5,7 @@ ghost use Rattle.tpm_deferred.specs.Attempts.{broken_check, use_of};
 ghost use Rattle.tpm_rules.specs.Rule.{Breaks};
 
 use crate::Attempt;
-use tpm_rules::{Field, Standing, Use};
+use tpm_rules::{Field, Use};
 use tpm_session::Session;
 use tpol_base::Check;
 
@@ -22,14 +22,12 @@ pub fn check_use(session: &Session, attempt: &Attempt<'_>) -> Result<(), Check>
         attributes: attempt.attributes,
     };
     let right = field.proves(attempt.auth_value, session.bindings().last_auth());
-    let standing = Standing {
-        start: session.start(),
-        nonce: session.nonce(),
-        digest: session.digest(),
-        bindings: *session.bindings(),
-        counter: session.pcr_counter(),
-    };
-    tpm_rules::check_use(&standing, &use_of(attempt), attempt.auth_policy, right)
+    tpm_rules::check_use(
+        &session.standing(),
+        &use_of(attempt),
+        attempt.auth_policy,
+        right,
+    )
 }
 
 // What the session is used for.

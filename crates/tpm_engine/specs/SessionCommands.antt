@@ -12,7 +12,7 @@ use Rattle.tpol_wire.specs.declared.reply.Reply.TheVariants as replies
 use Rattle.tpm_bindings.specs.Facts.{same_digest}
 use Rattle.tpm_context.specs.Saved.{has_sequence, is_saved}
 use Rattle.tpm_rules.specs.Rule.{or_else, unless}
-use Rattle.tpm_session.specs.Kept.{session_digest}
+use Rattle.tpm_rules.specs.Session.{policy_digest_of}
 use Rattle.tpm_session.specs.Slots.{bits_of, content_at, first_free, handle_of_slot, is_live, state_at}
 use Rattle.tpm_world.specs.Hashes.{context_mac, nonce_of_event, proof_of}
 use Rattle.tpm_engine.specs.Tables.{TableState}
@@ -66,7 +66,7 @@ started_reply tables number =
 
 -- the reply to PolicyGetDigest: the session's policyDigest
 abbrev pub digest_reply : TableState → ℕ → Reply
-digest_reply tables session = replies.PolicyGetDigest (option_map_or session_digest (state_at tables.sessions session) zero_digest)
+digest_reply tables session = replies.PolicyGetDigest (option_map_or policy_digest_of (state_at tables.sessions session) zero_digest)
 
 -- the reply to one of them
 abbrev pub session_reply : TableState → ℕ → Command → Reply

@@ -7,7 +7,7 @@ ghost use Rattle.tpm_rules.specs.PolicyAuthorize.{policy_authorize_fact, policy_
 ghost use Rattle.tpm_rules.specs.Rule.{Obeys};
 
 use crate::judgments::is_approval_ticket;
-use crate::session::{add_unbound, standing};
+use crate::session::add_unbound;
 use tpm_rules::policy_authorize_rule;
 use tpm_session::Session;
 use tpol_base::{Blob, Digest32, Name, Rc};
@@ -33,7 +33,7 @@ pub fn assert_authorize(
         session.old (policy_authorize_fact event key policy_ref approved) 0 }
 {
     let right = is_approval_ticket(proof, &approved, policy_ref.as_slice(), &key, ticket);
-    policy_authorize_rule(&standing(session), &approved, right)?;
+    policy_authorize_rule(&session.standing(), &approved, right)?;
     let act = Move::Approve {
         key,
         policy_ref,

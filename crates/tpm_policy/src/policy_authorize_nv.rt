@@ -5,7 +5,7 @@ ghost use Rattle.tpm_policy.specs.Asserted.{asserted};
 ghost use Rattle.tpm_rules.specs.PolicyAuthorizeNv.{policy_authorize_nv_fact, policy_authorize_nv_rule};
 ghost use Rattle.tpm_rules.specs.Rule.{Obeys};
 
-use crate::session::{add_unbound, standing};
+use crate::session::add_unbound;
 use tpm_rules::policy_authorize_nv_rule;
 use tpm_session::Session;
 use tpol_base::Rc;
@@ -21,7 +21,7 @@ pub fn assert_authorize_nv(session: &mut Session, event: u32, entry: &IndexEntry
     ensures session { session.new ≡ asserted (policy_authorize_nv_rule session.old.state entry.now) session.old
         (policy_authorize_nv_fact event session.old.state entry.now) 0 }
 {
-    let standing = standing(session);
+    let standing = session.standing();
     policy_authorize_nv_rule(&standing, entry)?;
     let act = Move::ApproveNv {
         index: nv_name(&entry.public),

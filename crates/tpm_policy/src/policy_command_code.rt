@@ -5,7 +5,7 @@ ghost use Rattle.tpm_policy.specs.Asserted.{asserted};
 ghost use Rattle.tpm_rules.specs.PolicyCommandCode.{policy_command_code_fact, policy_command_code_rule};
 ghost use Rattle.tpm_rules.specs.Rule.{Obeys};
 
-use crate::session::{add, fact_of, standing};
+use crate::session::{add, fact_of};
 use tpm_rules::policy_command_code_rule;
 use tpm_session::Session;
 use tpol_base::Rc;
@@ -18,7 +18,7 @@ pub fn assert_command_code(session: &mut Session, event: u32, code: u32) -> Resu
     ensures rule { Obeys result (policy_command_code_rule session.old.state code) }
     ensures session { session.new ≡ asserted (policy_command_code_rule session.old.state code) session.old (policy_command_code_fact event code) 0 }
 {
-    policy_command_code_rule(&standing(session), code)?;
+    policy_command_code_rule(&session.standing(), code)?;
     add(session, fact_of(event, Assertion::CommandCode(code)), 0);
     Ok(())
 }

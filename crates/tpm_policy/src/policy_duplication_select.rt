@@ -5,7 +5,7 @@ ghost use Rattle.tpm_policy.specs.Asserted.{asserted};
 ghost use Rattle.tpm_rules.specs.PolicyDuplicationSelect.{policy_duplication_select_fact, policy_duplication_select_rule};
 ghost use Rattle.tpm_rules.specs.Rule.{Obeys};
 
-use crate::session::{add, fact_of, standing};
+use crate::session::{add, fact_of};
 use tpm_rules::policy_duplication_select_rule;
 use tpm_session::Session;
 use tpol_base::{Name, Rc};
@@ -25,7 +25,7 @@ pub fn assert_duplication(
     ensures rule { Obeys result (policy_duplication_select_rule session.old.state) }
     ensures session { session.new ≡ asserted (policy_duplication_select_rule session.old.state) session.old (policy_duplication_select_fact event object parent include) 0 }
 {
-    policy_duplication_select_rule(&standing(session))?;
+    policy_duplication_select_rule(&session.standing())?;
     add(
         session,
         fact_of(

@@ -5,7 +5,7 @@ ghost use Rattle.tpm_policy.specs.Asserted.{asserted};
 ghost use Rattle.tpm_rules.specs.PolicyLocality.{policy_locality_fact, policy_locality_rule};
 ghost use Rattle.tpm_rules.specs.Rule.{Obeys};
 
-use crate::session::{add, fact_of, standing};
+use crate::session::{add, fact_of};
 use tpm_rules::policy_locality_rule;
 use tpm_session::Session;
 use tpol_base::Rc;
@@ -18,7 +18,7 @@ pub fn assert_locality(session: &mut Session, event: u32, localities: u8) -> Res
     ensures rule { Obeys result (policy_locality_rule session.old.state localities) }
     ensures session { session.new ≡ asserted (policy_locality_rule session.old.state localities) session.old (policy_locality_fact event localities) 0 }
 {
-    policy_locality_rule(&standing(session), localities)?;
+    policy_locality_rule(&session.standing(), localities)?;
     add(session, fact_of(event, Assertion::Locality(localities)), 0);
     Ok(())
 }

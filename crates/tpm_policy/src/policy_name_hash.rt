@@ -5,7 +5,7 @@ ghost use Rattle.tpm_policy.specs.Asserted.{asserted};
 ghost use Rattle.tpm_rules.specs.PolicyNameHash.{policy_name_hash_fact, policy_name_hash_rule};
 ghost use Rattle.tpm_rules.specs.Rule.{Obeys};
 
-use crate::session::{add, fact_of, standing};
+use crate::session::{add, fact_of};
 use tpm_rules::policy_name_hash_rule;
 use tpm_session::Session;
 use tpol_base::{Digest32, Rc};
@@ -18,7 +18,7 @@ pub fn assert_name_hash(session: &mut Session, event: u32, digest: Digest32) -> 
     ensures rule { Obeys result (policy_name_hash_rule session.old.state digest) }
     ensures session { session.new ≡ asserted (policy_name_hash_rule session.old.state digest) session.old (policy_name_hash_fact event digest) 0 }
 {
-    policy_name_hash_rule(&standing(session), &digest)?;
+    policy_name_hash_rule(&session.standing(), &digest)?;
     add(session, fact_of(event, Assertion::NameHash(digest)), 0);
     Ok(())
 }

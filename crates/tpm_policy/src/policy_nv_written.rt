@@ -5,7 +5,7 @@ ghost use Rattle.tpm_policy.specs.Asserted.{asserted};
 ghost use Rattle.tpm_rules.specs.PolicyNvWritten.{policy_nv_written_fact, policy_nv_written_rule};
 ghost use Rattle.tpm_rules.specs.Rule.{Obeys};
 
-use crate::session::{add, fact_of, standing};
+use crate::session::{add, fact_of};
 use tpm_rules::policy_nv_written_rule;
 use tpm_session::Session;
 use tpol_base::Rc;
@@ -18,7 +18,7 @@ pub fn assert_nv_written(session: &mut Session, event: u32, written: bool) -> Re
     ensures rule { Obeys result (policy_nv_written_rule session.old.state written) }
     ensures session { session.new ≡ asserted (policy_nv_written_rule session.old.state written) session.old (policy_nv_written_fact event written) 0 }
 {
-    policy_nv_written_rule(&standing(session), written)?;
+    policy_nv_written_rule(&session.standing(), written)?;
     add(session, fact_of(event, Assertion::NvWritten(written)), 0);
     Ok(())
 }

@@ -5,7 +5,7 @@ ghost use Rattle.tpm_policy.specs.Asserted.{asserted};
 ghost use Rattle.tpm_rules.specs.PolicyOr.{policy_or_fact, policy_or_rule};
 ghost use Rattle.tpm_rules.specs.Rule.{Obeys};
 
-use crate::session::{add_unbound, standing};
+use crate::session::add_unbound;
 use tpm_rules::policy_or_rule;
 use tpm_session::Session;
 use tpol_base::{Digests, Rc};
@@ -18,7 +18,7 @@ pub fn assert_or(session: &mut Session, event: u32, digests: Digests) -> Result<
     ensures rule { Obeys result (policy_or_rule session.old.state digests) }
     ensures session { session.new ≡ asserted (policy_or_rule session.old.state digests) session.old (policy_or_fact event digests) 0 }
 {
-    policy_or_rule(&standing(session), digests.as_slice())?;
+    policy_or_rule(&session.standing(), digests.as_slice())?;
     let fact = Fact {
         event,
         act: Move::Or(digests),

@@ -6,7 +6,7 @@ ghost use Rattle.tpm_policy.specs.Asserted.{asserted};
 ghost use Rattle.tpm_rules.specs.PolicyPcr.{policy_pcr_fact, policy_pcr_rule};
 ghost use Rattle.tpm_rules.specs.Rule.{Obeys};
 
-use crate::session::{add_unbound, fact_of, standing};
+use crate::session::{add_unbound, fact_of};
 use std::alloc::Global;
 use tpm_pcr::Pcrs;
 use tpm_rules::policy_pcr_rule;
@@ -34,7 +34,7 @@ pub fn assert_pcr(
 {
     let counter = pcrs.counter();
     let pcr_digest = pcrs.digest_of_selection(mask);
-    policy_pcr_rule(&standing(session), counter, &pcr_digest, given)?;
+    policy_pcr_rule(&session.standing(), counter, &pcr_digest, given)?;
     let assertion = Assertion::Pcr {
         mask,
         pcr_digest,

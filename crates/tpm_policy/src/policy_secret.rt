@@ -5,7 +5,7 @@ ghost use Rattle.tpm_policy.specs.Asserted.{asserted};
 ghost use Rattle.tpm_rules.specs.PolicySecret.{policy_secret_fact, policy_secret_rule};
 ghost use Rattle.tpm_rules.specs.Rule.{Obeys};
 
-use crate::session::{add_unbound, standing};
+use crate::session::add_unbound;
 use tpm_rules::{deadline_of, policy_secret_rule};
 use tpm_session::Session;
 use tpol_base::{Blob, Digest32, Name, Rc};
@@ -30,7 +30,7 @@ pub fn assert_secret(
     ensures session { session.new ≡ asserted (policy_secret_rule session.old.state time nonce.now cp_hash expiration) session.old
         (policy_secret_fact event session.old.state.start entity nonce.now cp_hash policy_ref expiration) 0 }
 {
-    let standing = standing(session);
+    let standing = session.standing();
     policy_secret_rule(&standing, time, nonce, cp_hash, expiration)?;
     let assertion = Assertion::Secret {
         entity,

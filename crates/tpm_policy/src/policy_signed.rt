@@ -7,7 +7,7 @@ ghost use Rattle.tpm_rules.specs.PolicySigned.{policy_signed_fact, policy_signed
 ghost use Rattle.tpm_rules.specs.Rule.{Obeys};
 
 use crate::judgments::is_signature;
-use crate::session::{add_unbound, standing};
+use crate::session::add_unbound;
 use tpm_rules::{deadline_of, policy_signed_rule};
 use tpm_session::Session;
 use tpol_base::{Blob, Digest32, Name, Rc};
@@ -36,7 +36,7 @@ pub fn assert_signed(
         (is_signature secret.now nonce.now expiration cp_hash policy_ref signature.now)) session.old
         (policy_signed_fact event session.old.state.start key nonce.now cp_hash policy_ref expiration) 0 }
 {
-    let standing = standing(session);
+    let standing = session.standing();
     let right = is_signature(
         secret,
         nonce,

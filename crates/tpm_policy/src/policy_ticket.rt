@@ -7,7 +7,7 @@ ghost use Rattle.tpm_rules.specs.PolicyTicket.{assertion_of_ticket, policy_ticke
 ghost use Rattle.tpm_rules.specs.Rule.{Obeys};
 
 use crate::judgments::is_auth_ticket;
-use crate::session::{add_unbound, standing};
+use crate::session::add_unbound;
 use tpm_rules::policy_ticket_rule;
 use tpm_session::Session;
 use tpol_base::constants::TPM_ST_AUTH_SECRET;
@@ -50,7 +50,7 @@ pub fn assert_ticket(
         hierarchy,
         ticket,
     );
-    policy_ticket_rule(&standing(session), time, deadline, cp_hash, right)?;
+    policy_ticket_rule(&session.standing(), time, deadline, cp_hash, right)?;
     let fact = Fact {
         event,
         act: Move::Assert(assertion_of_ticket(tag, key, policy_ref, cp_hash)),

@@ -1,32 +1,16 @@
-//! What the policy commands have in common: the session as rules read it, and one more fact.
+//! What the policy commands have in common: one more fact.
 
-ghost use Rattle.std.specs.Prelude.{◌≡◌, ◌∷◌, ◌++◌, ◌<◌, ◌≤◌, ◌^◌, [], None, length};
+ghost use Rattle.std.specs.Prelude.{◌≡◌, ◌∷◌, ◌++◌, ◌<◌, [], None, length};
 ghost use Rattle.tpol_digest.specs.Sound.{Meets};
 ghost use Rattle.tpol_tree.specs.declared.path.Move.TheVariants.{Assert};
 ghost use Rattle.tpm_bindings.specs.Agreement.{Agree};
 ghost use Rattle.tpm_bindings.specs.Facts.{moves_of};
 ghost use Rattle.tpm_bindings.specs.Merged.{fact_of};
 ghost use Rattle.tpm_policy.specs.Asserted.{IsUnbound, with_one_more};
-ghost use Rattle.tpm_rules.specs.Standing.{standing_of};
-ghost use Rattle.tpm_session.specs.Kept.{session_digest};
+ghost use Rattle.tpm_rules.specs.Session.{policy_digest_of};
 
-use tpm_rules::Standing;
 use tpm_session::Session;
 use tpol_tree::{Assertion, Fact, Move};
-
-// The session as rules read it.
-pub fn standing(session: &Session) -> Standing
-    ensures value { result ≡ standing_of session.now.state }
-    ensures start { result.start ≤ 2 ^ 63 }
-{
-    Standing {
-        start: session.start(),
-        nonce: session.nonce(),
-        digest: session.digest(),
-        bindings: *session.bindings(),
-        counter: session.pcr_counter(),
-    }
-}
 
 // The fact of an assertion without a cpHashA and without a deadline.
 pub fn fact_of(event: u32, assertion: Assertion) -> Fact
@@ -43,7 +27,7 @@ pub fn fact_of(event: u32, assertion: Assertion) -> Fact
 // Adds a fact that meets the session's digest and agrees with the facts before.
 pub fn add(session: &mut Session, fact: Fact, counter: u32)
     requires room { length session.old.state.facts < 512 }
-    requires meets { Meets (session_digest session.old.state) fact.act }
+    requires meets { Meets (policy_digest_of session.old.state) fact.act }
     requires agrees { Agree (moves_of session.old.state.facts) → Agree (moves_of session.old.state.facts ++ fact.act ∷ []) }
     ensures { session.new ≡ with_one_more session.old fact counter }
 {
@@ -55,7 +39,7 @@ pub fn add(session: &mut Session, fact: Fact, counter: u32)
 // Adds a fact that sets nothing which another fact could contradict.
 pub fn add_unbound(session: &mut Session, fact: Fact, counter: u32)
     requires room { length session.old.state.facts < 512 }
-    requires meets { Meets (session_digest session.old.state) fact.act }
+    requires meets { Meets (policy_digest_of session.old.state) fact.act }
     requires unbound { IsUnbound fact.act }
     ensures { session.new ≡ with_one_more session.old fact counter }
 {

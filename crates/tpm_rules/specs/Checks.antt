@@ -10,26 +10,18 @@
 --   8  Hashes         a cpHash or a nameHash is not the command's              TPM_RC_POLICY_FAIL, session 1
 --   9  NvWritten      a state is asked for and the entity is no index with it  TPM_RC_POLICY_FAIL, session 1
 --  10  AuthValue      the authorization value is not proved as it has to be    TPM_RC_AUTH_FAIL, session 1
-use Rattle.std.specs.Prelude.{ℕ, ◌+◌, ◌/◌, ◌%◌, ◌^◌, ◌==◌, ◌&&◌, ◌||◌, Bool, not, nat_lt, List, Option, Some, None}
+use Rattle.std.specs.Prelude.{ℕ, ◌+◌, ◌&&◌, ◌||◌, Bool, not, List, Option, Some, None}
 use Rattle.std.specs.Str.{bytes_eq}
 use Rattle.tpol_base.specs.declared.check.Check.{Check}
 use Rattle.tpol_base.specs.declared.check.Check.TheVariants.{PcrChanged, PolicyFail, Expired, CommandCode, RoleNeedsCode, Locality, Presence, Hashes, NvWritten, AuthValue}
 use Rattle.tpol_base.specs.ResponseCode.{of_session, rc_auth_fail, rc_expired, rc_locality, rc_pcr_changed, rc_policy_cc, rc_policy_fail, rc_pp}
 use Rattle.tpol_tree.specs.declared.facts.Fact.{Fact}
 use Rattle.tpm_bindings.specs.declared.last_auth.LastAuth.{LastAuth}
-use Rattle.tpm_bindings.specs.Facts.{asks_presence, common_localities, every_code, every_cp_hash, every_name_hash, every_written, is_in_time, last_auth, moves_of, sets_code, sets_written}
+use Rattle.tpm_bindings.specs.Facts.{allows_locality, asks_presence, every_code, every_cp_hash, every_name_hash, every_written, is_in_time, last_auth, sets_code, sets_written}
 use Rattle.tpm_bindings.specs.State.{SessionState}
 use Rattle.tpm_rules.specs.declared.checks.Use.{Use}
 use Rattle.tpm_rules.specs.Rule.{or_else, unless}
 use Rattle.tpm_rules.specs.Session.{is_counter_now, policy_digest_of}
-
--- whether a set of localities, bit n for locality n, has this one; the set of all eight excludes none
-abbrev pub has_locality : ℕ → ℕ → Bool
-has_locality localities locality = localities == 0xff || (nat_lt locality 8 && localities / 2 ^ locality % 2 == 1)
-
--- whether the localities that all facts allow have this one
-abbrev pub allows_locality : List Fact → ℕ → Bool
-allows_locality facts locality = has_locality (common_localities (moves_of facts)) locality
 
 -- whether the entity's state is what every PolicyNvWritten asks for
 abbrev pub is_written_as_asked : List Fact → Option Bool → Bool

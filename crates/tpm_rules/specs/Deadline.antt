@@ -1,6 +1,6 @@
 -- The moment after which an authorization by PolicySecret or PolicySigned no longer holds (TPM 2.0 Part 3,
 -- the parameters nonceTPM and expiration), and the nonce that ties it to a session.
-use Rattle.std.specs.Prelude.{ℕ, ◌+◌, ◌*◌, ◌==◌, ℤ, unsigned_abs, Bool, true, List, [], ◌∷◌, nat_le, Option, Some, None, if◌then◌else◌}
+use Rattle.std.specs.Prelude.{ℕ, ◌+◌, ◌*◌, ◌==◌, ℤ, unsigned_abs, Bool, true, List, [], ◌∷◌, Option, Some, None, if◌then◌else◌}
 use Rattle.std.specs.Str.{bytes_eq}
 use Rattle.tpol_base.specs.declared.digest.Digest32.{Digest32}
 
@@ -17,11 +17,6 @@ counted_from start (byte ∷ nonce) = start
 abbrev pub deadline_of : ℕ → List ℕ → ℤ → Option ℕ
 deadline_of start nonce expiration =
     if unsigned_abs expiration == 0 then None else Some (counted_from start nonce + milliseconds expiration)
-
--- whether the time is at most the deadline, if there is one
-abbrev pub is_before : ℕ → Option ℕ → Bool
-is_before time None = true
-is_before time (Some deadline) = nat_le time deadline
 
 -- whether a nonce is the session's, or is left out
 abbrev pub is_nonce_or_none : Digest32 → List ℕ → Bool

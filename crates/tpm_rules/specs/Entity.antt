@@ -2,6 +2,8 @@
 -- and Acknowledgments"; Part 2, TPMA_OBJECT and TPMA_NV).
 use Rattle.std.specs.Prelude.{ℕ, ◌==◌, ◌||◌, Bool, true, false, not, List, [], Option, Some, None, cond}
 use Rattle.tpol_base.specs.Attributes.{has_attribute, nv_authread, nv_authwrite, nv_no_da, nv_policyread, nv_policywrite, object_no_da, object_user_with_auth}
+use Rattle.tpol_base.specs.CommandCode.{number_of_code}
+use Rattle.tpol_base.specs.declared.command_code.CommandCode.TheVariants.{Duplicate, NvIncrement, NvWrite}
 use Rattle.tpol_base.specs.Handle.{rh_lockout}
 use Rattle.tpol_name.specs.Areas.{is_written}
 use Rattle.tpol_name.specs.declared.entries.IndexEntry.{IndexEntry}
@@ -17,11 +19,11 @@ pub data Entity : Type 0 where
 
 -- the commands that write an index: NV_Write and NV_Increment
 abbrev pub is_nv_writing : ℕ → Bool
-is_nv_writing code = code == 0x137 || code == 0x134
+is_nv_writing code = code == number_of_code NvWrite || code == number_of_code NvIncrement
 
 -- the command that needs the role DUP: Duplicate
 abbrev pub is_duplicate : ℕ → Bool
-is_duplicate code = code == 0x14b
+is_duplicate code = code == number_of_code Duplicate
 
 abbrev pub auth_value_of : Entity → List ℕ
 auth_value_of (Hierarchy handle auth) = auth

@@ -11,7 +11,8 @@ use Rattle.tpol_tree.specs.declared.facts.Fact.{Fact}
 use Rattle.tpol_tree.specs.declared.path.Move.TheVariants.{Assert}
 use Rattle.tpm_bindings.specs.Merged.{fact_of}
 use Rattle.tpm_bindings.specs.State.{SessionState}
-use Rattle.tpm_rules.specs.Deadline.{deadline_of, is_before, is_nonce_or_none}
+use Rattle.tpm_bindings.specs.Facts.{is_before}
+use Rattle.tpm_rules.specs.Deadline.{deadline_of, is_nonce_or_none}
 use Rattle.tpm_rules.specs.Rule.{or_else, unless}
 use Rattle.tpm_rules.specs.Slot.{takes_optional_cp_hash}
 

@@ -93,23 +93,11 @@ fn check_surroundings(session: &Standing, occasion: &Use) -> Result<(), Check>
         → Breaks result (spec.broken_surroundings state occasion.now) }
 {
     let is_present = !session.bindings.asks_presence() || occasion.presence;
-    check(allows_locality(session, occasion.locality), Check::Locality)?;
+    check(
+        session.bindings.allows_locality(occasion.locality),
+        Check::Locality,
+    )?;
     check(is_present, Check::Presence)
-}
-
-// Whether the localities that all facts allow have this one.
-fn allows_locality(session: &Standing, locality: u8) -> bool
-    ensures { (state : SessionState) → session.now ≡ standing_of state
-        → result ≡ spec.allows_locality state.facts locality }
-{
-    has_locality(session.bindings.localities(), locality)
-}
-
-// Whether a set of localities, bit n for locality n, has this one; the set of all eight excludes none.
-fn has_locality(localities: u8, locality: u8) -> bool
-    ensures { result ≡ spec.has_locality localities locality }
-{
-    localities == u8::MAX || locality < 8 && localities >> locality & 1 == 1
 }
 
 // The hashes of parameters and of Names, and the state of the index.

@@ -20,16 +20,6 @@ pub fn deadline_of(start: u64, nonce: &[u8], expiration: i32) -> Option<u64>
     Some(from + 1000 * u64::from(seconds))
 }
 
-// Whether the time is at most the deadline, if there is one.
-pub fn is_before(time: u64, deadline: Option<u64>) -> bool
-    ensures { result ≡ spec.is_before time deadline }
-{
-    match deadline {
-        None => true,
-        Some(deadline) => time <= deadline,
-    }
-}
-
 // Whether a nonce is the session's, or is left out.
 pub fn is_nonce_or_none(session: &Digest32, nonce: &[u8]) -> bool
     ensures { result ≡ spec.is_nonce_or_none session.now nonce.now }

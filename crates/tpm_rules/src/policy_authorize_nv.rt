@@ -8,6 +8,7 @@ ghost use Rattle.tpm_rules.specs.Standing.{standing_of};
 
 use crate::Standing;
 use crate::rule::unless;
+use tpol_base::constants::TPM_ALG_SHA256;
 use tpol_base::response_code::{HASH, NV_UNINITIALIZED, VALUE};
 use tpol_base::{Digest32, Rc};
 use tpol_name::{IndexEntry, written};
@@ -28,7 +29,7 @@ pub fn policy_authorize_nv_rule(session: &Standing, entry: &IndexEntry) -> Resul
 fn begins_with_sha256(content: &[u8]) -> bool
     ensures { result ≡ spec.begins_with_sha256 content.now }
 {
-    content.starts_with(&[0x00, 0x0b])
+    content.starts_with(&TPM_ALG_SHA256.to_be_bytes())
 }
 
 // Whether a digest stands behind the first two bytes.

@@ -7,9 +7,10 @@ ghost use Rattle.tpm_rules.specs.Rule.{Obeys};
 ghost use Rattle.tpm_rules.specs.Standing.{standing_of};
 
 use crate::Standing;
-use crate::deadline::{deadline_of, is_before, is_nonce_or_none};
+use crate::deadline::{deadline_of, is_nonce_or_none};
 use crate::rule::unless;
 use crate::slot::takes_optional_cp_hash;
+use tpm_bindings::is_before;
 use tpol_base::response_code::{CPHASH, EXPIRED, NONCE, of_parameter};
 use tpol_base::{Digest32, Rc};
 

@@ -3,13 +3,13 @@ use Rattle.std.specs.Prelude.{◌≡◌, ℕ, ◌≤◌, ◌^◌, ◌++◌, List
 use Rattle.tpol_base.specs.declared.digest.Digest32.{Digest32}
 use Rattle.tpol_tree.specs.declared.facts.Fact.{Fact}
 use Rattle.tpol_tree.specs.declared.path.Move.{Move}
-use Rattle.tpol_digest.specs.Digest.{digest_of_moves}
 use Rattle.tpol_digest.specs.Sound.{IsSound}
 use Rattle.tpm_bindings.specs.Agreement.{Agree}
 use Rattle.tpm_bindings.specs.Facts.{moves_of, has_pcr, is_pcr}
 use Rattle.tpm_bindings.specs.Merged.{merged}
 use Rattle.tpm_bindings.specs.State.{SessionState}
 use Rattle.tpm_bindings.specs.declared.bindings.Bindings.{Bindings}
+use Rattle.tpm_rules.specs.Session.{policy_digest_of}
 
 -- a session as contracts see it: its handle, and what rules read
 pub record SessionView : Type 0 where
@@ -24,10 +24,6 @@ state_of_view session = session.state
 abbrev pub state_of : ℕ → Digest32 → List Fact → Option ℕ → SessionState
 state_of start nonce facts counter = record { start = start; nonce = nonce; facts = facts; counter = counter }
 
--- the policy digest of a session: that of its facts' moves
-abbrev pub session_digest : SessionState → Digest32
-session_digest state = digest_of_moves (moves_of state.facts)
-
 -- what holds of every session: each OR and approval among its facts met the digest before it, its facts
 -- agree, the counter is there exactly where a PolicyPCR is, and it started at a time up to 2 ^ 63, so that every
 -- deadline stays below 2 ^ 64
@@ -40,7 +36,7 @@ pub record IsSession (state : SessionState) : Type 0 where
 -- the same with what a session keeps beside its state: the running digest and the merged bindings
 pub record IsKept (state : SessionState) (digest : Digest32) (bindings : Bindings) : Type 0 where
   pub holds : IsSession state
-  pub digests : digest ≡ session_digest state
+  pub digests : digest ≡ policy_digest_of state
   pub binds : bindings ≡ merged state.facts
 
 -- the counter, where the first PolicyPCR comes by this act

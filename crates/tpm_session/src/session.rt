@@ -3,11 +3,14 @@ ghost use Rattle.tpol_digest.specs.Sound.{IsSound, Meets};
 ghost use Rattle.tpm_bindings.specs.Agreement.{Agree};
 ghost use Rattle.tpm_bindings.specs.Facts.{has_pcr, moves_of};
 ghost use Rattle.tpm_bindings.specs.Merged.{merged};
+ghost use Rattle.tpm_rules.specs.Session.{policy_digest_of};
+ghost use Rattle.tpm_rules.specs.Standing.{standing_of};
 ghost use Rattle.tpm_session.specs.Kept as spec;
 
 use std::alloc::Global;
 use std::marker::Model;
 use tpm_bindings::Bindings;
+use tpm_rules::Standing;
 use tpol_base::{Digest32, NoMemory};
 use tpol_digest::digest_after_move;
 use tpol_tree::{Assertion, Fact, Facts, Move};
@@ -85,7 +88,7 @@ impl Session {
 
     /// Its policyDigest: that of its facts.
     pub fn digest(&self) -> Digest32
-        ensures { result ≡ spec.session_digest self.now.state }
+        ensures { result ≡ policy_digest_of self.now.state }
     {
         self.digest
     }
@@ -107,6 +110,20 @@ impl Session {
         &self.bindings
     }
 
+    /// The session as rules read it.
+    pub fn standing(&self) -> Standing
+        ensures value { result ≡ standing_of self.now.state }
+        ensures start { result.start ≤ 2 ^ 63 }
+    {
+        Standing {
+            start: self.start,
+            nonce: self.nonce,
+            digest: self.digest,
+            bindings: self.bindings,
+            counter: self.counter,
+        }
+    }
+
     /// How many facts it has room for: 512 less those that it has.
     pub fn room(&self) -> u32
         ensures { result + length self.now.state.facts ≡ 512 }
@@ -126,7 +143,7 @@ impl Session {
     /// session's digest and to agree with the facts before.
     pub fn add(&mut self, fact: Fact, counter: u32)
         requires room { length self.old.state.facts < 512 }
-        requires meets { Meets (spec.session_digest self.old.state) fact.act }
+        requires meets { Meets (policy_digest_of self.old.state) fact.act }
         requires agrees { Agree (moves_of self.old.state.facts ++ fact.act ∷ []) }
         ensures handle { self.new.handle ≡ self.old.handle }
         ensures state { self.new.state ≡ spec.with_fact self.old.state fact counter }

@@ -1,4 +1,4 @@
-ghost use Rattle.std.specs.Prelude.{◌≡◌, ℕ, [], ◌+◌, ◌-◌, ◌<◌, ◌≤◌, ◌^◌, IfOk, IfSome, OnErr, MatchResult, None, Some, replicate, true, false};
+ghost use Rattle.std.specs.Prelude.{◌≡◌, ℕ, [], ◌+◌, ◌-◌, ◌<◌, ◌≤◌, ◌^◌, IfOk, IfSome, IsNone, OnErr, MatchResult, None, Some, replicate, true, false};
 ghost use Rattle.std.specs.Option.{option_copied, option_map};
 ghost use Rattle.tpm_session.specs.Kept as kept;
 ghost use Rattle.tpm_session.specs.Slots as spec;
@@ -91,11 +91,12 @@ impl Sessions {
     }
 
     /// Hands the live session with this handle out, so that it is no longer live; `None` exactly where the
-    /// handle is not live.
+    /// handle is not live, and then nothing changes.
     pub fn take_out(&mut self, handle: u32) -> Option<Session>
         ensures session { result ≡ spec.session_at self.old handle }
         ensures slot { IfSome result (λ session. spec.IsSlotHandle session.handle) }
         ensures slots { self.new ≡ spec.with_state self.old handle None }
+        ensures refused { IsNone result → self.new ≡ self.old }
     {
         self.table.replace(handle, None)
     }
@@ -109,10 +110,12 @@ impl Sessions {
         self.table.replace(session.handle(), Some(session));
     }
 
-    /// Drops the facts of a live session; its start and nonce stay. Answers whether the handle is live.
+    /// Drops the facts of a live session; its start and nonce stay. Answers whether the handle is live; where it
+    /// is not, nothing changes.
     pub fn restart(&mut self, handle: u32) -> bool
         ensures live { result ≡ spec.is_live self.old handle }
         ensures slots { self.new ≡ spec.changed_at self.old handle kept.without_facts }
+        ensures refused { result ≡ false → self.new ≡ self.old }
     {
         match self.take_out(handle) {
             Some(session) => {
@@ -123,10 +126,11 @@ impl Sessions {
         }
     }
 
-    /// Ends a live session. Answers whether the handle was live.
+    /// Ends a live session. Answers whether the handle was live; where it was not, nothing changes.
     pub fn flush(&mut self, handle: u32) -> bool
         ensures live { result ≡ spec.is_live self.old handle }
         ensures slots { self.new ≡ spec.with_state self.old handle None }
+        ensures refused { result ≡ false → self.new ≡ self.old }
     {
         self.take_out(handle).is_some()
     }

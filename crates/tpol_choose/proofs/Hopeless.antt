@@ -17,11 +17,10 @@ use Rattle.tpol_name.specs.declared.sight.Sight.{Sight}
 use Rattle.tpol_tree.specs.declared.facts.Fact.{Fact}
 use Rattle.tpol_tree.specs.declared.path.Move.{Move}
 use Rattle.tpol_tree.specs.declared.path.Path.{Path}
-use Rattle.tpm_bindings.specs.Facts.{asks_presence, code_in, common_localities, deadlines_of, codes_of, every_code, in_assertion, is_in_time, is_presence, localities_of, locality_in, moves_of}
+use Rattle.tpm_bindings.specs.Facts.{allows_locality, asks_presence, code_in, common_localities, deadlines_of, codes_of, every_code, has_locality, in_assertion, is_in_time, is_presence, localities_of, locality_in, moves_of}
 use Rattle.tpm_bindings.specs.Held.{listed}
 use Rattle.tpm_bindings.specs.State.{SessionState}
 use Rattle.tpm_bindings.proofs.Merging.{any_move-push, each_move-push, each_of-push}
-use Rattle.tpm_rules.specs.Checks.{allows_locality, has_locality}
 use Rattle.tpm_rules.specs.Rule.{or_else, unless}
 use Rattle.tpol_choose.specs.declared.block.Block.{Block}
 use Rattle.tpol_choose.specs.declared.block.Why.{Why}

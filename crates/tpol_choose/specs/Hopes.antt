@@ -3,8 +3,7 @@ use Rattle.std.specs.Prelude.{Bool, not, ◌&&◌, ◌||◌, List}
 use Rattle.tpol_base.specs.CommandCode.{number_of_code}
 use Rattle.tpol_goal.specs.Goals.{code_of_goal}
 use Rattle.tpol_tree.specs.declared.facts.Fact.{Fact}
-use Rattle.tpm_bindings.specs.Facts.{asks_presence, every_code, is_in_time}
-use Rattle.tpm_rules.specs.Checks.{allows_locality}
+use Rattle.tpm_bindings.specs.Facts.{allows_locality, asks_presence, every_code, is_in_time}
 use Rattle.tpol_choose.specs.Clients.{Client}
 use Rattle.tpol_choose.specs.Tracks.{TrackState, is_lost}
 

@@ -2,7 +2,6 @@
 
 ghost use Rattle.std.specs.Prelude.{◌≡◌, List};
 ghost use Rattle.tpm_bindings.specs.Merged.{merged};
-ghost use Rattle.tpm_rules.specs.Checks as checks;
 ghost use Rattle.tpol_choose.specs.Hopes as spec;
 ghost use Rattle.tpol_choose.specs.Lent.{client_of_lent};
 ghost use Rattle.tpol_tree.specs.declared.facts.Fact.{Fact as OneFact};
@@ -20,13 +19,6 @@ pub fn meets(client: &Client<'_>, bindings: &Bindings) -> bool
     let code = client.goal.code().number();
     bindings.is_in_time(sight.time)
         && bindings.every_code(code)
-        && has_locality(bindings.localities(), client.locality)
+        && bindings.allows_locality(client.locality)
         && (!bindings.asks_presence() || sight.presence)
-}
-
-// Whether a set of localities, bit n for locality n, has this one; the set of all eight excludes none.
-fn has_locality(localities: u8, locality: u8) -> bool
-    ensures { result ≡ checks.has_locality localities locality }
-{
-    localities == u8::MAX || locality < 8 && localities >> locality & 1 == 1
 }

@@ -7,12 +7,12 @@ use Rattle.tpol_base.specs.declared.check.Check.TheVariants.{PcrChanged, PolicyF
 use Rattle.tpol_tree.specs.declared.facts.Fact.{Fact}
 use Rattle.tpm_bindings.specs.declared.last_auth.LastAuth.{LastAuth}
 use Rattle.tpm_bindings.specs.declared.last_auth.LastAuth.TheVariants.{Neither}
-use Rattle.tpm_bindings.specs.Facts.{every_cp_hash, every_name_hash, is_in_time, last_auth, moves_of, same_digest, written_of}
+use Rattle.tpm_bindings.specs.Facts.{every_cp_hash, every_name_hash, has_locality, is_in_time, last_auth, moves_of, same_digest, written_of}
 use Rattle.tpm_bindings.specs.Held.{all_are, any_of}
 use Rattle.tpm_bindings.specs.State.{SessionState}
 use Rattle.tpm_engine.proofs.Stopping.{or_else-none, unless-none}
 use Rattle.tpm_rules.specs.declared.checks.Use.{Use}
-use Rattle.tpm_rules.specs.Checks.{broken_before_auth, broken_command, broken_digest, broken_hashes, broken_surroundings, first_broken_check, has_locality, is_written_as_asked}
+use Rattle.tpm_rules.specs.Checks.{broken_before_auth, broken_command, broken_digest, broken_hashes, broken_surroundings, first_broken_check, is_written_as_asked}
 use Rattle.tpm_rules.specs.Rule.{or_else, unless}
 use Rattle.tpm_rules.specs.Session.{is_counter_now, policy_digest_of}
 use Rattle.tpol_laws.proofs.Alike.{Reads, same-reads}

@@ -7,7 +7,7 @@ ghost use Rattle.tpm_bindings.specs.Merged.{fact_of};
 ghost use Rattle.tpm_policy.specs.Asserted.{asserted};
 ghost use Rattle.tpm_rules.specs.Rule.{Obeys};
 ghost use Rattle.tpm_engine.specs.PolicyCommands as spec;
-ghost use Rattle.tpm_session.specs.Kept.{session_digest};
+ghost use Rattle.tpm_rules.specs.Session.{policy_digest_of};
 ghost use Rattle.tpm_world.specs.Entities.{name_at};
 
 use super::missing_index;
@@ -30,7 +30,7 @@ pub fn show(
     requires index { is_index index ≡ true }
     ensures rule { Obeys result (spec.authorize_nv_rule world.now session.old.state authority index) }
     ensures session { session.new ≡ asserted (spec.authorize_nv_rule world.now session.old.state authority index) session.old
-        (fact_of number (ApproveNv (name_at world.now index) (session_digest session.old.state)) None None) 0 }
+        (fact_of number (ApproveNv (name_at world.now index) (policy_digest_of session.old.state)) None None) 0 }
 {
     match world.index(index) {
         Some(entry) => {

@@ -16,6 +16,6 @@ returns c =
       checks =
           subst (λ (occasion : Use). Breaks c.check_use.result (first_broken_check state occasion attempt.auth_policy.now judge)) c.use_of.ensures
           (c.check_use.ensures.checks state judge
-          (rw (c.start.ensures.value, c.nonce-2.ensures, c.digest.ensures, c.bindings-2.ensures.value, c.pcr_counter.ensures.value) refl)
+          c.standing.ensures.value
           (c.proves-right.ensures.proves ∙ rw (c.nonce.ensures, c.last_auth.ensures state.facts c.bindings.ensures.value) refl));
     }

@@ -1,35 +1,18 @@
-use Rattle.std.proofs.Common.{ap, refl}
-use Rattle.tpm_bindings.specs.Facts.{moves_of, codes_of, cp_hashes_of, limits_of, name_hashes_of, parent_hashes_of, written_of, deadlines_of}
-use Rattle.tpm_bindings.specs.Merged.{fact_of}
+use Rattle.std.proofs.Common.{◌∙◌, ◌++◌, ◌∷◌, [], ap, sym, None}
+use Rattle.tpm_bindings.specs.Merged.{fact_of, merged}
+use Rattle.tpm_bindings.proofs.Merging.{merged-event, merged-nothing}
 use Rattle.tpm_bindings.proofs.bindings.Bindings.merge.Goals as goal
-use Rattle.tpm_bindings.proofs.Merging.{merged-push}
+use Rattle.tpm_bindings.proofs.bindings.Bindings.merge.Goals.{in-Assert, in_default}
 
 pub returns : goal.returns
 returns c facts event h =
-    let fact = fact_of event c.args.act.now c.args.cp_hash c.args.deadline in
-    rw (
-      merged-push facts fact,
-      c.with-self.ensures (codes_of (moves_of facts)) (ap (λ b. b.codes) h),
-      c.code.ensures,
-      c.both-self.ensures,
-      c.localities.ensures,
-      ap (λ b. b.localities) h,
-      c.with-self-2.ensures (cp_hashes_of (moves_of facts)) (ap (λ b. b.cp_hash) h),
-      c.cp_hash.ensures,
-      c.with-self-3.ensures (limits_of facts) (ap (λ b. b.limit) h),
-      c.with-self-4.ensures (name_hashes_of (moves_of facts)) (ap (λ b. b.name_hash) h),
-      c.name_hash.ensures,
-      c.with-self-5.ensures (parent_hashes_of (moves_of facts)) (ap (λ b. b.parent_hash) h),
-      c.parent_hash.ensures,
-      c.with-self-6.ensures (written_of (moves_of facts)) (ap (λ b. b.written) h),
-      c.written.ensures,
-      c.earlier-self.ensures (deadlines_of facts) (ap (λ b. b.deadline) h),
-      ap (λ b. b.presence) h,
-      c.is_presence.ensures,
-      c.later-self.ensures,
-      c.auth.ensures,
-      ap (λ b. b.auth) h,
-      ap (λ b. b.pcr) h,
-      c.is_pcr.ensures,
-    )
-    refl
+    let act = c.args.act.now in
+    elim c.match-act.branch [
+      | in-Assert w ↦
+          c.limit.ensures.limits facts event act
+          (w.self-is
+          ∙ (w.bind.ensures.binds facts h
+          ∙ (ap (λ a. merged (facts ++ fact_of 0 a None None ∷ [])) (sym w.in-Assert.is) ∙ merged-event facts 0 event act None None)))
+      | in_default w ↦
+          c.limit.ensures.limits facts event act (w.self-is ∙ (h ∙ sym (merged-nothing facts event act w.in_default.not-Assert)))
+    ]

@@ -2,7 +2,8 @@ use Rattle.std.proofs.Common.{subst, sym, ◌++◌, ◌∷◌, []}
 use Rattle.tpol_digest.specs.Sound.{Meets}
 use Rattle.tpm_bindings.specs.Agreement.{Agree}
 use Rattle.tpm_bindings.specs.Facts.{moves_of}
-use Rattle.tpm_session.specs.Kept.{session_digest, state_of}
+use Rattle.tpm_rules.specs.Session.{policy_digest_of}
+use Rattle.tpm_session.specs.Kept.{state_of}
 use Rattle.tpm_session.proofs.Keeping.{kept-push}
 use Rattle.tpm_session.proofs.session.Session.add.Goals as goal
 
@@ -17,5 +18,5 @@ invariant_of-self c =
       c.merge.ensures s.facts fact.event c.self.invariant.binds,
     )
     (kept-push (state_of s.start s.nonce s.facts s.counter) s.digest s.bindings fact c.args.counter c.self.invariant
-    (subst (λ v. Meets (session_digest v.state) fact.act) (sym c.self.view_is) c.requires.meets)
+    (subst (λ v. Meets (policy_digest_of v.state) fact.act) (sym c.self.view_is) c.requires.meets)
     (subst (λ v. Agree (moves_of v.state.facts ++ fact.act ∷ [])) (sym c.self.view_is) c.requires.agrees))
