@@ -1,0 +1,24 @@
+# Completion of bash for fapipol; its words are those that `fapipol --words` lists.
+# shellcheck shell=bash
+
+_fapipol() {
+    local word=${COMP_WORDS[COMP_CWORD]} all=''
+    case $COMP_CWORD:${COMP_WORDS[COMP_CWORD - 1]} in
+        1:*) all=$("$1" --words 2>/dev/null | sed 's/ .*//' | uniq) ;;
+        2:compile | 2:paths) all=--scene ;;
+        2:import) all=$(_fapipol_names json) ;;
+        3:--scene) all=$(_fapipol_names scene) ;;
+    esac
+    mapfile -t COMPREPLY < <(compgen -W "$all" -- "$word")
+}
+
+# The names of the documents of the folder with this ending.
+_fapipol_names() {
+    local file
+    for file in policies/*."$1"; do
+        file=${file#policies/}
+        [ ! -f "policies/$file" ] || echo "${file%."$1"}"
+    done
+}
+
+complete -F _fapipol fapipol ./fapipol
