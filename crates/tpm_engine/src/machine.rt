@@ -133,6 +133,7 @@ impl Machine {
         ensures setup { self.new.setup ≡ self.old.setup }
         ensures event { self.new.events ≡ events.Time ms ∷ self.old.events }
         ensures number { result ≡ length self.old.events + 1 }
+        ensures spare { self.new.spare + 1 ≡ self.old.spare }
     {
         let number = self.journal.next_number();
         self.tables.advance(ms);
@@ -147,6 +148,7 @@ impl Machine {
         ensures setup { self.new.setup ≡ self.old.setup }
         ensures event { self.new.events ≡ events.Presence on ∷ self.old.events }
         ensures number { result ≡ length self.old.events + 1 }
+        ensures spare { self.new.spare + 1 ≡ self.old.spare }
     {
         let number = self.journal.next_number();
         self.tables.set_presence(on);
@@ -162,6 +164,7 @@ impl Machine {
         ensures setup { self.new.setup ≡ self.old.setup }
         ensures event { self.new.events ≡ events.Reset ∷ self.old.events }
         ensures number { result ≡ length self.old.events + 1 }
+        ensures spare { self.new.spare + 1 ≡ self.old.spare }
     {
         let number = self.journal.next_number();
         self.tables.reset();
