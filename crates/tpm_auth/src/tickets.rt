@@ -1,9 +1,7 @@
 //! Tickets: what the machine has verified or authorized once, in a form that it knows again. A ticket is an
 //! HMAC whose key is the machine's proof, which no command gives out.
 
-ghost use Rattle.std.specs.Prelude.{◌≡◌, ℕ, List, ◌++◌};
-ghost use Rattle.tpol_base.specs.Sized.{sized};
-ghost use Rattle.tpol_hash.specs.Messages.{HoldsUnder};
+ghost use Rattle.std.specs.Prelude.{◌≡◌};
 ghost use Rattle.tpm_auth.specs.Tickets.{auth_ticket, is_verified_ticket, verified_ticket};
 
 use tpol_base::constants::TPM_ST_VERIFIED;
@@ -48,17 +46,8 @@ pub fn auth_ticket(
     mac.put(&tag.to_be_bytes());
     mac.put(&deadline.to_be_bytes());
     mac.put(&reset_count.to_be_bytes());
-    put_sized(&mut mac, cp_hash);
-    put_sized(&mut mac, policy_ref);
-    put_sized(&mut mac, key.bytes().as_slice());
+    mac.put_sized(cp_hash);
+    mac.put_sized(policy_ref);
+    mac.put_sized(key.bytes().as_slice());
     mac.done()
-}
-
-// Adds a sized buffer (TPM2B): the last two bytes of the length, and the bytes.
-fn put_sized(mac: &mut Mac, bytes: &[u8])
-    ensures longer { (key m : List ℕ) → HoldsUnder mac.old key m → HoldsUnder mac.new key (m ++ sized bytes.now) }
-{
-    let length = bytes.len().to_be_bytes();
-    mac.put(&length[6..]);
-    mac.put(bytes);
 }

@@ -11,6 +11,7 @@ use Rattle.tpol_base.specs.declared.digest.Digest32.{Digest32}
 use Rattle.tpol_base.specs.declared.name.Name.{Name}
 use Rattle.tpol_base.specs.CommandCode.{number_of_code}
 use Rattle.tpol_base.specs.Constants.{st_auth_secret, st_auth_signed}
+use Rattle.tpol_base.specs.Digest.{optional_bytes}
 use Rattle.tpol_base.specs.Handle.{is_policy_session, rh_owner}
 use Rattle.tpol_base.specs.ResponseCode.{of_parameter, rc_cphash, rc_expired, rc_session_memory, rc_ticket, reference_of_handle}
 use Rattle.tpol_digest.specs.Update.{Update, update_of}
@@ -25,7 +26,7 @@ use Rattle.tpol_wire.specs.Reading.{reading}
 use Rattle.tpol_wire.specs.ReplyReading.{reply_reading}
 use Rattle.tpm_auth.specs.Tickets.{auth_ticket}
 use Rattle.tpm_bindings.specs.State.{SessionState}
-use Rattle.tpm_policy.specs.Judgments.{cp_hash_bytes, is_auth_ticket}
+use Rattle.tpm_policy.specs.Judgments.{is_auth_ticket}
 use Rattle.tpm_rules.specs.declared.outcome.Outcome.TheVariants.{Accepted}
 use Rattle.tpm_rules.specs.PolicyTicket.{assertion_of_ticket}
 use Rattle.tpm_rules.specs.Rule.{or_else, unless}
@@ -56,7 +57,7 @@ use Rattle.tpm_engine.proofs.SavedOnce.{slot-kind}
 record Gives (world : WorldState) (given : Ticketed) : Type 0 where
   kind : (nat_eq given.ticket.tag st_auth_secret || nat_eq given.ticket.tag st_auth_signed) ≡ true
   hierarchy : given.ticket.hierarchy ≡ rh_owner
-  digest : given.ticket.digest ≡ (auth_ticket (proof_of world.seed) given.ticket.tag given.deadline world.reset_count (cp_hash_bytes given.cp_hash) given.policy_ref given.name).bytes
+  digest : given.ticket.digest ≡ (auth_ticket (proof_of world.seed) given.ticket.tag given.deadline world.reset_count (optional_bytes given.cp_hash) given.policy_ref given.name).bytes
 
 gives-by : (world : WorldState) (tag : ℕ) (name : Name) (cp_hash : Option Digest32) (policy_ref : List ℕ) (timeout : Option ℕ) (given : Ticketed)
     → (nat_eq tag st_auth_secret || nat_eq tag st_auth_signed) ≡ true → option_map (ticketed world tag name cp_hash policy_ref) timeout ≡ Some given → Gives world given
@@ -155,13 +156,13 @@ below a b h = grind (arith, nat_tests)
 ticket-right : (world before : WorldState) (given : Ticketed) → Gives before given → world.seed ≡ before.seed → world.reset_count ≡ before.reset_count
     → is_auth_ticket (proof_of world.seed) world.reset_count given.deadline given.cp_hash given.policy_ref given.name given.ticket.tag given.ticket.hierarchy given.ticket.digest ≡ true
 ticket-right world before given gives seed count =
-    let digest : given.ticket.digest ≡ (auth_ticket (proof_of world.seed) given.ticket.tag given.deadline world.reset_count (cp_hash_bytes given.cp_hash) given.policy_ref given.name).bytes =
+    let digest : given.ticket.digest ≡ (auth_ticket (proof_of world.seed) given.ticket.tag given.deadline world.reset_count (optional_bytes given.cp_hash) given.policy_ref given.name).bytes =
     gives.digest
-    ∙ (ap (λ s. (auth_ticket (proof_of s) given.ticket.tag given.deadline before.reset_count (cp_hash_bytes given.cp_hash) given.policy_ref given.name).bytes) (sym seed)
-    ∙ ap (λ n. (auth_ticket (proof_of world.seed) given.ticket.tag given.deadline n (cp_hash_bytes given.cp_hash) given.policy_ref given.name).bytes) (sym count)) in
+    ∙ (ap (λ s. (auth_ticket (proof_of s) given.ticket.tag given.deadline before.reset_count (optional_bytes given.cp_hash) given.policy_ref given.name).bytes) (sym seed)
+    ∙ ap (λ n. (auth_ticket (proof_of world.seed) given.ticket.tag given.deadline n (optional_bytes given.cp_hash) given.policy_ref given.name).bytes) (sym count)) in
     all (nat_eq given.ticket.tag st_auth_secret || nat_eq given.ticket.tag st_auth_signed) (nat_eq given.ticket.hierarchy rh_owner)
-    (bytes_eq given.ticket.digest (auth_ticket (proof_of world.seed) given.ticket.tag given.deadline world.reset_count (cp_hash_bytes given.cp_hash) given.policy_ref given.name).bytes)
-    gives.kind (ap (λ h. nat_eq h rh_owner) gives.hierarchy) ((bytes_eq-Decides given.ticket.digest (auth_ticket (proof_of world.seed) given.ticket.tag given.deadline world.reset_count (cp_hash_bytes given.cp_hash) given.policy_ref given.name).bytes).1 digest)
+    (bytes_eq given.ticket.digest (auth_ticket (proof_of world.seed) given.ticket.tag given.deadline world.reset_count (optional_bytes given.cp_hash) given.policy_ref given.name).bytes)
+    gives.kind (ap (λ h. nat_eq h rh_owner) gives.hierarchy) ((bytes_eq-Decides given.ticket.digest (auth_ticket (proof_of world.seed) given.ticket.tag given.deadline world.reset_count (optional_bytes given.cp_hash) given.policy_ref given.name).bytes).1 digest)
   where
     all : (a b c : Bool) → a ≡ true → b ≡ true → c ≡ true → (a && b && c) ≡ true
     all a b c ha hb hc = rw (ha, hb, hc) refl

@@ -8,6 +8,7 @@ use Rattle.tpol_base.specs.declared.digest.Digest32.{Digest32}
 use Rattle.tpol_base.specs.declared.name.Name.{Name}
 use Rattle.tpol_base.specs.CommandCode.{number_of_code}
 use Rattle.tpol_base.specs.Constants.{st_auth_secret, st_auth_signed, st_verified}
+use Rattle.tpol_base.specs.Digest.{optional_bytes}
 use Rattle.tpol_base.specs.Handle.{rh_null, rh_owner}
 use Rattle.tpol_base.specs.ResponseCode.{rc_reference_h0}
 use Rattle.tpol_wire.specs.declared.command.Command.{Command}
@@ -18,7 +19,7 @@ use Rattle.tpol_fields.specs.declared.ticket.Ticket.{Ticket}
 use Rattle.tpm_auth.specs.Tickets.{auth_ticket}
 use Rattle.tpm_bindings.specs.State.{SessionState}
 use Rattle.tpm_pcr.specs.Pcrs.{selection_digest}
-use Rattle.tpm_policy.specs.Judgments.{cp_hash_bytes, is_approval_ticket, is_auth_ticket, is_signature}
+use Rattle.tpm_policy.specs.Judgments.{is_approval_ticket, is_auth_ticket, is_signature}
 use Rattle.tpm_rules.specs.Deadline.{deadline_of}
 use Rattle.tpm_rules.specs.NvAuthority.{nv_authority_rule}
 use Rattle.tpm_rules.specs.Objects.{signing_key_rule}
@@ -126,7 +127,7 @@ timeout_of start nonce expiration = if int_lt expiration (pos 0) then deadline_o
 -- the digest of the ticket that goes with it
 abbrev pub ticket_digest : WorldState → ℕ → Name → Option Digest32 → List ℕ → ℕ → Digest32
 ticket_digest world tag name cp_hash policy_ref deadline =
-    auth_ticket (proof_of world.seed) tag deadline world.reset_count (cp_hash_bytes cp_hash) policy_ref name
+    auth_ticket (proof_of world.seed) tag deadline world.reset_count (optional_bytes cp_hash) policy_ref name
 
 -- that ticket, and the null ticket where there is no deadline
 abbrev pub ticket_of : WorldState → ℕ → Name → Option Digest32 → List ℕ → Option ℕ → Ticket

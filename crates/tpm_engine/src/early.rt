@@ -9,11 +9,11 @@ ghost use Rattle.tpm_engine.specs.Stops as spec;
 use crate::{Stop, Tables};
 use tpm_rules::{Denial, Outcome};
 use tpm_world::{area_of, handles_of, policy_session_of};
-use tpol_base::Rc;
 use tpol_base::handle::TPM_RS_PW;
 use tpol_base::response_code::{
     REFERENCE_S0, SESSION_MEMORY, VALUE, of_handle, reference_of_handle,
 };
+use tpol_base::{HandleKind, Rc};
 use tpol_wire::Command;
 
 // A refusal with this code.
@@ -67,7 +67,7 @@ impl Tables {
         requires position { 1 ≤ n }
         ensures { result ≡ spec.handle_stop self.now n handle }
     {
-        let rule = if handle >> 24 == 0x03 {
+        let rule = if HandleKind::of(handle) == Some(HandleKind::PolicySession) {
             self.live_handle_rule(n, handle)
         } else {
             self.world.handle_rule(n, handle)

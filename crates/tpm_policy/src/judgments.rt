@@ -20,7 +20,12 @@ pub fn is_signature(
 ) -> bool
     ensures { result ≡ spec.is_signature secret.now nonce.now expiration cp_hash policy_ref.now signature.now }
 {
-    let hash = signed_hash(nonce, expiration, cp_hash_bytes(&cp_hash), policy_ref);
+    let hash = signed_hash(
+        nonce,
+        expiration,
+        Digest32::optional_bytes(&cp_hash),
+        policy_ref,
+    );
     *signature == sign(secret, &hash)
 }
 
@@ -51,19 +56,9 @@ pub fn is_auth_ticket(
 ) -> bool
     ensures { result ≡ spec.is_auth_ticket proof.now reset_count deadline cp_hash policy_ref.now key.now tag hierarchy ticket.now }
 {
-    let limit = cp_hash_bytes(&cp_hash);
+    let limit = Digest32::optional_bytes(&cp_hash);
     let expected = auth_ticket(proof, tag, deadline, reset_count, limit, policy_ref, key);
     (tag == TPM_ST_AUTH_SECRET || tag == TPM_ST_AUTH_SIGNED)
         && hierarchy == TPM_RH_OWNER
         && ticket == expected.bytes.as_slice()
-}
-
-// The bytes of a cpHashA, none where it is left out.
-fn cp_hash_bytes(cp_hash: &Option<Digest32>) -> &[u8]
-    ensures { result.now ≡ spec.cp_hash_bytes cp_hash.now }
-{
-    match cp_hash {
-        Some(digest) => digest.bytes.as_slice(),
-        None => &[],
-    }
 }

@@ -7,9 +7,9 @@ use Rattle.std.proofs.lemmas.List.Elements.{filter-append}
 use Rattle.std.proofs.lemmas.List.FromFn.{map-range_with_len_more}
 use Rattle.std.proofs.lemmas.List.Sums.{fold_push}
 use Rattle.tpol_base.specs.declared.digest.Digest32.{Digest32}
-use Rattle.tpol_base.specs.Pcr.{is_in_mask}
+use Rattle.tpol_base.specs.Pcr.{is_in_mask, mask_of_pcrs}
 use Rattle.tpm_pcr.specs.Pcrs.{value_of}
-use Rattle.tpm_world.specs.PcrRead.{mask_of, read_pcrs, selected_pcrs}
+use Rattle.tpm_world.specs.PcrRead.{read_pcrs, selected_pcrs}
 
 -- the first eight of the selected PCRs below this one
 abbrev pub first_read : ℕ → ℕ → List ℕ
@@ -51,26 +51,26 @@ read_full mask n full =
     ap (take 8) (selected_more mask n)
     ∙ take_full 8 (filter (is_in_mask mask) (range_with_len 0 n)) (cond (is_in_mask mask n) (n ∷ []) []) full
 
-pub mask_of-push : (pcrs : List ℕ) (pcr : ℕ) → mask_of (pcrs ++ pcr ∷ []) ≡ bit_or (mask_of pcrs) (2 ^ pcr)
-mask_of-push pcrs pcr = fold_push (λ mask pcr. bit_or mask (2 ^ pcr)) 0 pcrs pcr
+pub mask_of_pcrs-push : (pcrs : List ℕ) (pcr : ℕ) → mask_of_pcrs (pcrs ++ pcr ∷ []) ≡ bit_or (mask_of_pcrs pcrs) (2 ^ pcr)
+mask_of_pcrs-push pcrs pcr = fold_push (λ mask pcr. bit_or mask (2 ^ pcr)) 0 pcrs pcr
 
 -- one turn of the reading: what is read below a PCR, with the PCR
 pub read_with : (values : List Digest32) (mask n : ℕ) (digests digests' : List Digest32) (read read' : ℕ)
-    → digests ≡ map (value_of values) (first_read mask n) → read ≡ mask_of (first_read mask n) → length digests < 8 → is_in_mask mask n ≡ true
+    → digests ≡ map (value_of values) (first_read mask n) → read ≡ mask_of_pcrs (first_read mask n) → length digests < 8 → is_in_mask mask n ≡ true
     → digests' ≡ digests ++ value_of values n ∷ [] → read' ≡ bit_or read (2 ^ n)
-    → (digests' ≡ map (value_of values) (first_read mask (n + 1))) × (read' ≡ mask_of (first_read mask (n + 1)))
+    → (digests' ≡ map (value_of values) (first_read mask (n + 1))) × (read' ≡ mask_of_pcrs (first_read mask (n + 1)))
 read_with values mask n digests digests' read read' are is room selected longer more =
     let size : length digests ≡ length (first_read mask n) = ap length are ∙ length-map (first_read mask n) (value_of values) in
     let next = read_one mask n (subst (λ count. count < 8) size room) selected in (
       longer ∙ ap (λ list. list ++ value_of values n ∷ []) are ∙ sym (map-append (value_of values) (first_read mask n) (n ∷ [])) ∙ ap (map (value_of values)) (sym next),
-      more ∙ ap (λ mask. bit_or mask (2 ^ n)) is ∙ sym (mask_of-push (first_read mask n) n) ∙ ap mask_of (sym next),
+      more ∙ ap (λ mask. bit_or mask (2 ^ n)) is ∙ sym (mask_of_pcrs-push (first_read mask n) n) ∙ ap mask_of_pcrs (sym next),
     )
 
 -- and without it
 pub read_without : (values : List Digest32) (mask n : ℕ) (digests : List Digest32) (read : ℕ)
-    → digests ≡ map (value_of values) (first_read mask n) → read ≡ mask_of (first_read mask n) → first_read mask (n + 1) ≡ first_read mask n
-    → (digests ≡ map (value_of values) (first_read mask (n + 1))) × (read ≡ mask_of (first_read mask (n + 1)))
-read_without values mask n digests read are is same = (are ∙ ap (map (value_of values)) (sym same), is ∙ ap mask_of (sym same))
+    → digests ≡ map (value_of values) (first_read mask n) → read ≡ mask_of_pcrs (first_read mask n) → first_read mask (n + 1) ≡ first_read mask n
+    → (digests ≡ map (value_of values) (first_read mask (n + 1))) × (read ≡ mask_of_pcrs (first_read mask (n + 1)))
+read_without values mask n digests read are is same = (are ∙ ap (map (value_of values)) (sym same), is ∙ ap mask_of_pcrs (sym same))
 
 -- a PCR past the eighth that is selected
 pub read_past : (values : List Digest32) (mask n : ℕ) (digests : List Digest32) → digests ≡ map (value_of values) (first_read mask n) → 8 ≤ length digests → first_read mask (n + 1) ≡ first_read mask n

@@ -12,7 +12,8 @@ use Rattle.tpol_wire.specs.Commands.{spell_values}
 use Rattle.tpol_fields.specs.Kinds.{spell}
 use Rattle.tpm_world.specs.Duplicate.{sensitive_of}
 use Rattle.tpm_world.specs.Hashes.{context_mac, cp_hash, joined_names, name_hash, nonce_of_event, proof_of, rp_hash}
-use Rattle.tpm_world.specs.PcrRead.{mask_of, read_pcrs, selected_pcrs}
+use Rattle.tpol_base.specs.Pcr.{mask_of_pcrs}
+use Rattle.tpm_world.specs.PcrRead.{read_pcrs, selected_pcrs}
 use Rattle.tpm_world.specs.Surroundings.{counted_on}
 use Rattle.tpm_world.specs.World.{WorldState}
 
@@ -105,7 +106,7 @@ no_pcr_past_the_last : read_pcrs 0xff000000 ≡ []
 unfolding read_pcrs selected_pcrs
 no_pcr_past_the_last = refl
 
-their_set : mask_of (0 ∷ 2 ∷ 23 ∷ []) ≡ 0x800005
+their_set : mask_of_pcrs (0 ∷ 2 ∷ 23 ∷ []) ≡ 0x800005
 their_set = refl
 
 the_last_count_stays : counted_on 0xffffffff ≡ 0xffffffff

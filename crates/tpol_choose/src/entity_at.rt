@@ -5,12 +5,11 @@ ghost use Rattle.std.specs.Option.{option_copied};
 ghost use Rattle.tpm_rules.specs.EntityView.{entity_of};
 ghost use Rattle.tpol_choose.specs.Entities as spec;
 ghost use Rattle.tpol_choose.specs.Lent.{entity_of_lent};
-ghost use Rattle.tpol_goal.specs.Entities.{hierarchy_of_name};
 
 use tpm_rules::Entity;
 use tpol_base::Name;
 use tpol_base::handle::{TPM_RH_ENDORSEMENT, TPM_RH_LOCKOUT, TPM_RH_OWNER};
-use tpol_goal::{index_in_sight, object_in_sight};
+use tpol_goal::{hierarchy_of_name, index_in_sight, object_in_sight};
 use tpol_name::{IndexEntry, ObjectEntry, Sight, nv_name, nv_name_once_written, object_name};
 
 // An entity that may be authorized, with its handle.
@@ -91,18 +90,6 @@ pub fn entity_of_name<'a>(sight: &'a Sight, name: &Name) -> Option<EntityAt<'a>>
     match index_in_sight(sight, name) {
         Some(index) => Some(EntityAt::of_index(index)),
         None => None,
-    }
-}
-
-fn hierarchy_of_name(name: &Name) -> Option<u32>
-    ensures { result ≡ hierarchy_of_name name.now }
-{
-    match name {
-        Name::Handle(handle) => match *handle {
-            TPM_RH_OWNER | TPM_RH_ENDORSEMENT | TPM_RH_LOCKOUT => Some(*handle),
-            _ => None,
-        },
-        Name::Empty | Name::Hash(_) => None,
     }
 }
 

@@ -1,7 +1,6 @@
 // The hashes that a machine makes of the goal's command.
 
 ghost use Rattle.std.specs.Prelude.{◌≡◌, ℕ, List, ◌++◌};
-ghost use Rattle.tpol_base.specs.Sized.{sized};
 ghost use Rattle.tpol_choose.specs.Goals as spec;
 ghost use Rattle.tpol_hash.specs.Messages.{Holds};
 
@@ -50,7 +49,7 @@ fn put_parameters(goal: &Goal, hasher: &mut Hasher)
     match goal {
         Goal::Unseal { .. } | Goal::NvIncrement { .. } => {}
         Goal::Hmac { buffer, .. } => {
-            put_sized(hasher, buffer.as_slice());
+            hasher.put_sized(buffer.as_slice());
             hasher.put(&TPM_ALG_SHA256.to_be_bytes());
         }
         Goal::NvRead { size, offset, .. } => {
@@ -58,7 +57,7 @@ fn put_parameters(goal: &Goal, hasher: &mut Hasher)
             hasher.put(&offset.to_be_bytes());
         }
         Goal::NvWrite { offset, bytes, .. } => {
-            put_sized(hasher, bytes.as_slice());
+            hasher.put_sized(bytes.as_slice());
             hasher.put(&offset.to_be_bytes());
         }
         Goal::Duplicate { .. } => {
@@ -66,13 +65,4 @@ fn put_parameters(goal: &Goal, hasher: &mut Hasher)
             hasher.put(&TPM_ALG_NULL.to_be_bytes());
         }
     }
-}
-
-// Adds a sized buffer (TPM2B): the last two bytes of the length, and the bytes.
-fn put_sized(hasher: &mut Hasher, bytes: &[u8])
-    ensures longer { (m : List ℕ) → Holds hasher.old m → Holds hasher.new (m ++ sized bytes.now) }
-{
-    let length = bytes.len().to_be_bytes();
-    hasher.put(&length[6..]);
-    hasher.put(bytes);
 }

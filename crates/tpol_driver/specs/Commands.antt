@@ -5,6 +5,7 @@ use Rattle.tpm_auth.specs.Signatures.{signature_of, signed_hash}
 use Rattle.tpol_base.specs.declared.compare.Compare.{Compare}
 use Rattle.tpol_base.specs.declared.digest.Digest32.{Digest32}
 use Rattle.tpol_base.specs.declared.name.Name.{Name}
+use Rattle.tpol_base.specs.Digest.{optional_bytes}
 use Rattle.tpol_base.specs.Handle.{rh_null, rs_pw}
 use Rattle.tpol_driver.specs.declared.session.Session.{Session}
 use Rattle.tpol_goal.specs.declared.grants.Grants.{Grants}
@@ -58,11 +59,6 @@ password_area grants entity =
 -- the key that is granted for an object, empty where none is
 abbrev pub key_of : Grants → ℕ → List ℕ
 key_of grants handle = unwrap_or (granted grants.keys handle) []
-
--- no cpHashA is no bytes
-abbrev pub optional_bytes : Option Digest32 → List ℕ
-optional_bytes None = []
-optional_bytes (Some digest) = digest.bytes
 
 -- ---- one command of a kind of move
 

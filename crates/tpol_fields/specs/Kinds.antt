@@ -9,6 +9,7 @@ use Rattle.tpol_base.specs.declared.name.Name.{Name}
 use Rattle.tpol_base.specs.declared.name.Name.TheVariants as names
 use Rattle.tpol_base.specs.Compare.{number_of_compare, compare_of_number}
 use Rattle.tpol_base.specs.Digest.{digest_of_bytes}
+pub use Rattle.tpol_base.specs.Digest.{optional_bytes}
 use Rattle.tpol_base.specs.Flag.{yes_no}
 use Rattle.tpol_base.specs.Handle.{rh_null, rh_owner}
 use Rattle.tpol_base.specs.Name.{name_bytes, name_of_bytes}
@@ -68,10 +69,6 @@ ValueOf (Behind w n code kind) = ValueOf kind
 ValueOf (Together first second) = ValueOf first × ValueOf second
 
 -- ---- spellings
-
-abbrev pub optional_bytes : Option Digest32 → List ℕ
-optional_bytes None = []
-optional_bytes (Some digest) = digest.bytes
 
 -- the bytes of a deadline, where there is one
 abbrev pub timeout_bytes : Option ℕ → List ℕ

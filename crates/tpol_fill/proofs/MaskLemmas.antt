@@ -8,10 +8,10 @@ use Rattle.std.specs.List.{AllByRecursion, range_with_len}
 use Rattle.std.specs.Prelude.{Option, Result, Err, bit_or, filter, fold}
 use Rattle.tpol_base.specs.declared.digest.Digest32.{Digest32}
 use Rattle.tpol_base.specs.Handle.{is_pcr}
-use Rattle.tpol_base.specs.Pcr.{is_in_mask, pcrs_of_mask}
+use Rattle.tpol_base.specs.Pcr.{is_in_mask, mask_of_pcrs, pcrs_of_mask}
 use Rattle.tpol_fill.proofs.WellFormedLemmas.{no_first, no_second}
 use Rattle.tpol_fill.specs.declared.fault.FillKind.{FillKind}
-use Rattle.tpol_fill.specs.Filling.{current_faults, mask_of_pcrs, value_faults}
+use Rattle.tpol_fill.specs.Filling.{current_faults, value_faults}
 use Rattle.tpol_fill.specs.Outcome.{Fault, each_fault, faults_of}
 use Rattle.tpol_json.specs.declared.place.Place.{Place}
 use Rattle.tpol_json.specs.Places.{at_item}

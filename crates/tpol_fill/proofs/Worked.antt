@@ -7,8 +7,8 @@ use Rattle.tpol_digest.specs.Digest.{zero_digest}
 use Rattle.tpol_fill.specs.declared.fault.FillKind.TheVariants.{NoSuchPath, NoSuchPcr, NotKeyedHash, VoidPrefix}
 use Rattle.tpol_fill.specs.Entities.{entity_name}
 use Rattle.tpol_tree.specs.Erased.{nowhere}
-use Rattle.tpol_base.specs.Pcr.{pcrs_of_mask}
-use Rattle.tpol_fill.specs.Filling.{fill_faults, mask_of_pcrs}
+use Rattle.tpol_base.specs.Pcr.{mask_of_pcrs, pcrs_of_mask}
+use Rattle.tpol_fill.specs.Filling.{fill_faults}
 use Rattle.tpol_fill.specs.Groups.{NamedBranch, grouped, or_of}
 use Rattle.tpol_json.specs.declared.place.Place.{Place}
 use Rattle.tpol_json.specs.declared.place.PlaceStep.{PlaceStep}

@@ -1,12 +1,12 @@
 -- What a policy is with every wish given, and each place that has no value.
-use Rattle.std.specs.Prelude.{◌≡◌, ⊤, ℕ, ◌+◌, ◌^◌, Bool, true, false, List, [], ◌∷◌, ◌++◌, Option, Some, None, Result, Ok, Err, codes, map, slice_get, fold, bit_or, if◌then◌else◌}
+use Rattle.std.specs.Prelude.{◌≡◌, ⊤, ℕ, ◌+◌, Bool, true, false, List, [], ◌∷◌, ◌++◌, Option, Some, None, Result, Ok, Err, codes, map, slice_get, if◌then◌else◌}
 use Rattle.std.specs.List.{flat_map}
 use Rattle.std.specs.Result.{result_unwrap_or}
 use Rattle.tpol_base.specs.declared.digest.Digest32.{Digest32}
 use Rattle.tpol_base.specs.declared.name.Name.{Name}
 use Rattle.tpol_base.specs.Handle.{is_pcr}
 use Rattle.tpol_base.specs.Name.{name_bytes}
-use Rattle.tpol_base.specs.Pcr.{pcrs_of_mask}
+use Rattle.tpol_base.specs.Pcr.{mask_of_pcrs, pcrs_of_mask}
 use Rattle.tpol_digest.specs.Digest.{zero_digest}
 use Rattle.tpol_digest.specs.Update.{joined}
 use Rattle.tpol_fill.specs.declared.fault.FillKind.{FillKind}
@@ -46,10 +46,6 @@ use Rattle.tpol_fill.specs.declared.fault.FillFault.{FillFault}
 use Rattle.tpol_fill.specs.Outcome.{Fault, Fills, each_fault, faults_of, first_of}
 
 -- ---- PCRs
-
--- the set of these PCRs
-abbrev pub mask_of_pcrs : List ℕ → ℕ
-mask_of_pcrs pcrs = fold (λ mask pcr. bit_or mask (2 ^ pcr)) 0 pcrs
 
 -- the values of the PCRs that are there
 abbrev pub pcr_values_of : Option Sight → List Digest32

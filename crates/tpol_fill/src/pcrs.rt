@@ -2,9 +2,9 @@
 
 ghost use Rattle.std.specs.Prelude.{◌≡◌, map};
 ghost use Rattle.std.specs.Option.{option_copied};
-ghost use Rattle.tpol_base.specs.Pcr.{pcrs_of_mask};
+ghost use Rattle.tpol_base.specs.Pcr.{mask_of_pcrs, pcrs_of_mask};
 ghost use Rattle.tpol_digest.specs.Update.{joined};
-ghost use Rattle.tpol_fill.specs.Filling.{current_faults, current_value, filled_pcrs, mask_of_pcrs, pcr_assertion, pcr_faults, value_faults, or_zero};
+ghost use Rattle.tpol_fill.specs.Filling.{current_faults, current_value, filled_pcrs, pcr_assertion, pcr_faults, value_faults, or_zero};
 ghost use Rattle.tpol_fill.specs.Outcome.{Fills, each_fault};
 ghost use Rattle.tpol_hash.specs.Sha256.{sha256_digest};
 ghost use Rattle.tpol_tree.specs.declared.wishes.PcrWish.TheVariants.{Current};

@@ -1,5 +1,5 @@
 -- Goals: the command that a client wants, its handles and their Names.
-use Rattle.std.specs.Prelude.{◌≡◌, ◌≤◌, ◌⊎◌, ⊤, ℕ, List, [], ◌∷◌, Option, Some, None, length, map}
+use Rattle.std.specs.Prelude.{◌≡◌, ◌^◌, ◌<◌, ◌≤◌, ◌⊎◌, ⊤, ℕ, List, [], ◌∷◌, Option, Some, None, length, map}
 use Rattle.std.specs.List.{Contains}
 use Rattle.tpol_base.specs.declared.command_code.CommandCode.{CommandCode}
 use Rattle.tpol_base.specs.declared.command_code.CommandCode.TheVariants as codes
@@ -57,6 +57,15 @@ IsGoal (NvRead index size offset) = size ≤ 1024
 IsGoal (NvWrite index offset bytes) = length bytes ≤ 1024
 IsGoal (NvIncrement index) = ⊤
 IsGoal (Duplicate object parent) = ⊤
+
+-- a goal whose offset has two bytes, as in its command
+abbrev pub HasShortOffset : Goal → Type 0
+HasShortOffset (Unseal object) = ⊤
+HasShortOffset (Hmac key buffer) = ⊤
+HasShortOffset (NvRead index size offset) = offset < 2 ^ 16
+HasShortOffset (NvWrite index offset bytes) = offset < 2 ^ 16
+HasShortOffset (NvIncrement index) = ⊤
+HasShortOffset (Duplicate object parent) = ⊤
 
 -- the goal's entity is one of these objects or of these indices, and so is a parent that is not the null
 -- hierarchy

@@ -120,7 +120,9 @@ fn find_index<'a>(sight: &'a Sight, name: &Name) -> Option<&'a IndexEntry>
         .find(|index| nv_name_once_written(&index.public) == *name)
 }
 
-fn hierarchy_of_name(name: &Name) -> Option<u32>
+/// The handle of the hierarchy that a Name stands for: the owner's, the endorsement's or the lockout's, whose
+/// Name its handle is.
+pub fn hierarchy_of_name(name: &Name) -> Option<u32>
     ensures { result ≡ hierarchy_of_name name.now }
 {
     match name {

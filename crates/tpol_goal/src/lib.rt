@@ -9,8 +9,8 @@ mod goal;
 mod grants;
 
 pub use entities::{
-    entity_in_sight, entity_of_name, index_in_sight, index_of_name, name_of_handle,
-    object_in_sight, object_of_name,
+    entity_in_sight, entity_of_name, hierarchy_of_name, index_in_sight, index_of_name,
+    name_of_handle, object_in_sight, object_of_name,
 };
 pub use goal::Goal;
 pub use grants::{Grants, Secrets};

@@ -27,7 +27,8 @@ use Rattle.tpol_tree.specs.declared.path.Move.{Move}
 use Rattle.tpol_tree.specs.declared.path.Move.TheVariants.{Assert, Or, Approve, ApproveNv}
 use Rattle.tpol_laws.specs.Acts.{Run, Turn, after_act, after_acts, begun, succeeds}
 use Rattle.tpol_laws.specs.Chances.{IsByChance}
-use Rattle.tpol_laws.specs.Runs.{HasShortOffset, IsBegun, IsRun}
+use Rattle.tpol_goal.specs.Goals.{HasShortOffset}
+use Rattle.tpol_laws.specs.Runs.{IsBegun, IsRun}
 use Rattle.tpol_laws.proofs.BlockedSteps.{Authorized, Goes, Verified, authorize-goes, goal-goes, plain-goes, start-goes, verify-goes, whole-open}
 use Rattle.tpol_laws.proofs.BlockedTurns.{HasChance, SucceedsAfter, chance-later, chance-now, next-turn, not-yet, on_path}
 use Rattle.tpol_laws.proofs.Finds.{all-at, both}

@@ -46,7 +46,7 @@ use Rattle.tpol_driver.specs.GoalUse.{area_of_goal, auth_of_path, command_of_goa
 use Rattle.tpol_goal.specs.declared.goal.Goal.{Goal}
 use Rattle.tpol_goal.specs.declared.goal.Goal.TheVariants as goals
 use Rattle.tpol_goal.specs.Entities.{name_of_handle}
-use Rattle.tpol_goal.specs.Goals.{IsGoal, IsGoalAmong, code_of_goal, entity_of_goal, handles_of_goal, names_of_goal, second_handle, with_second}
+use Rattle.tpol_goal.specs.Goals.{HasShortOffset, IsGoal, IsGoalAmong, code_of_goal, entity_of_goal, handles_of_goal, names_of_goal, second_handle, with_second}
 use Rattle.tpol_name.specs.declared.areas.ObjectPublic.{ObjectPublic}
 use Rattle.tpol_name.specs.declared.entries.DirEntry.{DirEntry}
 use Rattle.tpol_name.specs.declared.entries.IndexEntry.{IndexEntry}
@@ -59,7 +59,6 @@ use Rattle.tpol_wire.specs.declared.command.Command.{Command}
 use Rattle.tpol_wire.specs.Authorizations.{AreaFits}
 use Rattle.tpol_wire.specs.Commands.{FitsCommand}
 use Rattle.tpol_laws.specs.Chances.{IsProvedByChance}
-use Rattle.tpol_laws.specs.Runs.{HasShortOffset}
 use Rattle.tpol_laws.proofs.Answered.{own-passed}
 use Rattle.tpol_laws.proofs.Binds.{AreAlike}
 use Rattle.tpol_laws.proofs.BlockedMacs.{IsAlike, field-judged}

@@ -38,13 +38,13 @@ use Rattle.tpol_base.specs.declared.compare.Compare.{Compare}
 use Rattle.tpol_base.specs.declared.digest.Digest32.{Digest32}
 use Rattle.tpol_base.specs.declared.name.Name.{Name}
 use Rattle.tpol_base.specs.CommandCode.{number_of_code}
-use Rattle.tpol_base.specs.Digest.{is_same_digest}
+use Rattle.tpol_base.specs.Digest.{is_same_digest, optional_bytes}
 use Rattle.tpol_base.specs.ResponseCode.{of_parameter, rc_signature}
 use Rattle.tpol_choose.specs.Entities.{EntityAt, entity_of_name as entity_at_name}
 use Rattle.tpol_choose.specs.Keys.{is_same_block}
 use Rattle.tpol_choose.specs.Moves.{answered, assertion_block, code_of_denial, index_block, move_block, password_rule, reader_of, reading_rule, secret_block, signed_block, signing_block}
 use Rattle.tpol_digest.proofs.Digests.{same_digest as digest-same}
-use Rattle.tpol_driver.specs.Commands.{command_of_assertion, command_of_move, key_of, optional_bytes, or_null, password_area}
+use Rattle.tpol_driver.specs.Commands.{command_of_assertion, command_of_move, key_of, or_null, password_area}
 use Rattle.tpol_driver.specs.Driving.{is_verification}
 use Rattle.tpol_driver.specs.Plans.{is_granted_key, is_known_assertion, is_known_move}
 use Rattle.tpol_goal.specs.declared.goal.Goal.{Goal}
@@ -69,7 +69,7 @@ use Rattle.tpol_laws.proofs.Alike.{authorize-alike, authorize_nv-alike, code-ali
 use Rattle.tpol_laws.proofs.Answered.{own-passed}
 use Rattle.tpol_laws.proofs.Binds.{AreAlike}
 use Rattle.tpol_laws.proofs.Own.{IsOf}
-use Rattle.tpol_laws.proofs.Passing.{client_on, optional-same}
+use Rattle.tpol_laws.proofs.Passing.{client_on}
 use Rattle.tpol_laws.proofs.Seen.{ReadBy, SeenIndex, SeenObject, entity-listed, index-handle, index-listed, object-line, read-by, reader-handle, see-entity, see-index, see-object}
 use Rattle.tpol_laws.proofs.Unstopped.{own-rule-on, password-stopped}
 
@@ -205,7 +205,7 @@ module _ (setup : Setup) (is : IsSetup setup) (tables : TableState) (of : IsOf s
       let right = unless-none (is_signature object.secret nonce.bytes expiration cp_hash policy_ref signature) (rc_signature + of_parameter 5) behind.1 in
       at (is_same_block key object.secret) refl parts.0 secret
       (digest-same (signature_of (key_of grants object.handle) (signed_hash nonce.bytes expiration (optional_bytes cp_hash) policy_ref)) (signature_of object.secret (signed_hash nonce.bytes expiration (optional_bytes cp_hash) policy_ref))
-      ((bytes_eq-Decides _ _).0 right ∙ ap (λ (bytes : List ℕ). (signature_of object.secret (signed_hash nonce.bytes expiration bytes policy_ref)).bytes) (sym (optional-same cp_hash))))
+      ((bytes_eq-Decides _ _).0 right))
     where
       at : (b : Bool) → is_same_block key object.secret ≡ b → signing_key_rule object.public ≡ None → policy_secret_rule chosen tables.world.time chosen.nonce.bytes cp_hash expiration ≡ None
           → signature_of (key_of grants object.handle) (signed_hash nonce.bytes expiration (optional_bytes cp_hash) policy_ref) ≡ signature_of object.secret (signed_hash nonce.bytes expiration (optional_bytes cp_hash) policy_ref)

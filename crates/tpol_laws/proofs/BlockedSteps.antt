@@ -34,7 +34,7 @@ use Rattle.tpol_driver.specs.GoalUse.{goal_command}
 use Rattle.tpol_driver.specs.Plans.{is_known_move}
 use Rattle.tpol_driver.specs.States.{is_over}
 use Rattle.tpol_goal.specs.Entities.{object_in_sight}
-use Rattle.tpol_goal.specs.Goals.{entity_of_goal}
+use Rattle.tpol_goal.specs.Goals.{HasShortOffset, entity_of_goal}
 use Rattle.tpol_name.specs.declared.entries.DirEntry.{DirEntry}
 use Rattle.tpol_name.specs.declared.entries.ObjectEntry.{ObjectEntry}
 use Rattle.tpol_name.specs.Directories.{directory_of, line_of_object}
@@ -49,7 +49,7 @@ use Rattle.tpol_wire.specs.Commands.{FitsCommand, code_of_command}
 use Rattle.tpol_wire.specs.ReplyReading.{reply_reading}
 use Rattle.tpol_laws.specs.Acts.{Run, Turn, after_act, after_acts, answer_in, begun, succeeds}
 use Rattle.tpol_laws.specs.Chances.{ChanceOf, IsByChance, IsProvedByChance, SignsByChance}
-use Rattle.tpol_laws.specs.Runs.{HasShortOffset, IsBegun, IsRun}
+use Rattle.tpol_laws.specs.Runs.{IsBegun, IsRun}
 use Rattle.tpol_laws.proofs.Answered.{own-passed, refusal-read}
 use Rattle.tpol_laws.proofs.Codes.{HasCode, goal-coded, policy-own-coded, start-coded, verify-coded}
 use Rattle.tpol_laws.proofs.Fit.{fits-start, fits-verify, object-handle, value-short}

@@ -13,12 +13,13 @@ use Rattle.tpol_base.specs.declared.handle.HandleKind.{HandleKind}
 use Rattle.tpol_base.specs.declared.handle.HandleKind.TheVariants as kinds
 use Rattle.tpol_base.specs.declared.name.Name.{Name}
 use Rattle.tpol_base.specs.declared.name.Name.TheVariants.{Handle}
+use Rattle.tpol_base.specs.Digest.{optional_bytes}
 use Rattle.tpol_base.specs.Handle.{is_index, kind_of_handle, rh_endorsement, rh_lockout, rh_owner}
 use Rattle.tpol_base.specs.Name.{name_bytes}
 use Rattle.tpol_base.specs.ResponseCode.{rc_reference_h0}
 use Rattle.tpol_digest.specs.Laws.{MoveHasBounds}
 use Rattle.tpol_digest.specs.Update.{comparison, from_zero, hash_of_inner, one_hash, pcr_selection, two_hashes, update_of}
-use Rattle.tpol_driver.specs.Commands.{command_of_assertion, command_of_move, key_of, optional_bytes, or_null, password_area}
+use Rattle.tpol_driver.specs.Commands.{command_of_assertion, command_of_move, key_of, or_null, password_area}
 use Rattle.tpol_driver.specs.Driving.{is_verification}
 use Rattle.tpol_driver.specs.Plans.{is_granted_key, is_known_assertion, is_known_move}
 use Rattle.tpol_goal.specs.declared.grants.Grants.{Grants}

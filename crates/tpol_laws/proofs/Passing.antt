@@ -12,13 +12,14 @@ use Rattle.tpol_base.specs.declared.compare.Compare.{Compare}
 use Rattle.tpol_base.specs.declared.digest.Digest32.{Digest32}
 use Rattle.tpol_base.specs.declared.name.Name.{Name}
 use Rattle.tpol_base.specs.CommandCode.{number_of_code}
+use Rattle.tpol_base.specs.Digest.{optional_bytes}
 use Rattle.tpol_choose.specs.Clients.{Client}
 use Rattle.tpol_choose.specs.Entities.{EntityAt, entity_of_name as entity_at_name}
 use Rattle.tpol_choose.specs.Facts.{fact_of_move, name_of_found}
 use Rattle.tpol_choose.specs.Keys.{is_same_block}
 use Rattle.tpol_choose.specs.Moves.{answered, assertion_block, index_block, move_block, password_rule, reader_of, reading_rule, secret_block, signed_block, signing_block}
 use Rattle.tpol_digest.proofs.Digests.{same_digest as digest-same}
-use Rattle.tpol_driver.specs.Commands.{command_of_assertion, command_of_move, index_authority, index_handle, key_of, optional_bytes, or_null, password_area}
+use Rattle.tpol_driver.specs.Commands.{command_of_assertion, command_of_move, index_authority, index_handle, key_of, or_null, password_area}
 use Rattle.tpol_driver.specs.Driving.{is_verification}
 use Rattle.tpol_goal.specs.declared.goal.Goal.{Goal}
 use Rattle.tpol_goal.specs.declared.grants.Grants.{Grants}
@@ -43,7 +44,7 @@ use Rattle.tpm_auth.specs.Tickets.{verified_ticket}
 use Rattle.tpm_bindings.specs.Merged.{fact_of}
 use Rattle.tpm_bindings.specs.State.{SessionState}
 use Rattle.tpm_pcr.specs.Pcrs.{selection_digest}
-use Rattle.tpm_policy.specs.Judgments.{cp_hash_bytes, is_approval_ticket, is_signature}
+use Rattle.tpm_policy.specs.Judgments.{is_approval_ticket, is_signature}
 use Rattle.tpm_rules.specs.Entity.{Entity, Index, Object}
 use Rattle.tpm_rules.specs.NvAuthority.{nv_authority_rule}
 use Rattle.tpm_rules.specs.Objects.{signing_key_rule}
@@ -117,11 +118,6 @@ readable-by world grants code entry own reader read h =
       authorized = subst (λ (n : ℕ). nv_authority_rule n entry.public (number_of_code code) ≡ None) read.same second.0;
       rule = second.1;
     }
-
--- the bytes of a cpHashA, for the driver and for the machine
-pub optional-same : (o : Option Digest32) → optional_bytes o ≡ cp_hash_bytes o
-optional-same None = refl
-optional-same (Some digest) = refl
 
 -- ---- each kind
 
@@ -217,8 +213,7 @@ module _ (setup : Setup) (is : IsSetup setup) (tables : TableState) (of : IsOf s
   is-signed object key has same given policy_ref cp_hash expiration =
       (bytes_eq-Decides _ _).1
       (ap (λ (o : Option (List ℕ)). (signature_of (unwrap_or o []) (signed_hash given expiration (optional_bytes cp_hash) policy_ref)).bytes) has
-      ∙ ap (λ (d : Digest32). d.bytes) (same-mac key object.secret (signed_hash given expiration (optional_bytes cp_hash) policy_ref).bytes same)
-      ∙ ap (λ (bytes : List ℕ). (signature_of object.secret (signed_hash given expiration bytes policy_ref)).bytes) (optional-same cp_hash))
+      ∙ ap (λ (d : Digest32). d.bytes) (same-mac key object.secret (signed_hash given expiration (optional_bytes cp_hash) policy_ref).bytes same))
 
   signed-passes : (name : Name) (policy_ref : List ℕ) (cp_hash : Option Digest32) (expiration : ℤ) (object : ObjectEntry) (key : List ℕ) → SeenObject setup tables.world name object → granted grants.keys object.handle ≡ Some key
       → or_else (signing_key_rule object.public) (policy_signed_rule chosen tables.world.time chosen.nonce.bytes cp_hash expiration (is_same_block key object.secret)) ≡ None

@@ -11,10 +11,11 @@ use Rattle.tpm_world.specs.Hashes.{cp_hash}
 use Rattle.tpm_world.specs.Objects.{object_of}
 use Rattle.tpm_world.specs.World.{WorldState}
 use Rattle.tpol_base.specs.declared.digest.Digest32.{Digest32}
+use Rattle.tpol_base.specs.Digest.{optional_bytes}
 use Rattle.tpol_choose.specs.Keys.{is_same_block}
 use Rattle.tpol_driver.specs.declared.plan.Plan.{Plan}
 use Rattle.tpol_driver.specs.declared.session.Session.{Session}
-use Rattle.tpol_driver.specs.Commands.{caller_nonce, command_of_move, key_of, optional_bytes}
+use Rattle.tpol_driver.specs.Commands.{caller_nonce, command_of_move, key_of}
 use Rattle.tpol_driver.specs.Driving.{Closing, Moving, Over, Standing, Starting}
 use Rattle.tpol_driver.specs.GoalUse.{area_of_goal, goal_command, goal_cp_hash, goal_hmac, goal_secret}
 use Rattle.tpol_goal.specs.declared.grants.Grants.{Grants}

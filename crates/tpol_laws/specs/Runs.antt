@@ -1,9 +1,7 @@
 -- Runs as a script begins them.
-use Rattle.std.specs.Prelude.{◌≡◌, ◌≤◌, ◌<◌, ◌^◌, ⊤, true, All, length, map}
+use Rattle.std.specs.Prelude.{◌≡◌, ◌≤◌, true, All, length, map}
 use Rattle.tpol_digest.specs.Laws.{MoveHasBounds}
 use Rattle.tpol_driver.specs.Plans.{is_complete}
-use Rattle.tpol_goal.specs.declared.goal.Goal.{Goal}
-use Rattle.tpol_goal.specs.declared.goal.Goal.TheVariants.{Unseal, Hmac, NvRead, NvWrite, NvIncrement, Duplicate}
 use Rattle.tpol_goal.specs.Goals.{IsGoal, IsGoalAmong}
 use Rattle.tpol_goal.specs.Grants.{IsGrants}
 use Rattle.tpol_name.specs.Directories.{directory_of}
@@ -29,12 +27,3 @@ pub record IsBegun (run : Run) : Type 0 where
   pub short : length run.plan.path.moves ≤ 512
   pub fits : IsGoal run.plan.goal
   pub among : IsGoalAmong (map (λ o. o.handle) run.setup.objects) (map (λ i. i.public.index) run.setup.indices) run.plan.goal
-
--- a goal whose offset has two bytes
-abbrev pub HasShortOffset : Goal → Type 0
-HasShortOffset (Unseal object) = ⊤
-HasShortOffset (Hmac key buffer) = ⊤
-HasShortOffset (NvRead index size offset) = offset < 2 ^ 16
-HasShortOffset (NvWrite index offset bytes) = offset < 2 ^ 16
-HasShortOffset (NvIncrement index) = ⊤
-HasShortOffset (Duplicate object parent) = ⊤

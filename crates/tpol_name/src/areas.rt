@@ -81,7 +81,7 @@ pub fn object_name_of_parts(
     hasher.put(&TPM_ALG_KEYEDHASH.to_be_bytes());
     hasher.put(&TPM_ALG_SHA256.to_be_bytes());
     hasher.put(&attributes.to_be_bytes());
-    put_sized(&mut hasher, auth_policy);
+    hasher.put_sized(auth_policy);
     match scheme {
         Scheme::Sealed => hasher.put(&TPM_ALG_NULL.to_be_bytes()),
         Scheme::HmacKey => {
@@ -89,7 +89,7 @@ pub fn object_name_of_parts(
             hasher.put(&TPM_ALG_SHA256.to_be_bytes());
         }
     }
-    put_sized(&mut hasher, unique);
+    hasher.put_sized(unique);
     Name::Hash(hasher.done())
 }
 
@@ -130,7 +130,7 @@ pub fn index_name_of_parts(index: u32, attributes: u32, auth_policy: &[u8], size
     hasher.put(&index.to_be_bytes());
     hasher.put(&TPM_ALG_SHA256.to_be_bytes());
     hasher.put(&attributes.to_be_bytes());
-    put_sized(&mut hasher, auth_policy);
+    hasher.put_sized(auth_policy);
     hasher.put(&size.to_be_bytes());
     Name::Hash(hasher.done())
 }
@@ -154,13 +154,4 @@ pub fn may_sign(scheme: Scheme, attributes: u32) -> bool
     ensures key { result ≡ may_sign scheme attributes }
 {
     scheme == Scheme::HmacKey && has_attribute(attributes, OBJECT_SIGN)
-}
-
-// Adds a sized buffer (TPM2B): the last two bytes of the length, and the bytes.
-fn put_sized(hasher: &mut Hasher, bytes: &[u8])
-    ensures longer { (m : List ℕ) → Holds hasher.old m → Holds hasher.new (m ++ sized bytes.now) }
-{
-    let length = bytes.len().to_be_bytes();
-    hasher.put(&length[6..]);
-    hasher.put(bytes);
 }

@@ -4,7 +4,7 @@ use Rattle.std.specs.Prelude.{◌⊎◌, ⊤, Contains, Option, Some, None, IfSo
 use Rattle.serde_json.specs.Data.{Data}
 use Rattle.tpol_base.specs.Handle.{rh_null}
 use Rattle.tpol_goal.specs.declared.goal.Goal.{Goal}
-use Rattle.tpol_goal.specs.Goals.{IsGoal, IsGoalAmong}
+use Rattle.tpol_goal.specs.Goals.{HasShortOffset, IsGoal, IsGoalAmong}
 use Rattle.tpol_json.proofs.AllFound.{AllFound, all_map, all_then}
 use Rattle.tpol_json.specs.declared.place.Place.{Place}
 use Rattle.tpol_name.specs.Paths.{is_same_path}
@@ -17,7 +17,6 @@ use Rattle.tpol_entities.specs.declared.entities.Entities.{Entities}
 use Rattle.tpol_entities.specs.declared.targets.Target.{Target}
 use Rattle.tpol_entities.specs.declared.targets.Target.TheVariants.{Entity, Object, Index}
 use Rattle.tpol_entities.proofs.ValueLemmas.{any_ok, needed_ok, optional_ok, short_ok, unsigned_ok}
-use Rattle.tpol_scene.specs.Conditions.{HasOffset}
 use Rattle.tpol_scene.specs.Goals.{duplicate_in, goal_by, goal_command_in, goal_in, hmac_in, nv_read_in, nv_write_in, offset_in, path_target}
 use Rattle.tpol_scene.specs.declared.goals.GoalCommand.{GoalCommand}
 use Rattle.tpol_scene.specs.declared.goals.GoalCommand.TheVariants.{Unseal, Hmac, NvRead, NvWrite, NvIncrement, Duplicate}
@@ -110,7 +109,7 @@ offset_ok d place = optional_ok IsOffset (unsigned_in 0 65535) 0 (omega arith) o
 
 pub record GoalFits (objects indices : List ℕ) (goal : Goal) : Type 0 where
   pub fits : IsGoal goal
-  pub offset : HasOffset goal
+  pub offset : HasShortOffset goal
   pub among : IsGoalAmong objects indices goal
 
 abbrev pub FitsEntities : Entities → Goal → Type 0

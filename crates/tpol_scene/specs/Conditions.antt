@@ -2,8 +2,7 @@
 use Rattle.std.specs.Prelude.{⊤, ℕ, ◌+◌, ◌^◌, ◌≤◌, ◌<◌, nat_eq, List, [], ◌∷◌, ◌++◌, length, map, All, Contains, IfSome}
 use Rattle.std.specs.List.{IsDistinct}
 use Rattle.tpol_goal.specs.declared.goal.Goal.{Goal}
-use Rattle.tpol_goal.specs.declared.goal.Goal.TheVariants.{Unseal, Hmac, NvRead, NvWrite, NvIncrement, Duplicate}
-use Rattle.tpol_goal.specs.Goals.{IsGoal, IsGoalAmong}
+use Rattle.tpol_goal.specs.Goals.{HasShortOffset, IsGoal, IsGoalAmong}
 use Rattle.tpol_goal.specs.Grants.{IsGrants}
 use Rattle.tpol_entities.specs.Places.{StandsBehind}
 use Rattle.tpol_scene.specs.declared.scene.Scene.{Scene}
@@ -38,15 +37,6 @@ HasClients scene = AreClients scene.clients
 
 -- ---- events
 
--- an offset that fits into a command
-abbrev pub HasOffset : Goal → Type 0
-HasOffset (Unseal object) = ⊤
-HasOffset (Hmac key buffer) = ⊤
-HasOffset (NvRead index size offset) = offset < 2 ^ 16
-HasOffset (NvWrite index offset bytes) = offset < 2 ^ 16
-HasOffset (NvIncrement index) = ⊤
-HasOffset (Duplicate object parent) = ⊤
-
 -- a run that begins behind these runs: its number is new, its client is one of these clients, and its goal fits
 -- into a command on one of these objects or indices
 pub record BeginsRun (objects indices clients runs : List ℕ) (run client locality : ℕ) (goal : Goal) : Type 0 where
@@ -56,7 +46,7 @@ pub record BeginsRun (objects indices clients runs : List ℕ) (run client local
   pub listed : Contains clients client
   pub four_localities : locality ≤ 4
   pub fits : IsGoal goal
-  pub offset : HasOffset goal
+  pub offset : HasShortOffset goal
   pub among : IsGoalAmong objects indices goal
 
 -- an event that stands behind those that begin these runs

@@ -1,7 +1,7 @@
 //! PolicySigned (TPM 2.0 Part 3).
 
 ghost use Rattle.std.specs.Prelude.{◌≡◌, IfOk};
-ghost use Rattle.tpol_driver.specs.Commands.{key_of, optional_bytes, policy_signed};
+ghost use Rattle.tpol_driver.specs.Commands.{key_of, policy_signed};
 
 use crate::commands::handles;
 use crate::session::Session;
@@ -29,7 +29,7 @@ pub(crate) fn command(
     let signed = signed_hash(
         &session.nonce.bytes,
         expiration,
-        optional_bytes(&cp_hash),
+        Digest32::optional_bytes(&cp_hash),
         policy_ref.as_slice(),
     );
     Ok(Command::PolicySigned {
@@ -49,16 +49,6 @@ fn granted_key(grants: &Grants, handle: u32) -> &[u8]
 {
     match grants.key(handle) {
         Some(key) => key,
-        None => &[],
-    }
-}
-
-// The bytes of a cpHashA, none where there is none.
-fn optional_bytes(digest: &Option<Digest32>) -> &[u8]
-    ensures { result.now ≡ optional_bytes digest.now }
-{
-    match digest {
-        Some(digest) => &digest.bytes,
         None => &[],
     }
 }

@@ -1,5 +1,6 @@
 use Rattle.std.proofs.Common.{◌≡◌, map, take, drop}
-use Rattle.tpol_fill.specs.Filling.{mask_of_pcrs, value_faults}
+use Rattle.tpol_base.specs.Pcr.{mask_of_pcrs}
+use Rattle.tpol_fill.specs.Filling.{value_faults}
 use Rattle.tpol_fill.specs.Outcome.{each_fault}
 use Rattle.tpol_fill.proofs.pcrs.written_pcrs.Given as goal
 

@@ -1,6 +1,7 @@
 use Rattle.std.proofs.Common.{◌≡◌, ◌∙◌, ◌<◌, ◌≤◌, ◌++◌, ◌∷◌, [], map, sym, ap, subst, arith}
 use Rattle.std.specs.Prelude.{bit_or}
 use Rattle.std.proofs.lemmas.Nat.{one_shl}
+use Rattle.tpol_base.specs.Pcr.{mask_of_pcrs}
 use Rattle.tpol_wire.specs.declared.reply.Reply.TheVariants.{PcrRead}
 use Rattle.tpm_pcr.specs.Pcrs.{value_of}
 use Rattle.tpm_world.specs.PcrRead as spec
@@ -40,6 +41,6 @@ returns c =
     let values = c.args.world.now.pcrs.values in
     let all = read_all c.args.mask c.loop-pcr.pcr (omega arith) in
     let counter : c.counter.result ≡ c.args.world.now.pcrs.counter = c.counter.ensures.counter ∙ ap (λ pcrs. pcrs.counter) c.pcrs-pcrs.ensures.pcrs in
-    let read = c.loop-pcr.invariant.read ∙ ap spec.mask_of all in
+    let read = c.loop-pcr.invariant.read ∙ ap mask_of_pcrs all in
     let digests = c.loop-pcr.invariant.digests ∙ ap (map (value_of values)) all in
     record { reply = λ i. PcrRead (counter i) (read i) (digests i) }

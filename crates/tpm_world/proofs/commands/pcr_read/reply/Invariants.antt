@@ -1,6 +1,6 @@
 use Rattle.std.proofs.Common.{◌≡◌, map}
 use Rattle.tpm_pcr.specs.Pcrs.{value_of}
-use Rattle.tpm_world.specs.PcrRead.{mask_of}
+use Rattle.tpol_base.specs.Pcr.{mask_of_pcrs}
 use Rattle.tpm_world.proofs.ReadLemmas.{first_read}
 use Rattle.tpm_world.proofs.commands.pcr_read.reply.Given as goal
 
@@ -8,5 +8,5 @@ use Rattle.tpm_world.proofs.commands.pcr_read.reply.Given as goal
 abbrev pub invariant-loop-pcr : goal.invariant-loop-pcr
 invariant-loop-pcr l = record {
   digests : l.digests ≡ map (value_of l.world.pcrs.values) (first_read l.mask l.pcr);
-  read : l.read ≡ mask_of (first_read l.mask l.pcr);
+  read : l.read ≡ mask_of_pcrs (first_read l.mask l.pcr);
 }
