@@ -42,23 +42,19 @@ class Marks:
         return "out" if ways and all(way.number in self.blocks for way in ways) else ""
 
     def at(self, ways):
-        """The marks of the ways that end in one box."""
-        marks = []
-        for way in ways:
-            before = f"{way_words(way.number, way.label)}: " if len(ways) > 1 else ""
-            marks += [self.opening_mark(opening, before) for opening in self.openings.get(way.number, [])]
-            marks += [self.block_mark(block, before) for block in self.blocks.get(way.number, [])]
-            if way.number in self.policy.dead:
-                marks.append(dead_mark(self.policy.dead[way.number], "p"))
+        """The marks of the ways that end in one box: openings first, so that no fold hides them."""
+        marks = [self.opening_mark(opening) for way in ways for opening in self.openings.get(way.number, [])]
+        marks += [dead_mark(self.policy.dead[way.number], "p") for way in ways if way.number in self.policy.dead]
+        marks += [self.block_mark(block) for way in ways for block in self.blocks.get(way.number, [])]
         return folded(marks, SHOWN_MARKS, "marks") or '<p class="mark idle">nobody went this way</p>'
 
-    def opening_mark(self, opening, before):
+    def opening_mark(self, opening):
         user = self.story.journal.by_number[opening.event].client
         said = (f"{'⚠' if self.story.is_foreign(opening) else '✔'} {of_scene(self.story.client(user))} "
                 f"{opening_words(self.story, opening)}")
         return statement(opening.line, said, "p", f"mark {self.story.look(opening)}")
 
-    def block_mark(self, block, before):
+    def block_mark(self, block):
         said = f"✘ {of_scene(f'run {block.run}')} {way_words(block.way, block.label)}: {block_words(self.policy, block)}"
         return statement(block.line, said, "p", "mark out")
 
@@ -126,7 +122,15 @@ class Tree:
         text = f'<p class="soft">{words(described)}</p>' if described else ""
         inside = self.flow(content["policy"], ways) if content else ""
         marks = self.marks.at(ends) if ends else ""
-        return f'<div class="branch {look}"><h4>{title}</h4>{text}{inside}{marks}</div>'
+        width = leaves(content["policy"]) if content else 1
+        return f'<div class="branch {look}" style="--leaves:{width}"><h4>{title}</h4>{text}{inside}{marks}</div>'
+
+
+def leaves(elements):
+    """How many boxes stand side by side in a list of elements, where there is room."""
+    widths = [sum(leaves(branch["policy"]) for branch in element["branches"]) for element in elements
+              if element["type"] == "POLICYOR"]
+    return max([1, *widths])
 
 
 def ways_table(marks):

@@ -110,6 +110,7 @@ class Store:
             machine = {name: value for name, value in scene.items() if name not in ("script", "clients")}
             self.write(program, f"{SCENE}.scene", json.dumps(machine))
         self.copy(os.path.join(folder, "policies"))
+        self.knows_lint = True
 
     def __enter__(self):
         return self
@@ -135,8 +136,9 @@ class Store:
 
     def policy(self, name):
         source = self.source(self.plain, name)
-        paths = self.plain.run(["paths", "--scene", SCENE], source)
-        places = self.placed.run(["paths", "--scene", SCENE], self.source(self.placed, name))
+        paths = places = self.plain.run(["paths", "--scene", SCENE], source)
+        if any(way.label != "-" for way in ways_of(paths)):
+            places = self.placed.run(["paths", "--scene", SCENE], self.source(self.placed, name))
         names = {json.loads(choice) for choice in re.findall(r'@("(?:[^"\\]|\\.)*")', places)}
         return Policy(name, self.document(name), paths, places, self.lint(source),
                       {name: self.document(name) for name in sorted(names)})
@@ -145,10 +147,11 @@ class Store:
         return json.loads(self.plain.run(["canon"], self.source(self.plain, name)))
 
     def lint(self, source):
-        """The lines of `lint`; none where the program does not know the word, or finds too many ways."""
+        """The lines of `lint`; none where the program does not know the word."""
         try:
-            return self.plain.run(["lint", "--scene", SCENE], source)
+            return self.plain.run(["lint", "--scene", SCENE], source) if self.knows_lint else ""
         except Refused:
+            self.knows_lint = False
             return ""
 
 

@@ -182,9 +182,9 @@ def until(element):
 
 
 def pcr_words(element):
-    if "currentPCRs" in element:
-        return "PCRs " + ", ".join(map(str, element["currentPCRs"])) + " as they are now"
-    return "PCRs " + (", ".join(str(item["pcr"]) for item in element["pcrs"]) or "none") + " as written"
+    numbers = element.get("currentPCRs") or [item["pcr"] for item in element.get("pcrs", [])]
+    named = f"{'PCR' if len(numbers) == 1 else 'PCRs'} {', '.join(map(str, numbers))}" if numbers else "no PCR"
+    return f"{named} as {'written' if 'pcrs' in element else 'on the machine'}"
 
 
 def nv_words(element):
