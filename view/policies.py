@@ -55,7 +55,7 @@ class Marks:
         return statement(opening.line, said, "p", f"mark {self.story.look(opening)}")
 
     def block_mark(self, block):
-        said = f"✘ {of_scene(f'run {block.run}')} {way_words(block.way, block.label)}: {block_words(self.policy, block)}"
+        said = f"✘ run {block.run}, {way_words(block.way, block.label)}: {block_words(self.policy, block)}"
         return statement(block.line, said, "p", "mark out")
 
 
@@ -159,7 +159,7 @@ def way_cells(marks, way):
 def run_cell(marks, run, way):
     block = next((block for block in marks.blocks.get(way.number, []) if block.run == run.number), None)
     if block:
-        said = f"✘ {of_scene(f'run {run.number},')} way {way.number}: {block_words(marks.policy, block)}"
+        said = f"✘ run {run.number}, way {way.number}: {block_words(marks.policy, block)}"
         return f'<td class="out">{statement(block.line, said)}</td>'
     if run.way == way.number:
         return chosen_cell(marks, run, way)
