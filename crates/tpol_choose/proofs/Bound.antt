@@ -4,6 +4,7 @@ use Rattle.std.proofs.lemmas.List.{map-append}
 use Rattle.std.proofs.lemmas.List.Sums.{fold-append}
 use Rattle.tpol_base.specs.declared.digest.Digest32.{Digest32}
 use Rattle.tpol_name.specs.declared.sight.Sight.{Sight}
+use Rattle.tpol_tree.specs.declared.closed.Assertion.{Assertion}
 use Rattle.tpol_tree.specs.declared.closed.Assertion.TheVariants.{Pcr, Nv, Secret, Signed, CounterTimer, CommandCode, Locality, CpHash, NameHash, NvWritten, AuthValue, Password, PhysicalPresence, Duplication}
 use Rattle.tpol_tree.specs.declared.facts.Fact.{Fact}
 use Rattle.tpol_tree.specs.declared.path.Move.{Move}
@@ -13,6 +14,10 @@ use Rattle.tpol_digest.specs.Sound.{moves_of_facts}
 use Rattle.tpm_bindings.proofs.Merging.{merged-push}
 use Rattle.tpm_bindings.specs.Merged.{fact_of, merged}
 use Rattle.tpm_bindings.specs.State.{SessionState}
+use Rattle.tpol_choose.specs.declared.act.Act.{Act}
+use Rattle.tpol_choose.specs.declared.act.Act.TheVariants as acts
+use Rattle.tpol_choose.specs.declared.assert_move.AssertMove.{AssertMove}
+use Rattle.tpol_choose.specs.Acts.{move_of}
 use Rattle.tpol_choose.specs.Facts.{cp_hash_of, deadline_of_move, fact_of_move}
 
 -- a fact binds by its move, and the Name of PolicySecret binds nothing
@@ -37,6 +42,13 @@ same_bindings sight state facts (Assert (Duplication object parent include)) = r
 same_bindings sight state facts (Or digests) = refl
 same_bindings sight state facts (Approve key policy_ref approved signature) = refl
 same_bindings sight state facts (ApproveNv index approved) = refl
+
+-- what is lent of a move that is no assertion
+pub no_assertion : (act : Act) → ((step : AssertMove) → act ≡ acts.Assert step → ⊥) → (assertion : Assertion) → move_of act ≡ Assert assertion → ⊥
+no_assertion (acts.Assert step) none assertion is = none step refl
+no_assertion (acts.Or or) none assertion is = cc is
+no_assertion (acts.Approve key policy_ref approved signature) none assertion is = cc is
+no_assertion (acts.ApproveNv index approved) none assertion is = cc is
 
 -- the digest with one more fact
 pub digest_more : (facts : List Fact) (fact : Fact) → digest_of_moves (moves_of_facts (facts ++ fact ∷ [])) ≡ digest_after fact.act (digest_of_moves (moves_of_facts facts))

@@ -7,7 +7,6 @@ pub mod Going
 pub mod Hopeless
 pub mod Judging
 pub mod Loads
-pub mod Nothing
 pub mod OnWay
 pub mod Parameters
 pub mod SearchLaws

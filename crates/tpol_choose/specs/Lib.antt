@@ -1,6 +1,5 @@
 pub mod Acts
 pub mod Ahead
-pub mod Binding
 pub mod Blocks
 pub mod Clients
 pub mod Counts

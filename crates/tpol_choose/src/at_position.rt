@@ -26,7 +26,6 @@ use crate::or_move::OrMove;
 use crate::session::zero;
 use crate::track::Track;
 use crate::walk::Walk;
-use std::alloc::Global;
 use tpol_base::Digest32;
 use tpol_digest::{MAX_LEVELS, digest_after_element};
 use tpol_goal::{Goal, Grants};
@@ -34,9 +33,8 @@ use tpol_name::Sight;
 use tpol_tree::{Approvals, Closed, ClosedBranches, ClosedElement, ClosedElements};
 
 /// The same as `can` for the path of a policy at a position, from 1 (see `tpol_digest::path_at`). The path is
-/// not made: the policy is walked to it, and no memory is taken; `alloc` makes an empty list.
+/// not made: the policy is walked to it, and no memory is taken.
 pub fn block_at(
-    alloc: Global,
     policy: &Closed,
     approvals: &Approvals,
     position: u32,
@@ -53,7 +51,6 @@ pub fn block_at(
         (λ path. Breaks result (first_block path sight.now grants.now goal.now locality)) }
 {
     let walk = Walk {
-        alloc,
         client: Client {
             sight,
             grants,
@@ -150,7 +147,7 @@ fn go_element(
         ClosedElement::Assert(assertion) => {
             let step = AssertMove::new(assertion, before);
             Behind {
-                track: track.after(walk.alloc, &walk.client, &Act::Assert(step)),
+                track: track.after(&walk.client, &Act::Assert(step)),
                 digest: step.after,
             }
         }
@@ -159,7 +156,7 @@ fn go_element(
             let inner = go_branches(walk, track, branches, before, index);
             let or = OrMove::new(digests.as_slice());
             Behind {
-                track: inner.after(walk.alloc, &walk.client, &Act::Or(or)),
+                track: inner.after(&walk.client, &Act::Or(or)),
                 digest: or.after,
             }
         }
@@ -223,7 +220,7 @@ fn go_approval(walk: &Walk<'_>, track: Track, element: &ClosedElement, index: u6
                 let count = count_elements(walk.approvals, inner.levels, elements);
                 if left < count {
                     let behind = go_elements(&inner, track, elements, zero(), left, count);
-                    return behind.after(walk.alloc, &walk.client, &act);
+                    return behind.after(&walk.client, &act);
                 }
                 left -= count;
             }
@@ -240,7 +237,7 @@ fn go_outside(walk: &Walk<'_>, track: Track, element: &ClosedElement) -> Track
         (paths.outside_paths element.now) 0 result }
 {
     match outside_approval(element) {
-        Some(act) => track.after(walk.alloc, &walk.client, &act).outside(),
+        Some(act) => track.after(&walk.client, &act).outside(),
         None => track,
     }
 }

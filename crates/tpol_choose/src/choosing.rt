@@ -10,7 +10,6 @@ ghost use Rattle.tpol_name.specs.Setups.{IsSight};
 use crate::client::Client;
 use crate::searching::{Search, search_policy};
 use crate::walk::Walk;
-use std::alloc::Global;
 use tpol_digest::MAX_LEVELS;
 use tpol_goal::{Goal, Grants};
 use tpol_name::Sight;
@@ -18,9 +17,8 @@ use tpol_tree::{Approvals, Closed};
 
 /// The position, from 1, of the first path of a policy that the client can go (see `can` and
 /// `tpol_digest::path_at`); `None` exactly where it can go none. No list of the paths is made, and no memory
-/// is taken; `alloc` makes an empty list.
+/// is taken.
 pub fn choose(
-    alloc: Global,
     policy: &Closed,
     approvals: &Approvals,
     sight: &Sight,
@@ -37,7 +35,6 @@ pub fn choose(
         return None;
     }
     let walk = Walk {
-        alloc,
         client: Client {
             sight,
             grants,

@@ -12,10 +12,11 @@ ghost use Rattle.tpol_choose.specs.Moves.{move_block};
 ghost use Rattle.tpol_name.specs.Setups.{IsSight};
 
 use crate::act::Act;
+use crate::binding::bindings_after;
 use crate::client::Client;
 use crate::goal::check_goal;
 use crate::moves::check_move;
-use crate::session::{bindings_after_move, fresh_session, session_after};
+use crate::session::{fresh_session, session_after};
 use crate::{Block, Why};
 use tpm_rules::Standing;
 use tpol_goal::{Goal, Grants};
@@ -113,7 +114,7 @@ fn make_move(
 {
     let lent = Act::of(act, session.digest);
     at(number, check_move(client, session, &lent))?;
-    let bindings = bindings_after_move(session, act, &lent);
+    let bindings = bindings_after(session, &lent);
     Ok(session_after(client.sight, session, &lent, bindings))
 }
 

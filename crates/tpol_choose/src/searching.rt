@@ -103,7 +103,7 @@ fn search_element<'a>(
     match element {
         ClosedElement::Assert(assertion) => {
             let step = AssertMove::new(assertion, before);
-            let next = track.after(walk.alloc, &walk.client, &Act::Assert(step));
+            let next = track.after(&walk.client, &Act::Assert(step));
             search_elements(walk, next, rest, step.after, ahead, passed)
         }
         ClosedElement::Or(branches) => {
@@ -248,7 +248,7 @@ fn search_ahead<'a>(walk: &Walk<'_>, track: Track, ahead: &'a Ahead<'a>, passed:
             levels,
             ahead,
         } => {
-            let next = track.after(walk.alloc, &walk.client, act);
+            let next = track.after(&walk.client, act);
             let outer = Walk {
                 levels: *levels,
                 ..*walk

@@ -194,15 +194,3 @@ pub fn deadline_after(session: &Standing, act: &Act<'_>) -> Option<u64>
         _ => None,
     }
 }
-
-// What the facts bind together with that of one more move of a path.
-pub fn bindings_after_move(session: &Standing, act: &Move, lent: &Act<'_>) -> Bindings
-    requires start { session.now.start ≤ 2 ^ 63 }
-    requires lent { move_of lent.now ≡ act.now }
-    ensures { (state : SessionState) (sight : OneSight) → session.now ≡ standing_of state
-        → result ≡ merged (spec.session_after sight state act.now).facts }
-{
-    let mut bindings = session.bindings;
-    bindings.merge(act, cp_hash_of(lent), deadline_after(session, lent));
-    bindings
-}

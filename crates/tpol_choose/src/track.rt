@@ -15,7 +15,6 @@ use crate::goal::check_goal;
 use crate::moves::check_move;
 use crate::one_path::{at, check_whole};
 use crate::session::{fresh_session, session_after};
-use std::alloc::Global;
 use tpm_rules::Standing;
 
 // The session that a path makes, the number of its moves, the first thing that stood in their way, and whether
@@ -49,13 +48,13 @@ impl Track {
     }
 
     // One move further.
-    pub fn after(self, alloc: Global, client: &Client<'_>, act: &Act<'_>) -> Track
+    pub fn after(self, client: &Client<'_>, act: &Act<'_>) -> Track
         requires sight { IsSight client.now.sight.now }
         ensures { (track : TrackState) → IsTrack self track
             → IsTrack result (spec.track_after (client_of_lent client.now) track (move_of act.now)) }
     {
         let number = self.done.saturating_add(1);
-        let bindings = bindings_after(alloc, &self.session, act);
+        let bindings = bindings_after(&self.session, act);
         Track {
             session: session_after(client.sight, &self.session, act, bindings),
             done: number,

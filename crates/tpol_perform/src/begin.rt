@@ -113,7 +113,6 @@ impl Performance {
     {
         let approvals = &scenario.approvals;
         match choose(
-            alloc,
             &document.closed,
             approvals,
             sight,
