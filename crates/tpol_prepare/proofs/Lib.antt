@@ -1,3 +1,4 @@
+pub mod EachSet
 pub mod EntitiesAdded
 pub mod EntitiesErased
 pub mod EntitiesKept

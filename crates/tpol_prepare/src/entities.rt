@@ -8,7 +8,7 @@ ghost use Rattle.tpol_tree.specs.ClosedErased.{erased};
 
 use crate::references::policy_at;
 use std::alloc::Global;
-use tpol_base::{Blob, Digest32, ExactClone, NoMemory, Sequence};
+use tpol_base::{Blob, Digest32, NoMemory, Sequence};
 use tpol_digest::digest_of;
 use tpol_name::{IndexEntry, Indices, ObjectEntry, Objects, Setup, Sight, opening_sight};
 use tpol_scene::EntityPolicy;
@@ -159,73 +159,66 @@ fn set_policy(
 ) -> Result<(), NoMemory>
     ensures { OnOk result (setup.new ≡ setup_with_policy handle digest.now setup.old) }
 {
-    setup.objects = objects_with_policy(alloc, setup.objects.as_slice(), handle, digest)?;
-    setup.indices = indices_with_policy(alloc, setup.indices.as_slice(), handle, digest)?;
+    set_among_objects(alloc, &mut setup.objects, handle, digest)?;
+    set_among_indices(alloc, &mut setup.indices, handle, digest)
+}
+
+fn set_among_objects(
+    alloc: Global,
+    objects: &mut Objects,
+    handle: u32,
+    digest: &Digest32,
+) -> Result<(), NoMemory>
+    ensures { OnOk result (objects.new ≡ map (object_with_policy handle digest.now) objects.old) }
+{
+    for place in 0..objects.len() {
+        if let Some(object) = objects.get_mut(place) {
+            set_object(alloc, object, handle, digest)?;
+        }
+    }
     Ok(())
 }
 
-// The objects, of which that of the handle has this authPolicy.
-fn objects_with_policy(
+fn set_object(
     alloc: Global,
-    objects: &[ObjectEntry],
+    object: &mut ObjectEntry,
     handle: u32,
     digest: &Digest32,
-) -> Result<Objects, NoMemory>
-    ensures { IfOk result (λ list. list ≡ map (object_with_policy handle digest.now) objects.now) }
+) -> Result<(), NoMemory>
+    ensures { OnOk result (object.new ≡ object_with_policy handle digest.now object.old) }
 {
-    let mut list = Sequence::new(alloc);
-    for object in objects {
-        list.push(object_with_policy(alloc, object, handle, digest)?)?;
+    if object.handle == handle {
+        object.public.auth_policy = Blob::from_slice(alloc, &digest.bytes)?;
     }
-    Ok(list)
+    Ok(())
 }
 
-fn object_with_policy(
+fn set_among_indices(
     alloc: Global,
-    object: &ObjectEntry,
+    indices: &mut Indices,
     handle: u32,
     digest: &Digest32,
-) -> Result<ObjectEntry, NoMemory>
-    ensures { IfOk result (λ entry. entry ≡ object_with_policy handle digest.now object.now) }
+) -> Result<(), NoMemory>
+    ensures { OnOk result (indices.new ≡ map (index_with_policy handle digest.now) indices.old) }
 {
-    if object.handle != handle {
-        return Ok(object.exact_clone()?);
+    for place in 0..indices.len() {
+        if let Some(index) = indices.get_mut(place) {
+            set_index(alloc, index, handle, digest)?;
+        }
     }
-    let auth_policy = Blob::from_slice(alloc, &digest.bytes)?;
-    let mut entry = object.exact_clone()?;
-    entry.public.auth_policy = auth_policy;
-    Ok(entry)
+    Ok(())
 }
 
-// The same of the indices.
-fn indices_with_policy(
+fn set_index(
     alloc: Global,
-    indices: &[IndexEntry],
+    index: &mut IndexEntry,
     handle: u32,
     digest: &Digest32,
-) -> Result<Indices, NoMemory>
-    ensures { IfOk result (λ list. list ≡ map (index_with_policy handle digest.now) indices.now) }
+) -> Result<(), NoMemory>
+    ensures { OnOk result (index.new ≡ index_with_policy handle digest.now index.old) }
 {
-    let mut list = Sequence::new(alloc);
-    for index in indices {
-        list.push(index_with_policy(alloc, index, handle, digest)?)?;
+    if index.public.index == handle {
+        index.public.auth_policy = Blob::from_slice(alloc, &digest.bytes)?;
     }
-    Ok(list)
-}
-
-fn index_with_policy(
-    alloc: Global,
-    index: &IndexEntry,
-    handle: u32,
-    digest: &Digest32,
-) -> Result<IndexEntry, NoMemory>
-    ensures { IfOk result (λ entry. entry ≡ index_with_policy handle digest.now index.now) }
-{
-    if index.public.index != handle {
-        return Ok(index.exact_clone()?);
-    }
-    let auth_policy = Blob::from_slice(alloc, &digest.bytes)?;
-    let mut entry = index.exact_clone()?;
-    entry.public.auth_policy = auth_policy;
-    Ok(entry)
+    Ok(())
 }
