@@ -18,7 +18,8 @@ use Rattle.tpm_rules.specs.Entity.{Entity, auth_value_of}
 use Rattle.tpm_session.specs.Kept.{SessionView}
 use Rattle.tpm_session.specs.Slots.{session_at, state_at}
 use Rattle.tpm_session.proofs.Slots.{found-state}
-use Rattle.tpm_world.specs.Hashes.{nonce_of_event, rp_hash}
+use Rattle.tpol_wire.specs.Hashes.{rp_hash}
+use Rattle.tpm_world.specs.Hashes.{nonce_of_event}
 use Rattle.tpm_engine.specs.Authorization.{entity_stop, number_of_command, password_stop, policy_stop, reply_hmac, session_area}
 use Rattle.tpm_engine.specs.Stops.{refuses}
 use Rattle.tpm_engine.specs.Tables.{TableState}

@@ -4,7 +4,7 @@ use Rattle.std.proofs.lemmas.Bool.{false≢true}
 use Rattle.tpol_wire.specs.declared.command.Command.{Command}
 use Rattle.tpol_wire.specs.declared.command.Command.TheVariants as commands
 use Rattle.tpol_wire.specs.Replies.{spell_reply}
-use Rattle.tpm_world.specs.Handles.{is_policy_command}
+use Rattle.tpol_wire.specs.Handles.{is_policy_command}
 use Rattle.tpm_world.specs.Plain.{world_after}
 use Rattle.tpm_engine.specs.Answers.{succeeding}
 use Rattle.tpm_engine.specs.Deeds.{after_deed, command_deed, plain_deed}

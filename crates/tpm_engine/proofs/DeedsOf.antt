@@ -12,7 +12,7 @@ use Rattle.tpol_wire.specs.declared.auth_area.AuthArea.{AuthArea}
 use Rattle.tpol_wire.specs.declared.command.Command.{Command}
 use Rattle.tpol_wire.specs.declared.command.Command.TheVariants as commands
 use Rattle.tpol_wire.specs.ReplyReading.{reply_reading}
-use Rattle.tpm_world.specs.Handles.{area_of, handles_of}
+use Rattle.tpol_wire.specs.Handles.{area_of, handles_of}
 use Rattle.tpm_engine.specs.Deeds.{Deed, Idle, Loads, Restarts, Saves, Shows, Starts, command_deed, started_session}
 
 -- the session that a deed loads, saves, or acts on as a live one

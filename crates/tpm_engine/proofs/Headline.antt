@@ -22,7 +22,7 @@ use Rattle.tpm_rules.specs.Entity.{Entity, auth_policy_of, auth_value_of, is_pol
 use Rattle.tpm_rules.specs.Rule.{or_else, unless}
 use Rattle.tpm_rules.specs.Session.{is_counter_now, policy_digest_of}
 use Rattle.tpm_session.specs.Slots.{state_at}
-use Rattle.tpm_world.specs.Handles.{area_of, policy_session_of}
+use Rattle.tpol_wire.specs.Handles.{area_of, policy_session_of}
 use Rattle.tpm_engine.specs.declared.event.Event.{Event}
 use Rattle.tpm_engine.specs.Answers.{answer, answer_to_reading, answer_unless, own_rule, succeeding}
 use Rattle.tpm_engine.specs.Authorization.{authorized_entity, broken_check, field_of, number_of_command, occasion_of}

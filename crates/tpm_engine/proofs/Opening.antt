@@ -15,7 +15,7 @@ use Rattle.tpm_rules.specs.Entity.{Entity, auth_policy_of, is_policy_available}
 use Rattle.tpm_rules.specs.Rule.{or_else, unless}
 use Rattle.tpm_session.specs.Slots.{is_live, state_at}
 use Rattle.tpm_world.specs.Entities.{entity_at}
-use Rattle.tpm_world.specs.Handles.{area_of, policy_session_of}
+use Rattle.tpol_wire.specs.Handles.{area_of, policy_session_of}
 use Rattle.tpm_world.specs.World.{world_of}
 use Rattle.tpm_engine.specs.declared.event.Event.{Event}
 use Rattle.tpm_engine.specs.declared.opened.Opened.{Opened}

@@ -17,7 +17,7 @@ use Rattle.tpm_context.specs.Saved.{has_sequence}
 use Rattle.tpm_rules.specs.Rule.{or_else, unless}
 use Rattle.tpm_session.specs.Kept.{counter_after as first_counter}
 use Rattle.tpm_session.specs.Slots.{content_at, first_handle, is_live, slot_count, state_at}
-use Rattle.tpm_world.specs.Handles.{handles_of}
+use Rattle.tpol_wire.specs.Handles.{handles_of}
 use Rattle.tpm_world.specs.Hashes.{context_mac, nonce_of_event, proof_of}
 use Rattle.tpm_engine.specs.declared.event.Event.{Event}
 use Rattle.tpm_engine.specs.Answers.{early_stop, own_rule}

@@ -23,7 +23,7 @@ use Rattle.tpm_rules.specs.Entity.{Entity, is_policy_available}
 use Rattle.tpm_rules.specs.Password.{password_denial}
 use Rattle.tpm_rules.specs.Rule.{or_else, unless}
 use Rattle.tpm_world.specs.Entities.{handle_rule}
-use Rattle.tpm_world.specs.Handles.{area_of, handles_of, is_policy_command, policy_session_of}
+use Rattle.tpol_wire.specs.Handles.{area_of, handles_of, is_policy_command, policy_session_of}
 use Rattle.tpm_world.specs.Plain.{plain_rule}
 use Rattle.tpm_engine.specs.declared.closing_use.Closing.{Closing}
 use Rattle.tpm_engine.specs.declared.opened.Opened.{Opened}

@@ -25,7 +25,7 @@ use Rattle.tpm_rules.specs.Rule.{Obeys}
 use Rattle.tpm_session.specs.Kept.{SessionView, counter_after, with_fact}
 use Rattle.tpm_session.specs.Slots.{is_live, session_at, with_state}
 use Rattle.tpm_session.proofs.Slots.{found-state, put-back}
-use Rattle.tpm_world.specs.Handles.{is_policy_command, policy_session_of}
+use Rattle.tpol_wire.specs.Handles.{is_policy_command, policy_session_of}
 use Rattle.tpm_world.specs.Hashes.{proof_of}
 use Rattle.tpm_world.specs.World.{WorldState}
 use Rattle.tpm_engine.specs.Deeds.{Shows, after_deed, command_deed, plain_deed, with_shown}

@@ -13,7 +13,7 @@ use Rattle.tpm_rules.specs.declared.outcome.Outcome.TheVariants.{Served}
 use Rattle.tpm_rules.specs.Entity.{Entity, is_policy_available}
 use Rattle.tpm_rules.specs.Rule.{or_else, unless}
 use Rattle.tpm_session.specs.Slots.{is_live, state_at}
-use Rattle.tpm_world.specs.Handles.{area_of, policy_session_of}
+use Rattle.tpol_wire.specs.Handles.{area_of, policy_session_of}
 use Rattle.tpm_engine.specs.declared.stop.Stop.{Stop}
 use Rattle.tpm_engine.specs.Answers.{answer_unless, first_stop, own_rule, success_of}
 use Rattle.tpm_engine.specs.Authorization.{area_stop, authorization_stop, authorized_entity, broken_check, check_stop, entity_stop, number_of_command, password_stop, policy_stop}

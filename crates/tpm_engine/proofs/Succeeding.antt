@@ -16,7 +16,7 @@ use Rattle.tpm_rules.specs.declared.outcome.Outcome.TheVariants as outcomes
 use Rattle.tpm_rules.specs.Rule.{or_else, unless}
 use Rattle.tpm_session.specs.Slots.{is_live}
 use Rattle.tpm_world.specs.Entities.{handle_rule}
-use Rattle.tpm_world.specs.Handles.{area_of, policy_session_of}
+use Rattle.tpol_wire.specs.Handles.{area_of, policy_session_of}
 use Rattle.tpm_engine.specs.declared.event.Event.{Event}
 use Rattle.tpm_engine.specs.declared.event.Event.TheVariants as events
 use Rattle.tpm_engine.specs.declared.stop.Stop.{Stop}

@@ -9,7 +9,7 @@ use Rattle.tpol_wire.specs.Replies.{spell_reply}
 use Rattle.tpm_rules.specs.declared.outcome.Outcome.{Outcome}
 use Rattle.tpm_rules.specs.declared.outcome.Outcome.TheVariants.{Accepted, Served}
 use Rattle.tpm_rules.specs.Rule.{or_else}
-use Rattle.tpm_world.specs.Handles.{area_of, is_policy_command}
+use Rattle.tpol_wire.specs.Handles.{area_of, is_policy_command}
 use Rattle.tpm_world.specs.Plain.{plain_reply, plain_rule}
 use Rattle.tpm_engine.specs.declared.opened.Opened.{Opened}
 use Rattle.tpm_engine.specs.declared.stop.Stop.{Stop}

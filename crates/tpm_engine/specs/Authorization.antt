@@ -27,8 +27,9 @@ use Rattle.tpm_rules.specs.Password.{password_denial, unavailable_password_code,
 use Rattle.tpm_rules.specs.Rule.{or_else, unless}
 use Rattle.tpm_session.specs.Slots.{state_at}
 use Rattle.tpm_world.specs.Entities.{entity_at}
-use Rattle.tpm_world.specs.Handles.{area_of, handles_of}
-use Rattle.tpm_world.specs.Hashes.{cp_hash, name_hash, nonce_of_event, rp_hash}
+use Rattle.tpol_wire.specs.Handles.{area_of, handles_of}
+use Rattle.tpol_wire.specs.Hashes.{rp_hash}
+use Rattle.tpm_world.specs.Hashes.{cp_hash, name_hash, nonce_of_event}
 use Rattle.tpm_engine.specs.declared.stop.Stop.{Stop}
 use Rattle.tpm_engine.specs.Stops.{authorizing_session, denies, refuses}
 use Rattle.tpm_engine.specs.Tables.{TableState}

@@ -4,7 +4,7 @@ use Rattle.tpol_base.specs.Handle.{rs_pw}
 use Rattle.tpol_wire.specs.declared.auth_area.AuthArea.{AuthArea}
 use Rattle.tpol_wire.specs.declared.command.Command.{Command}
 use Rattle.tpm_session.specs.Slots.{state_at}
-use Rattle.tpm_world.specs.Handles.{area_of}
+use Rattle.tpol_wire.specs.Handles.{area_of}
 use Rattle.tpm_engine.specs.declared.closing_use.Closing.{Closing}
 use Rattle.tpm_engine.specs.declared.opened.Opened.{Opened}
 use Rattle.tpm_engine.specs.Authorization.{authorized_handle}

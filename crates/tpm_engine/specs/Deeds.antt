@@ -17,7 +17,7 @@ use Rattle.tpm_bindings.specs.State.{SessionState}
 use Rattle.tpm_nv.specs.Indices.{incremented_at, written_at}
 use Rattle.tpm_pcr.specs.Pcrs.{extended}
 use Rattle.tpm_session.specs.Kept.{state_of, with_fact, with_nonce, without_facts}
-use Rattle.tpm_world.specs.Handles.{area_of}
+use Rattle.tpol_wire.specs.Handles.{area_of}
 use Rattle.tpm_world.specs.Hashes.{nonce_of_event}
 use Rattle.tpm_world.specs.Surroundings.{passed, reset, with_presence}
 use Rattle.tpm_world.specs.World.{WorldState}

@@ -41,7 +41,7 @@ use Rattle.tpm_rules.specs.PolicyTicket.{policy_ticket_rule}
 use Rattle.tpm_rules.specs.Rule.{or_else}
 use Rattle.tpm_session.specs.Slots.{state_at}
 use Rattle.tpm_world.specs.Entities.{name_at}
-use Rattle.tpm_world.specs.Handles.{policy_session_of}
+use Rattle.tpol_wire.specs.Handles.{policy_session_of}
 use Rattle.tpm_world.specs.Hashes.{proof_of}
 use Rattle.tpm_world.specs.Missing.{rule_of_index, rule_of_object}
 use Rattle.tpm_world.specs.World.{WorldState, clock_of}

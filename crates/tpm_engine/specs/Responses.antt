@@ -7,7 +7,7 @@ use Rattle.tpol_wire.specs.declared.command.Command.TheVariants as commands
 use Rattle.tpm_bindings.specs.Agreement.{Agree}
 use Rattle.tpm_bindings.specs.Facts.{moves_of}
 use Rattle.tpm_rules.specs.Rule.{or_else}
-use Rattle.tpm_world.specs.Handles.{area_of, is_policy_command}
+use Rattle.tpol_wire.specs.Handles.{area_of, is_policy_command}
 use Rattle.tpm_world.specs.Plain.{plain_rule}
 use Rattle.tpm_world.specs.World.{WorldState}
 use Rattle.tpm_engine.specs.declared.opened.Opened.{Opened}

@@ -11,7 +11,7 @@ use Rattle.tpm_rules.specs.declared.outcome.Outcome.TheVariants.{Denied, Refused
 use Rattle.tpm_rules.specs.Rule.{or_else, unless}
 use Rattle.tpm_session.specs.Slots.{is_live, state_at}
 use Rattle.tpm_world.specs.Entities.{handle_rule}
-use Rattle.tpm_world.specs.Handles.{area_of, handles_of, policy_session_of}
+use Rattle.tpol_wire.specs.Handles.{area_of, handles_of, policy_session_of}
 use Rattle.tpm_engine.specs.declared.stop.Stop.{Stop}
 use Rattle.tpm_engine.specs.Tables.{TableState}
 

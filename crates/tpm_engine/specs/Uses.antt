@@ -19,7 +19,7 @@ use Rattle.tpm_rules.specs.declared.outcome.Outcome.{Outcome}
 use Rattle.tpm_rules.specs.declared.outcome.Outcome.TheVariants.{Denied}
 use Rattle.tpm_rules.specs.Entity.{Entity, is_policy_available}
 use Rattle.tpm_session.specs.Slots.{is_live}
-use Rattle.tpm_world.specs.Handles.{area_of, policy_session_of}
+use Rattle.tpol_wire.specs.Handles.{area_of, policy_session_of}
 use Rattle.tpm_engine.specs.declared.event.Event.{Event}
 use Rattle.tpm_engine.specs.Answers.{own_rule}
 use Rattle.tpm_engine.specs.Authorization.{authorized_entity, broken_check, number_of_command}

@@ -3,6 +3,7 @@
 ghost use Rattle.std.specs.Prelude.{◌≡◌, IfOk};
 ghost use Rattle.tpm_auth.specs.SessionMacs as macs;
 ghost use Rattle.tpm_rules.specs.EntityView.{entity_of};
+ghost use Rattle.tpol_wire.specs.Hashes.{rp_hash};
 ghost use Rattle.tpm_world.specs.Hashes as hashes;
 ghost use Rattle.tpm_engine.specs.Authorization as spec;
 
@@ -14,17 +15,16 @@ use tpm_bindings::LastAuth;
 use tpm_deferred::{Attempt, check_use, code_of_check};
 use tpm_rules::{Denial, Entity, password_denial, unavailable_password_code, wrong_password_code};
 use tpm_session::Session;
-use tpm_world::{area_of, handles_of, rp_hash};
 use tpol_base::handle::TPM_RS_PW;
 use tpol_base::response_code::{AUTH_UNAVAILABLE, REFERENCE_S0, reference_of_handle};
 use tpol_base::{Blob, Check, CommandCode, Digest32, NoMemory};
-use tpol_wire::{AuthArea, Command, Reply, ReplyAuth, code_of};
+use tpol_wire::{AuthArea, Command, Reply, ReplyAuth, code_of, rp_hash};
 
 // The handle that is authorized: the first, and 0 where there is none.
 pub fn authorized_handle(command: &Command) -> u32
     ensures { result ≡ spec.authorized_handle command.now }
 {
-    match handles_of(command).as_slice().first() {
+    match command.handles().as_slice().first() {
         Some(handle) => *handle,
         None => 0,
     }
@@ -40,7 +40,7 @@ impl Tables {
     ) -> Result<Option<Stop>, NoMemory>
         ensures { IfOk result (λ stop. stop ≡ spec.authorization_stop self.now locality command.now) }
     {
-        match area_of(command) {
+        match command.area() {
             Some(area) => self.area_stop(alloc, locality, command, area),
             None => Ok(None),
         }
@@ -147,7 +147,7 @@ impl Tables {
     ) -> Result<Option<ReplyAuth>, NoMemory>
         ensures { IfOk result (λ auth. auth ≡ spec.reply_auth self.now number command.now reply.now) }
     {
-        match area_of(command) {
+        match command.area() {
             Some(area) => self.reply_area(alloc, number, command, reply, area),
             None => Ok(None),
         }
@@ -255,7 +255,7 @@ fn reply_hmac(
     nonce: &Digest32,
 ) -> Result<Blob, NoMemory>
     ensures { IfOk result (λ hmac. hmac ≡ spec.reply_hmac last value.now area.now.hmac
-        (λ key. macs.reply_mac key (hashes.rp_hash code reply.now) nonce.now area.now.nonce area.now.attributes)) }
+        (λ key. macs.reply_mac key (rp_hash code reply.now) nonce.now area.now.nonce area.now.attributes)) }
 {
     let key = match last {
         LastAuth::Password => return Ok(Blob::new(alloc)),

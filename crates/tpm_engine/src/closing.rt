@@ -12,7 +12,6 @@ use crate::authorization::authorized_handle;
 use crate::{Closing, Opened, Tables};
 use std::alloc::Global;
 use tpm_session::fresh_facts;
-use tpm_world::area_of;
 use tpol_base::NoMemory;
 use tpol_base::handle::TPM_RS_PW;
 use tpol_wire::Command;
@@ -21,7 +20,7 @@ use tpol_wire::Command;
 pub fn closing_of(alloc: Global, command: &Command) -> Result<Option<Closing>, NoMemory>
     ensures { IfOk result (λ closing. closing ≡ spec.closing_of command.now) }
 {
-    match area_of(command) {
+    match command.area() {
         Some(area) if area.session != TPM_RS_PW => Ok(Some(Closing {
             session: area.session,
             keep: area.attributes & 1 == 1,

@@ -3,7 +3,7 @@
 ghost use Rattle.std.specs.Prelude.{◌≡◌, false, None, IfOk, OnErr, OnOk};
 ghost use Rattle.tpol_wire.specs.Commands.{FitsCommand};
 ghost use Rattle.tpm_rules.specs.Rule.{Obeys};
-ghost use Rattle.tpm_world.specs.Handles.{is_policy_command};
+ghost use Rattle.tpol_wire.specs.Handles.{is_policy_command};
 ghost use Rattle.tpm_engine.specs.Answers.{own_rule, reply_to, succeeding};
 ghost use Rattle.tpm_engine.specs.Deeds.{after_deed, command_deed};
 ghost use Rattle.tpm_engine.specs.Responses.{checked_rule, first_facts};
@@ -12,7 +12,6 @@ ghost use Rattle.tpm_engine.specs.Stops.{room_stop};
 use crate::Tables;
 use crate::session_commands::is_session_command;
 use std::alloc::Global;
-use tpm_world::policy_session_of;
 use tpol_base::{NoMemory, Rc};
 use tpol_tree::Facts;
 use tpol_wire::{Command, Reply};
@@ -23,7 +22,7 @@ impl Tables {
     pub(crate) fn checked_rule(&self, command: &Command) -> Result<(), Rc>
         ensures rule { Obeys result (checked_rule self.now command.now) }
     {
-        if policy_session_of(command).is_some() || is_session_command(command) {
+        if command.policy_session().is_some() || is_session_command(command) {
             return Ok(());
         }
         self.world.plain_rule(command)
@@ -39,7 +38,7 @@ impl Tables {
         requires checked { checked_rule self.now command.now ≡ None }
         ensures reply { IfOk result (λ reply. reply ≡ reply_to self.now number command.now) }
     {
-        if policy_session_of(command).is_some() {
+        if command.policy_session().is_some() {
             return self.policy_reply(alloc, command);
         }
         if is_session_command(command) {
@@ -65,7 +64,7 @@ impl Tables {
         ensures tables { OnOk result (self.new ≡ after_deed number (command_deed command (succeeding self.old number command).reply) self.old) }
         ensures err { OnErr result (self.new ≡ self.old) }
     {
-        if policy_session_of(&command).is_some() {
+        if command.policy_session().is_some() {
             return self.show(alloc, number, command);
         }
         let done = self.carry_out_other(number, &command, facts);

@@ -8,7 +8,6 @@ ghost use Rattle.tpm_engine.specs.Stops as spec;
 
 use crate::{Stop, Tables};
 use tpm_rules::{Denial, Outcome};
-use tpm_world::{area_of, handles_of, policy_session_of};
 use tpol_base::handle::TPM_RS_PW;
 use tpol_base::response_code::{
     REFERENCE_S0, SESSION_MEMORY, VALUE, of_handle, reference_of_handle,
@@ -40,7 +39,7 @@ pub fn denies(denial: Denial, code: u32) -> Stop
 pub fn authorizing_session(command: &Command) -> Option<u32>
     ensures { result ≡ spec.authorizing_session command.now }
 {
-    match area_of(command) {
+    match command.area() {
         Some(area) if area.session != TPM_RS_PW => Some(area.session),
         _ => None,
     }
@@ -51,7 +50,7 @@ impl Tables {
     pub(crate) fn handles_stop(&self, command: &Command) -> Option<Stop>
         ensures { result ≡ spec.handles_stop self.now command.now }
     {
-        let handles = handles_of(command);
+        let handles = command.handles();
         let mut n = 1;
         for handle in handles.as_slice() {
             if let Some(stop) = self.handle_stop(n, *handle) {
@@ -100,7 +99,7 @@ impl Tables {
         if self.sessions.find(session).is_none() {
             return Some(refuses(REFERENCE_S0));
         }
-        match policy_session_of(command) {
+        match command.policy_session() {
             Some((own, n)) if own == session => Some(refuses(VALUE + of_handle(n))),
             _ => None,
         }
@@ -110,7 +109,7 @@ impl Tables {
     pub(crate) fn room_stop(&self, command: &Command) -> Option<Stop>
         ensures { result ≡ spec.room_stop self.now command.now }
     {
-        let (own, _) = policy_session_of(command)?;
+        let (own, _) = command.policy_session()?;
         let session = self.sessions.find(own)?;
         if session.room() == 0 {
             Some(refuses(SESSION_MEMORY))

@@ -6,13 +6,12 @@ ghost use Rattle.tpol_wire.specs.Commands.{FitsCommand};
 ghost use Rattle.tpm_bindings.specs.State.{SessionState};
 ghost use Rattle.tpm_policy.specs.Asserted.{asserted};
 ghost use Rattle.tpm_rules.specs.Rule.{Obeys};
-ghost use Rattle.tpm_world.specs.Handles.{is_policy_command};
+ghost use Rattle.tpol_wire.specs.Handles.{is_policy_command};
 ghost use Rattle.tpm_engine.specs.Deeds.{after_deed, command_deed};
 ghost use Rattle.tpm_engine.specs.Facts.{moment, shown_by};
 ghost use Rattle.tpm_engine.specs.PolicyCommands as spec;
 ghost use Rattle.tpm_engine.specs.Responses.{kept_counter};
 ghost use Rattle.tpm_engine.specs.Stops.{room_stop};
-ghost use Rattle.tpm_world.specs.Missing as missing;
 ghost use Rattle.tpm_world.specs.World.{WorldState};
 
 mod policy_authorize;
@@ -32,8 +31,8 @@ use tpm_policy::{
     assert_password, assert_presence,
 };
 use tpm_session::Session;
-use tpm_world::{World, policy_session_of};
-use tpol_base::response_code::{HANDLE, REFERENCE_H0, of_handle, reference_of_handle};
+use tpm_world::World;
+use tpol_base::response_code::REFERENCE_H0;
 use tpol_base::{NoMemory, Rc};
 use tpol_wire::{Command, Reply};
 
@@ -48,7 +47,7 @@ impl Tables {
         ensures tables { (reply : List ℕ) → OnOk result (self.new ≡ after_deed number (command_deed command reply) self.old) }
         ensures err { OnErr result (self.new ≡ self.old) }
     {
-        let Some((handle, _)) = policy_session_of(&command) else {
+        let Some((handle, _)) = command.policy_session() else {
             unreachable!();
         };
         let Some(mut session) = self.sessions.take_out(handle) else {
@@ -114,31 +113,13 @@ impl Tables {
         ensures start { result ≡ spec.policy_start self.now command.now }
         ensures early { result ≤ 2 ^ 63 }
     {
-        match policy_session_of(command) {
+        match command.policy_session() {
             Some((handle, _)) => match self.sessions.find(handle) {
                 Some(session) => session.start(),
                 None => 0,
             },
             None => 0,
         }
-    }
-}
-
-// The refusal of a command whose second handle is an index that is not there.
-fn missing_index() -> Rc
-    ensures { result.code ≡ missing.missing_index }
-{
-    Rc {
-        code: HANDLE + of_handle(2),
-    }
-}
-
-// The refusal of a command whose first handle is an object that is not there.
-fn missing_object() -> Rc
-    ensures { result.code ≡ missing.missing_object }
-{
-    Rc {
-        code: reference_of_handle(1),
     }
 }
 

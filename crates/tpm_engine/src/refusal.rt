@@ -2,13 +2,12 @@
 
 ghost use Rattle.std.specs.Prelude.{◌≡◌, None};
 ghost use Rattle.tpol_wire.specs.declared.reply.Reply.TheVariants.{Refused};
-ghost use Rattle.tpol_wire.specs.Replies.{refusal_tag, spell_reply};
+ghost use Rattle.tpol_wire.specs.Replies.{spell_reply};
 
 use std::alloc::Global;
 use std::marker::Model;
-use tpol_base::constants::{TPM_ST_NO_SESSIONS, TPM_ST_RSP_COMMAND};
-use tpol_base::response_code::BAD_TAG;
 use tpol_base::{Blob, NoMemory, Rc};
+use tpol_wire::refusal_tag;
 
 /// Room for the ten bytes of a refusal.
 #[derive(Drop)]
@@ -49,19 +48,8 @@ fn bytes_of(rc: Rc) -> [u8; 10]
     ensures { result ≡ spell_reply (Refused rc) None }
 {
     let mut bytes = [0; 10];
-    bytes[..2].copy_from_slice(&tag_of(rc.code).to_be_bytes());
+    bytes[..2].copy_from_slice(&refusal_tag(rc.code).to_be_bytes());
     bytes[2..6].copy_from_slice(&10u32.to_be_bytes());
     bytes[6..].copy_from_slice(&rc.code.to_be_bytes());
     bytes
-}
-
-// The tag of a refusal: that of TPM 1.2 where the tag was refused.
-fn tag_of(code: u32) -> u16
-    ensures { result ≡ refusal_tag code }
-{
-    if code == BAD_TAG {
-        TPM_ST_RSP_COMMAND
-    } else {
-        TPM_ST_NO_SESSIONS
-    }
 }

@@ -21,7 +21,6 @@ use crate::{Responded, Stop, Tables};
 use std::alloc::Global;
 use tpm_rules::Outcome;
 use tpm_session::fresh_facts;
-use tpm_world::area_of;
 use tpol_base::{Blob, NoMemory, Rc};
 use tpol_tree::Facts;
 use tpol_wire::{Command, Reply, WireFault, read_command, write_reply};
@@ -249,7 +248,7 @@ fn first_facts(alloc: Global, command: &Command) -> Result<Option<Facts>, NoMemo
 fn success_of(command: &Command) -> Outcome
     ensures { result ≡ spec.success_of command.now }
 {
-    if area_of(command).is_some() {
+    if command.area().is_some() {
         Outcome::Served
     } else {
         Outcome::Accepted

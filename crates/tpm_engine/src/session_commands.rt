@@ -2,7 +2,6 @@
 
 ghost use Rattle.std.specs.Prelude.{◌≡◌, None, true, OnErr, OnOk};
 ghost use Rattle.tpol_wire.specs.Replies.{spell_reply};
-ghost use Rattle.tpm_rules.specs.Rule as rules;
 ghost use Rattle.tpm_rules.specs.Rule.{Obeys};
 ghost use Rattle.tpm_engine.specs.Deeds.{after_deed, plain_deed};
 ghost use Rattle.tpm_engine.specs.Responses.{first_facts};
@@ -33,13 +32,6 @@ pub fn is_session_command(command: &Command) -> bool
         | Command::PolicyGetDigest { .. } => true,
         _ => false,
     }
-}
-
-// A rule: nothing where it holds, else the response code of its being broken.
-fn unless(holds: bool, code: u32) -> Result<(), Rc>
-    ensures { Obeys result (rules.unless holds code) }
-{
-    if holds { Ok(()) } else { Err(Rc { code }) }
 }
 
 impl Tables {

@@ -59,4 +59,5 @@ pub use policy_pcr::policy_pcr_rule;
 pub use policy_secret::policy_secret_rule;
 pub use policy_signed::policy_signed_rule;
 pub use policy_ticket::policy_ticket_rule;
+pub use rule::unless;
 pub use standing::Standing;

@@ -11,7 +11,9 @@ use Rattle.tpol_wire.specs.declared.reply.Reply.TheVariants.{Unseal as UnsealRep
 use Rattle.tpol_wire.specs.Commands.{spell_values}
 use Rattle.tpol_fields.specs.Kinds.{spell}
 use Rattle.tpm_world.specs.Duplicate.{sensitive_of}
-use Rattle.tpm_world.specs.Hashes.{context_mac, cp_hash, joined_names, name_hash, nonce_of_event, proof_of, rp_hash}
+use Rattle.tpol_wire.specs.Hashes.{cp_hash, joined_names, name_hash, rp_hash}
+use Rattle.tpm_world.specs.Entities.{name_at}
+use Rattle.tpm_world.specs.Hashes.{context_mac, nonce_of_event, proof_of}
 use Rattle.tpol_base.specs.Pcr.{mask_of_pcrs}
 use Rattle.tpm_world.specs.PcrRead.{read_pcrs, selected_pcrs}
 use Rattle.tpm_world.specs.Surroundings.{counted_on}
@@ -71,13 +73,13 @@ world = record {
 password : AuthArea
 password = record { session = 0x40000009; nonce = []; attributes = 0; hmac = [] }
 
-its_cp_hash : (cp_hash world (UnsealCommand 0x80000000 password)).bytes ≡
+its_cp_hash : (cp_hash (name_at world) (UnsealCommand 0x80000000 password)).bytes ≡
     0xb0 ∷ 0xc7 ∷ 0x72 ∷ 0xcd ∷ 0x5c ∷ 0x8f ∷ 0xda ∷ 0x57 ∷ 0x32 ∷ 0xa1 ∷ 0x8f ∷ 0x5e ∷ 0x30 ∷ 0x86 ∷ 0xb1 ∷ 0x48 ∷
     0xec ∷ 0x71 ∷ 0x64 ∷ 0xe5 ∷ 0x4d ∷ 0x32 ∷ 0xd2 ∷ 0x5e ∷ 0x9c ∷ 0x63 ∷ 0x56 ∷ 0x95 ∷ 0x40 ∷ 0xaa ∷ 0x7a ∷ 0x7a ∷ []
 unfolding sealed world cp_hash joined_names spell_values spell first_words schedule rounds compress hash_after digest_bytes sha256
 its_cp_hash = refl
 
-its_name_hash : (name_hash world (UnsealCommand 0x80000000 password)).bytes ≡
+its_name_hash : (name_hash (name_at world) (UnsealCommand 0x80000000 password)).bytes ≡
     0xf1 ∷ 0xa5 ∷ 0xa4 ∷ 0x37 ∷ 0x2d ∷ 0x10 ∷ 0x88 ∷ 0x2d ∷ 0x1d ∷ 0x55 ∷ 0x3b ∷ 0x90 ∷ 0x9e ∷ 0x8a ∷ 0x89 ∷ 0x84 ∷
     0x3d ∷ 0x5a ∷ 0xbe ∷ 0xe1 ∷ 0xca ∷ 0x0c ∷ 0xb2 ∷ 0x53 ∷ 0x3b ∷ 0x3f ∷ 0x08 ∷ 0x22 ∷ 0xc3 ∷ 0xdf ∷ 0xd6 ∷ 0x61 ∷ []
 unfolding sealed world name_hash joined_names first_words schedule rounds compress hash_after digest_bytes sha256

@@ -1,37 +1,27 @@
--- Hashes that a machine makes: of commands and replies (TPM 2.0 Part 1, "cpHash", "nameHash", "rpHash"), and
--- its nonces, its proof and the HMACs of saved sessions, which here are functions of the seed.
+-- Hashes that a machine makes: of commands, whose handles have the Names that the machine's entities have now
+-- (TPM 2.0 Part 1, "cpHash", "nameHash"), and its nonces, its proof and the HMACs of saved sessions, which here
+-- are functions of the seed.
 use Rattle.std.specs.Prelude.{ℕ, List, [], ◌∷◌, ◌++◌}
 use Rattle.std.specs.Int.{to_be_bytes, w32, w64}
-use Rattle.std.specs.List.{flat_map}
 use Rattle.tpol_base.specs.declared.digest.Digest32.{Digest32}
-use Rattle.tpol_base.specs.CommandCode.{number_of_code}
-use Rattle.tpol_base.specs.Name.{name_bytes}
 use Rattle.tpol_hash.specs.Hmac.{hmac_sha256}
 use Rattle.tpol_hash.specs.Sha256.{sha256_digest}
 use Rattle.tpol_wire.specs.declared.command.Command.{Command}
-use Rattle.tpol_wire.specs.declared.reply.Reply.{Reply}
-use Rattle.tpol_wire.specs.Commands.{code_of_command, spell_parameters}
-use Rattle.tpol_wire.specs.Replies.{reply_fields_of}
+use Rattle.tpol_wire.specs.Hashes as wire
 use Rattle.tpm_world.specs.Entities.{name_at}
-use Rattle.tpm_world.specs.Handles.{handles_of}
 use Rattle.tpm_world.specs.World.{WorldState}
 
 -- the Names of these handles, joined
-unfoldable pub joined_names : WorldState → List ℕ → List ℕ
-joined_names world handles = flat_map (λ handle. name_bytes (name_at world handle)) handles
+abbrev pub joined_names : WorldState → List ℕ → List ℕ
+joined_names world handles = wire.joined_names (name_at world) handles
 
--- cpHash: H(code || Names of the handles || parameters)
-unfoldable pub cp_hash : WorldState → Command → Digest32
-cp_hash world command =
-    sha256_digest (to_be_bytes w32 (number_of_code (code_of_command command)) ++ joined_names world (handles_of command) ++ spell_parameters command)
+-- cpHash
+abbrev pub cp_hash : WorldState → Command → Digest32
+cp_hash world command = wire.cp_hash (name_at world) command
 
--- nameHash: H(Names of the handles)
-unfoldable pub name_hash : WorldState → Command → Digest32
-name_hash world command = sha256_digest (joined_names world (handles_of command))
-
--- rpHash: H(00000000 || code || fields of the reply)
-unfoldable pub rp_hash : ℕ → Reply → Digest32
-rp_hash code reply = sha256_digest (to_be_bytes w32 0 ++ to_be_bytes w32 code ++ reply_fields_of reply)
+-- nameHash
+abbrev pub name_hash : WorldState → Command → Digest32
+name_hash world command = wire.name_hash (name_at world) command
 
 -- the nonce that a session gets of an event: H(seed || "NONC" || event)
 unfoldable pub nonce_of_event : Digest32 → ℕ → Digest32

@@ -1,6 +1,5 @@
 pub mod Duplicate
 pub mod Entities
-pub mod Handles
 pub mod Hashes
 pub mod Hmac
 pub mod Missing

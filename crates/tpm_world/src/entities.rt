@@ -6,8 +6,7 @@ ghost use Rattle.tpm_rules.specs.Rule.{Obeys};
 ghost use Rattle.tpm_world.specs.Entities as spec;
 
 use crate::World;
-use crate::rule::unless;
-use tpm_rules::Entity;
+use tpm_rules::{Entity, unless};
 use tpol_base::response_code::{HANDLE, of_handle, reference_of_handle};
 use tpol_base::{HandleKind, Name, Rc};
 use tpol_name::{nv_name, object_name};

@@ -1,21 +1,20 @@
-//! Hashes of commands and replies, and the machine's nonces, proof and HMACs of saved sessions.
+//! Hashes of commands, and the machine's nonces, proof and HMACs of saved sessions.
 
 ghost use Rattle.std.specs.Prelude.{◌≡◌, ℕ, List, ◌++◌, IfOk};
 ghost use Rattle.tpol_hash.specs.Messages.{Holds};
-ghost use Rattle.tpm_world.specs.Handles.{handles_of};
+ghost use Rattle.tpol_wire.specs.Handles.{handles_of};
 ghost use Rattle.tpm_world.specs.Hashes as spec;
 
 use crate::World;
-use crate::handles::handles_of;
 use std::alloc::Global;
 use tpol_base::{Digest32, NoMemory};
 use tpol_hash::{Hasher, Mac};
-use tpol_wire::{Command, Reply, code_of, fields_of, parameters_of};
+use tpol_wire::{Command, code_of, parameters_of};
 
 impl World {
     /// The cpHash of a command: the hash of its code, the Names of its handles and its parameters
     /// (TPM 2.0 Part 1, "cpHash").
-    #[tactic(auto, unfolding(crate::specs::Hashes::cp_hash))]
+    #[tactic(auto, unfolding(tpol_wire::specs::Hashes::cp_hash))]
     pub fn cp_hash(&self, alloc: Global, command: &Command) -> Result<Digest32, NoMemory>
         ensures hash { IfOk result (λ hash. hash ≡ spec.cp_hash self.now command.now) }
     {
@@ -28,7 +27,7 @@ impl World {
     }
 
     /// The nameHash of a command: the hash of the Names of its handles (TPM 2.0 Part 3, TPM2_PolicyNameHash).
-    #[tactic(auto, unfolding(crate::specs::Hashes::name_hash))]
+    #[tactic(auto, unfolding(tpol_wire::specs::Hashes::name_hash))]
     pub fn name_hash(&self, command: &Command) -> Digest32
         ensures hash { result ≡ spec.name_hash self.now command.now }
     {
@@ -41,25 +40,11 @@ impl World {
     fn put_names(&self, hasher: &mut Hasher, command: &Command)
         ensures longer { (m : List ℕ) → Holds hasher.old m → Holds hasher.new (m ++ spec.joined_names self.now (handles_of command.now)) }
     {
-        let handles = handles_of(command);
+        let handles = command.handles();
         for handle in handles.as_slice() {
             hasher.put_name(&self.name_of(*handle));
         }
     }
-}
-
-/// The rpHash of a reply to the command of this code, where it succeeds: the hash of the response code, the
-/// command code and the reply's fields (TPM 2.0 Part 1, "rpHash").
-#[tactic(auto, unfolding(crate::specs::Hashes::rp_hash))]
-pub fn rp_hash(alloc: Global, code: u32, reply: &Reply) -> Result<Digest32, NoMemory>
-    ensures hash { IfOk result (λ hash. hash ≡ spec.rp_hash code reply.now) }
-{
-    let fields = fields_of(alloc, reply)?;
-    let mut hasher = Hasher::new();
-    hasher.put(&0u32.to_be_bytes());
-    hasher.put(&code.to_be_bytes());
-    hasher.put(fields.as_slice());
-    Ok(hasher.done())
 }
 
 /// The nonce that a session gets that is started or used at this event: the hash of the seed, `4e4f4e43` and

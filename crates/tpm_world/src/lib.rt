@@ -8,13 +8,12 @@
 
 mod commands;
 mod entities;
-mod handles;
 mod hashes;
+mod missing;
 mod objects;
 mod plain;
-mod rule;
 mod world;
 
-pub use handles::{Handles, area_of, handles_of, policy_session_of};
-pub use hashes::{context_mac, rp_hash};
+pub use hashes::context_mac;
+pub use missing::{missing_index, missing_object};
 pub use world::World;

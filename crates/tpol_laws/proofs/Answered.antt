@@ -15,7 +15,7 @@ use Rattle.tpol_wire.proofs.CommandLaws.{command_read}
 use Rattle.tpol_wire.proofs.ReplyLaws.{reply_read}
 use Rattle.tpm_rules.specs.declared.outcome.Outcome.{Outcome}
 use Rattle.tpm_rules.specs.declared.outcome.Outcome.TheVariants.{Accepted, Denied, Refused, Served}
-use Rattle.tpm_world.specs.Handles.{area_of}
+use Rattle.tpol_wire.specs.Handles.{area_of}
 use Rattle.tpm_engine.specs.declared.event.Event.{Event}
 use Rattle.tpm_engine.specs.declared.stop.Stop.{Stop}
 use Rattle.tpm_engine.specs.Answers.{answer, answer_to_reading, answer_unless, early_stop, first_stop, own_rule, stopped, succeeding, success_of}

@@ -27,7 +27,7 @@ use Rattle.tpm_rules.specs.PolicySigned.{policy_signed_rule}
 use Rattle.tpm_rules.specs.Rule.{or_else, unless}
 use Rattle.tpm_session.specs.Slots.{state_at}
 use Rattle.tpm_world.specs.Entities.{entity_at}
-use Rattle.tpm_world.specs.Handles.{area_of, handles_of, policy_session_of}
+use Rattle.tpol_wire.specs.Handles.{area_of, handles_of, policy_session_of}
 use Rattle.tpm_world.specs.Hashes.{proof_of}
 use Rattle.tpm_world.specs.Missing.{missing_index, missing_object}
 use Rattle.tpm_world.specs.Objects.{object_of}

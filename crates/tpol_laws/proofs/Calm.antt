@@ -11,7 +11,7 @@ use Rattle.tpol_wire.specs.declared.command.Command.{Command}
 use Rattle.tpol_wire.specs.declared.command.Command.TheVariants as commands
 use Rattle.tpol_wire.specs.Reading.{reading}
 use Rattle.tpm_session.specs.Slots.{handle_of_slot}
-use Rattle.tpm_world.specs.Handles.{area_of, handles_of}
+use Rattle.tpol_wire.specs.Handles.{area_of, handles_of}
 use Rattle.tpm_engine.specs.declared.event.Event.{Event}
 use Rattle.tpm_engine.specs.declared.event.Event.TheVariants as events
 use Rattle.tpm_engine.specs.Answers.{first_stop, succeeding}

@@ -25,7 +25,8 @@ use Rattle.tpm_rules.specs.Entity.{Entity, auth_policy_of, auth_value_of, is_pol
 use Rattle.tpm_rules.specs.Rule.{unless}
 use Rattle.tpm_session.specs.Slots.{IsSlotHandle, bits_of, free_count, state_at}
 use Rattle.tpm_world.specs.Entities.{entity_at}
-use Rattle.tpm_world.specs.Hashes.{cp_hash, joined_names, nonce_of_event, rp_hash}
+use Rattle.tpol_wire.specs.Hashes.{rp_hash}
+use Rattle.tpm_world.specs.Hashes.{cp_hash, joined_names, nonce_of_event}
 use Rattle.tpm_world.specs.Plain.{plain_reply}
 use Rattle.tpm_world.specs.World.{sight_of}
 use Rattle.tpol_base.specs.declared.command_code.CommandCode.{CommandCode}

@@ -51,7 +51,7 @@ use Rattle.tpm_rules.specs.Objects.{duplicate_rule, hmac_rule, unseal_rule}
 use Rattle.tpm_rules.specs.Rule.{or_else}
 use Rattle.tpm_world.specs.Duplicate.{sensitive_of}
 use Rattle.tpm_world.specs.Entities.{entity_at, name_at}
-use Rattle.tpm_world.specs.Hashes.{joined_names}
+use Rattle.tpol_wire.specs.Hashes.{joined_names}
 use Rattle.tpm_world.specs.Missing.{missing_index, missing_object}
 use Rattle.tpm_world.specs.Plain.{plain_reply, plain_rule}
 use Rattle.tpm_world.specs.World.{sight_of}
@@ -79,8 +79,8 @@ pub record IsGoalAt (setup : Setup) (tables : TableState) (free : ℕ) (goal : G
   pub entity : entity_at tables.world (entity_of_goal goal) ≡ Some found.found.entity
   pub value : IsAuthValue (auth_value_of found.found.entity)
   pub there : handles_from tables 1 (handles_of_goal goal) ≡ None
-  pub seen : joined_names tables.world (handles_of_goal goal) ≡ name_list (sight_of tables.world free) goal
-  pub listed : IsNameListed found → flat_map name_bytes (names_of_goal (directory_of setup) goal) ≡ joined_names tables.world (handles_of_goal goal)
+  pub seen : joined_names (name_at tables.world) (handles_of_goal goal) ≡ name_list (sight_of tables.world free) goal
+  pub listed : IsNameListed found → flat_map name_bytes (names_of_goal (directory_of setup) goal) ≡ joined_names (name_at tables.world) (handles_of_goal goal)
   pub rule : (area : AuthArea) → plain_rule tables.world (command_of_goal goal area) ≡ found.rule
   pub fits : found.rule ≡ None → (area : AuthArea) → AreaFits area → FitsCommand (command_of_goal goal area)
   pub reply : (area : AuthArea) → IsGoalReply goal (plain_reply tables.world (command_of_goal goal area))
@@ -116,12 +116,12 @@ module _ (setup : Setup) (tables : TableState) (free : ℕ) where
 
   -- the Names as the machine joins them
   seen-one : (handle : ℕ) (now listed : Name) → IsThere setup tables free handle now listed
-      → joined_names tables.world (handle ∷ []) ≡ name_bytes (name_in_sight (sight_of tables.world free) handle) ++ []
+      → joined_names (name_at tables.world) (handle ∷ []) ≡ name_bytes (name_in_sight (sight_of tables.world free) handle) ++ []
   unfolding joined_names
   seen-one handle now listed at = ap (λ name. name_bytes name ++ []) (at.is_now ∙ sym at.is_seen)
 
   seen-two : (one two : ℕ) (now now_two listed listed_two : Name) → IsThere setup tables free one now listed → IsThere setup tables free two now_two listed_two
-      → joined_names tables.world (one ∷ two ∷ []) ≡ name_bytes (name_in_sight (sight_of tables.world free) one) ++ (name_bytes (name_in_sight (sight_of tables.world free) two) ++ [])
+      → joined_names (name_at tables.world) (one ∷ two ∷ []) ≡ name_bytes (name_in_sight (sight_of tables.world free) one) ++ (name_bytes (name_in_sight (sight_of tables.world free) two) ++ [])
   unfolding joined_names
   seen-two one two now now_two listed listed_two at at_two =
       ap (λ name. name_bytes name ++ (name_bytes (name_at tables.world two) ++ [])) (at.is_now ∙ sym at.is_seen)
@@ -129,12 +129,12 @@ module _ (setup : Setup) (tables : TableState) (free : ℕ) where
 
   -- and as they are listed, where that is the same
   listed-one : (handle : ℕ) (now listed : Name) → IsThere setup tables free handle now listed → now ≡ listed
-      → name_bytes (name_of_handle (directory_of setup) handle) ++ [] ≡ joined_names tables.world (handle ∷ [])
+      → name_bytes (name_of_handle (directory_of setup) handle) ++ [] ≡ joined_names (name_at tables.world) (handle ∷ [])
   unfolding joined_names
   listed-one handle now listed at same = ap (λ name. name_bytes name ++ []) (at.is_listed ∙ sym same ∙ sym at.is_now)
 
   listed-two : (one two : ℕ) (now now_two listed listed_two : Name) → IsThere setup tables free one now listed → IsThere setup tables free two now_two listed_two → now ≡ listed → now_two ≡ listed_two
-      → name_bytes (name_of_handle (directory_of setup) one) ++ (name_bytes (name_of_handle (directory_of setup) two) ++ []) ≡ joined_names tables.world (one ∷ two ∷ [])
+      → name_bytes (name_of_handle (directory_of setup) one) ++ (name_bytes (name_of_handle (directory_of setup) two) ++ []) ≡ joined_names (name_at tables.world) (one ∷ two ∷ [])
   unfolding joined_names
   listed-two one two now now_two listed listed_two at at_two same same_two =
       ap (λ name. name_bytes name ++ (name_bytes (name_of_handle (directory_of setup) two) ++ [])) (at.is_listed ∙ sym same ∙ sym at.is_now)
@@ -293,7 +293,7 @@ module _ (setup : Setup) (is : IsSetup setup) (tables : TableState) (of : IsKept
 
   -- what holds of an index that authorizes itself
   index-listed : (index : ℕ) (entry : IndexEntry) → IsThere setup tables free index (index_name entry.public) (index_name (with_written entry.public)) → is_same_name (index_name entry.public) (index_name (with_written entry.public)) ≡ true
-      → name_bytes (name_of_handle (directory_of setup) index) ++ (name_bytes (name_of_handle (directory_of setup) index) ++ []) ≡ joined_names tables.world (index ∷ index ∷ [])
+      → name_bytes (name_of_handle (directory_of setup) index) ++ (name_bytes (name_of_handle (directory_of setup) index) ++ []) ≡ joined_names (name_at tables.world) (index ∷ index ∷ [])
   index-listed index entry at same =
       let one = names-same (index_name entry.public) (index_name (with_written entry.public)) same in
       listed-two setup tables free index index _ _ _ _ at at one one

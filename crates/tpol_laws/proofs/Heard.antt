@@ -38,7 +38,7 @@ use Rattle.tpol_wire.specs.Spellings.{message_bytes}
 use Rattle.tpol_wire.proofs.ReplyLaws.{reply_read}
 use Rattle.tpm_session.specs.Slots.{state_at}
 use Rattle.tpm_world.specs.Entities.{name_at}
-use Rattle.tpm_world.specs.Handles.{area_of, is_policy_command}
+use Rattle.tpol_wire.specs.Handles.{area_of, is_policy_command}
 use Rattle.tpm_world.specs.World.{WorldState}
 use Rattle.tpm_engine.specs.declared.event.Event.{Event}
 use Rattle.tpm_engine.specs.Answers.{succeeding}

@@ -30,7 +30,7 @@ use Rattle.tpm_bindings.specs.Facts.{is_pcr}
 use Rattle.tpm_bindings.specs.State.{SessionState}
 use Rattle.tpm_session.specs.Kept.{counter_after as first_counter, with_fact}
 use Rattle.tpm_session.specs.Slots.{IsSlotHandle, bits_of, free_count, state_at}
-use Rattle.tpm_world.specs.Handles.{area_of, is_policy_command}
+use Rattle.tpol_wire.specs.Handles.{area_of, is_policy_command}
 use Rattle.tpm_world.specs.World.{WorldState}
 use Rattle.tpm_engine.specs.declared.event.Event.{Event}
 use Rattle.tpm_engine.specs.Answers.{first_stop, succeeding}

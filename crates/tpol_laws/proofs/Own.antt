@@ -49,7 +49,7 @@ use Rattle.tpm_nv.specs.Indices.{index_of}
 use Rattle.tpm_pcr.specs.Pcrs.{selection_digest}
 use Rattle.tpm_session.specs.Slots.{IsSlotHandle, state_at}
 use Rattle.tpm_world.specs.Entities.{entity_of_kind, name_at, name_of_entity}
-use Rattle.tpm_world.specs.Handles.{area_of, is_policy_command, policy_session_of}
+use Rattle.tpol_wire.specs.Handles.{area_of, is_policy_command, policy_session_of}
 use Rattle.tpm_world.specs.Objects.{object_of}
 use Rattle.tpm_world.specs.World.{WorldState}
 use Rattle.tpm_rules.specs.Entity.{Object}

@@ -44,7 +44,7 @@ use Rattle.tpol_wire.specs.Replies.{FitsReply, spell_reply}
 use Rattle.tpol_wire.specs.ReplyReading.{reply_reading}
 use Rattle.tpol_wire.proofs.ReplyLaws.{reply_read}
 use Rattle.tpm_session.specs.Slots.{IsSlotHandle, handle_of_slot}
-use Rattle.tpm_world.specs.Handles.{area_of}
+use Rattle.tpol_wire.specs.Handles.{area_of}
 use Rattle.tpm_world.specs.Objects.{object_of}
 use Rattle.tpm_world.specs.Hashes.{proof_of}
 use Rattle.tpm_world.specs.Missing.{missing_object}

@@ -22,7 +22,7 @@ use Rattle.tpm_rules.specs.Password.{password_denial}
 use Rattle.tpm_rules.specs.Rule.{or_else, unless}
 use Rattle.tpm_session.specs.Slots.{IsSlotHandle, is_live, state_at}
 use Rattle.tpm_world.specs.Entities.{entity_at, entity_of_kind, handle_rule, handle_rule_of_kind}
-use Rattle.tpm_world.specs.Handles.{area_of, handles_of, policy_session_of}
+use Rattle.tpol_wire.specs.Handles.{area_of, handles_of, policy_session_of}
 use Rattle.tpm_world.specs.Objects.{object_of}
 use Rattle.tpm_world.specs.World.{WorldState}
 use Rattle.tpm_engine.specs.declared.stop.Stop.{Stop}

@@ -11,7 +11,7 @@ use Rattle.tpol_wire.specs.Reading.{reading}
 use Rattle.tpm_engine.specs.Calls.{Advance, Call, Execute, Reset, SetPresence}
 use Rattle.tpm_engine.specs.Views.{indices_of}
 use Rattle.tpm_nv.specs.Indices.{index_of}
-use Rattle.tpm_world.specs.Handles.{area_of, handles_of}
+use Rattle.tpol_wire.specs.Handles.{area_of, handles_of}
 use Rattle.tpol_laws.specs.Acts.{Act, Course, Other, Run, Turn, after_act}
 
 -- ---- commands that name a session

@@ -9,7 +9,7 @@ use Rattle.tpol_base.specs.Handle.{is_policy_session, rs_pw}
 use Rattle.tpol_base.specs.ResponseCode.{of_session, rc_authsize, rc_attributes, rc_nonce, rc_size, rc_value}
 use Rattle.tpol_wire.specs.Answers.{with_code}
 use Rattle.tpol_fields.specs.Kinds.{sized, number_at, bytes_at, sized_at, is_any_length}
-use Rattle.tpol_wire.specs.Authorizations.{spell_tail, spell_area, is_auth_session, AreaFits, AreaOf, authorization, AuthorizationFits, area_with, tail_of, area_of, sized_area, judged, area_at, authorization_at}
+use Rattle.tpol_wire.specs.Authorizations.{spell_tail, spell_area, is_auth_session, AreaFits, AreaOf, authorization, AuthorizationFits, area_with, tail_of, whole_area, sized_area, judged, area_at, authorization_at}
 use Rattle.tpol_fields.proofs.Takes.{IsBytes, bind_ok, chosen_ok, passed, neither, unnot, ok_is, Takes, Takes-then, wide8, wide32, number_takes, number_again, bytes_take, bytes_again, sized_takes, sized_again}
 use Rattle.tpol_fields.proofs.KindLaws.{either}
 
@@ -44,8 +44,8 @@ tail_again nonce attributes hmac short byte long =
     let three : sized_at 0 is_any_length (sized hmac) ≡ Ok (hmac, []) = ap (sized_at 0 is_any_length) (sym (append-nil (sized hmac))) ∙ sized_again 0 is_any_length hmac [] long refl in
     rw (one, two, three) refl
 
-area_found : (bytes : List ℕ) (a : AuthArea) → IsBytes bytes → area_of bytes ≡ Ok a → bytes ≡ spell_area a
-unfolding area_of
+area_found : (bytes : List ℕ) (a : AuthArea) → IsBytes bytes → whole_area bytes ≡ Ok a → bytes ≡ spell_area a
+unfolding whole_area
 area_found bytes a fits e =
     let s = bind_ok (number_at 0 w32 bytes) (λ session. tail_of session.1 >>= λ rest. Ok (area_with session.0 rest.0 rest.1 rest.2)) a e in
     let t = bind_ok (tail_of s.0.1) (λ rest. Ok (area_with s.0.0 rest.0 rest.1 rest.2)) a s.2 in
@@ -61,8 +61,8 @@ session_below session ok =
       | inr q ↦ let is : session / 2 ^ 24 ≡ 3 = eqb-true _ _ q.1 in omega arith
     ]
 
-area_again : (a : AuthArea) → AreaFits a → area_of (spell_area a) ≡ Ok a
-unfolding area_of
+area_again : (a : AuthArea) → AreaFits a → whole_area (spell_area a) ≡ Ok a
+unfolding whole_area
 area_again a fits =
     let nonce = fits.nonce in
     let hmac = fits.hmac in
@@ -74,9 +74,9 @@ area_again a fits =
 sized_area_found : (bytes : List ℕ) (x : AuthArea × List ℕ) → IsBytes bytes → sized_area bytes ≡ Ok x → Takes bytes (authorization true x.0) x.1
 unfolding sized_area
 sized_area_found bytes x fits e =
-    let s = bind_ok (number_at 0 w32 bytes) (λ size. bytes_at 0 size.0 size.1 >>= λ taken. area_of taken.0 >>= λ area. Ok (area, taken.1)) x e in
-    let t = bind_ok (bytes_at 0 s.0.0 s.0.1) (λ taken. area_of taken.0 >>= λ area. Ok (area, taken.1)) x s.2 in
-    let a = bind_ok (area_of t.0.0) (λ area. Ok (area, t.0.1)) x t.2 in
+    let s = bind_ok (number_at 0 w32 bytes) (λ size. bytes_at 0 size.0 size.1 >>= λ taken. whole_area taken.0 >>= λ area. Ok (area, taken.1)) x e in
+    let t = bind_ok (bytes_at 0 s.0.0 s.0.1) (λ taken. whole_area taken.0 >>= λ area. Ok (area, taken.1)) x s.2 in
+    let a = bind_ok (whole_area t.0.0) (λ area. Ok (area, t.0.1)) x t.2 in
     let front = number_takes 0 w32 wide32 bytes s.0.0 s.0.1 fits s.1 in
     let middle = bytes_take 0 s.0.0 s.0.1 t.0.0 t.0.1 front.0.rest_fits t.1 in
     let same = area_found t.0.0 a.0 middle.2 a.1 in

@@ -5,20 +5,18 @@ use Rattle.std.proofs.lemmas.Bool.{eqb-true, leb-true, ltb-false, le-ltb}
 use Rattle.std.proofs.lemmas.List.{append-nil, length-append, length-drop, drop-drop, nil_from_length, take_at, drop_at}
 use Rattle.tpol_base.specs.Cursor.{NumberTaken}
 use Rattle.std.specs.Prelude.{IfOk}
-use Rattle.std.specs.Result.{result_err}
 use Rattle.tpol_fields.specs.declared.fault.WireFault.{WireFault}
-use Rattle.tpol_fields.specs.declared.fault.WireFault.TheVariants.{Refused, NoMemory}
 use Rattle.tpol_wire.specs.declared.command.Command.{Command}
 use Rattle.tpol_base.specs.declared.command_code.CommandCode.{CommandCode}
 use Rattle.tpol_wire.specs.Authorizations.{AreaOf, AuthorizationFits, authorization, authorization_at}
 use Rattle.tpol_base.specs.CommandCode.{number_of_code, code_of_number}
 use Rattle.tpol_wire.specs.Commands.{Fields, Values, ValuesFit, spell_values, code_of_command, fields_of, command_of, tag, body, layout, FieldsFit, Spells}
 use Rattle.tpol_fields.specs.Kinds.{Kind, limit, number_at}
-use Rattle.tpol_wire.specs.Reading.{values_at, front_at, body_at, number_in, known, header_of, reading, wire_refusal}
+use Rattle.tpol_wire.specs.FieldRules.{number_in}
+use Rattle.tpol_wire.specs.Reading.{values_at, front_at, body_at, known, header_of, reading}
 use Rattle.tpol_base.specs.Answers.{◌>>=◌}
 use Rattle.tpol_base.specs.ResponseCode.{of_handle, of_parameter, rc_size, rc_bad_tag, rc_command_size}
 use Rattle.tpol_fields.specs.Answers.{Gives}
-use Rattle.tpol_wire.specs.Answers.{RefusesBy}
 use Rattle.tpol_wire.specs.Rows.{row}
 use Rattle.tpol_fields.proofs.Takes.{IsBytes, IsBytes-drop, bind_ok, chosen_ok, passed, neither, unnot, ok_is, Takes, Takes-then, IsWide, wide16, wide32, number_takes}
 use Rattle.tpol_fields.proofs.KindLaws.{both}
@@ -232,8 +230,3 @@ command_read bytes command spelled = ap reading spelled.whole ∙ layout_again (
 pub given_found : (bytes : List ℕ) (result : Result Command WireFault) → IsBytes bytes → Gives result (reading bytes) → IfOk result (λ command. Spells bytes command)
 given_found bytes (Ok command) fits given = command_found bytes command fits given
 given_found bytes (Err fault) fits given = tt
-
-pub given_refusal : (bytes : List ℕ) (result : Result Command WireFault) → Gives result (reading bytes) → RefusesBy result (wire_refusal bytes)
-given_refusal bytes (Ok command) given = ap result_err given
-given_refusal bytes (Err (Refused rc)) given = ap result_err given
-given_refusal bytes (Err NoMemory) given = tt

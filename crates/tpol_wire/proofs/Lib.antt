@@ -1,8 +1,10 @@
 pub mod AuthorizationLaws
 pub mod CommandLaws
+pub mod FieldRuleLaws
 pub mod Fronts
 pub mod Header
 pub mod Lengths
 pub mod RowLaws
 pub mod ReplyLaws
 pub mod ReplyWriting
+pub mod WireRuleLaws

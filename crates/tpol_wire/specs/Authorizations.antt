@@ -66,8 +66,8 @@ abbrev pub area_with : ℕ → List ℕ → ℕ → List ℕ → AuthArea
 area_with session nonce attributes hmac = record { session = session; nonce = nonce; attributes = attributes; hmac = hmac }
 
 -- exactly one area
-unfoldable pub area_of : List ℕ → Result AuthArea ℕ
-area_of bytes = do
+unfoldable pub whole_area : List ℕ → Result AuthArea ℕ
+whole_area bytes = do
   session ← number_at 0 w32 bytes
   rest ← tail_of session.1
   Ok (area_with session.0 rest.0 rest.1 rest.2)
@@ -77,7 +77,7 @@ unfoldable pub sized_area : List ℕ → Result (AuthArea × List ℕ) ℕ
 sized_area bytes = do
   size ← number_at 0 w32 bytes
   taken ← bytes_at 0 size.0 size.1
-  area ← area_of taken.0
+  area ← whole_area taken.0
   Ok (area, taken.1)
 
 -- the area, or the first of its rules that it breaks

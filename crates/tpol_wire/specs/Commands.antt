@@ -1,5 +1,5 @@
 -- The fields of commands in their rows, and what bytes spell a command.
-use Rattle.std.specs.Prelude.{◌≡◌, ℕ, zero, suc, Bool, true, false, List, [], ◌∷◌, ◌++◌}
+use Rattle.std.specs.Prelude.{◌≡◌, ℕ, Bool, true, false, List, [], ◌∷◌, ◌++◌}
 use Rattle.tpol_base.specs.Constants.{st_no_sessions, st_sessions}
 use Rattle.tpol_wire.specs.declared.command.Command.{Command}
 use Rattle.tpol_wire.specs.declared.command.Command.TheVariants as commands
@@ -25,12 +25,6 @@ pub record Fields (row : Row) : Type 0 where
 unfoldable pub spell_values : (kinds : List Kind) → Values kinds → List ℕ
 spell_values [] values = []
 spell_values (kind ∷ kinds) values = spell kind values.0 ++ spell_values kinds values.1
-
--- the bytes of the value at a position alone
-unfoldable pub spell_value : ℕ → (kinds : List Kind) → Values kinds → List ℕ
-spell_value n [] values = []
-spell_value zero (kind ∷ kinds) values = spell kind values.0
-spell_value (suc n) (kind ∷ kinds) values = spell_value n kinds values.1
 
 unfoldable pub ValuesFit : (kinds : List Kind) → Values kinds → Type 0
 ValuesFit [] values = Unit {0}

@@ -1,8 +1,12 @@
 pub mod Answers
 pub mod Authorizations
 pub mod Commands
+pub mod FieldRules
+pub mod Handles
+pub mod Hashes
 pub mod Reading
 pub mod Replies
 pub mod ReplyReading
 pub mod Rows
 pub mod Spellings
+pub mod WireRules

@@ -1,7 +1,6 @@
--- How bytes are read as a command, and the first rule that they break; how the fields of a reply are read.
-use Rattle.std.specs.Prelude.{◌+◌, ◌==◌, ◌||◌, not, ℕ, Bool, true, false, List, [], ◌∷◌, length, take, drop, nat_lt, Option, Some, None, Result, Ok, Err, if◌then◌else◌}
-use Rattle.std.specs.Result.{result_err}
-use Rattle.std.specs.Int.{Width, w16, w32, byte_len, from_be_bytes}
+-- How bytes are read as a command; how the fields of a reply are read.
+use Rattle.std.specs.Prelude.{◌+◌, ◌==◌, ◌||◌, not, ℕ, Bool, true, false, List, [], ◌∷◌, length, drop, nat_lt, Option, Some, None, Result, Ok, Err, if◌then◌else◌}
+use Rattle.std.specs.Int.{w16, w32}
 use Rattle.tpol_wire.specs.declared.command.Command.{Command}
 use Rattle.tpol_wire.specs.declared.reply.Reply.{Reply}
 use Rattle.tpol_base.specs.declared.command_code.CommandCode.{CommandCode}
@@ -12,6 +11,7 @@ use Rattle.tpol_fields.specs.Kinds.{Kind, read}
 use Rattle.tpol_base.specs.Answers.{◌>>=◌}
 use Rattle.tpol_base.specs.ResponseCode.{of_handle, of_parameter, rc_size, rc_bad_tag, rc_command_code, rc_command_size}
 use Rattle.tpol_wire.specs.Replies.{reply_of}
+use Rattle.tpol_wire.specs.FieldRules.{number_in}
 use Rattle.tpol_wire.specs.Rows.{row}
 
 -- fields one after the other; the position of each is 0x100 more than that of the one before
@@ -42,10 +42,6 @@ reply_at code bytes = do
   values ← values_at (of_parameter 1) (row code).reply bytes
   Ok (reply_of code values.0, values.1)
 
--- the number at a place
-abbrev pub number_in : Width → ℕ → List ℕ → ℕ
-number_in w place bytes = from_be_bytes w (take (byte_len w) (drop place bytes))
-
 -- the code of a command of the table
 abbrev pub known : Option CommandCode → Bool → Result (CommandCode × Bool) ℕ
 known None tagged = Err rc_command_code
@@ -58,13 +54,9 @@ header_of bytes =
     if number_in w16 0 bytes == tag false then known (code_of_number (number_in w32 6 bytes)) false else (
     if number_in w16 0 bytes == tag true then known (code_of_number (number_in w32 6 bytes)) true else Err rc_bad_tag))
 
--- the command that bytes spell, or the code of the first rule that they break
+-- the command that bytes spell, or the code that refuses them
 unfoldable pub reading : List ℕ → Result Command ℕ
 reading bytes = do
   header ← header_of bytes
   found ← body_at header.0 header.1 (drop 10 bytes)
   if length found.1 == 0 then Ok found.0 else Err rc_size
-
--- the code of the first rule that is broken
-abbrev pub wire_refusal : List ℕ → Option ℕ
-wire_refusal bytes = result_err (reading bytes)

@@ -1,6 +1,7 @@
 -- What a writer of messages adds.
 use Rattle.std.specs.Prelude.{◌+◌, ℕ, List, [], ◌++◌, length, true, Option, Some, None}
 use Rattle.std.specs.Int.{w16, w32, to_be_bytes}
+use Rattle.std.specs.List.{flat_map}
 use Rattle.tpol_wire.specs.declared.auth_area.AuthArea.{AuthArea}
 use Rattle.tpol_wire.specs.Authorizations.{authorization}
 
@@ -9,10 +10,9 @@ abbrev pub spell_optional_area : Option AuthArea → List ℕ
 spell_optional_area None = []
 spell_optional_area (Some area) = authorization true area
 
--- a handle, where there is one
-abbrev pub spell_handle : Option ℕ → List ℕ
-spell_handle None = []
-spell_handle (Some handle) = to_be_bytes w32 handle
+-- handles, one after the other
+abbrev pub spell_handles : List ℕ → List ℕ
+spell_handles handles = flat_map (to_be_bytes w32) handles
 
 -- tag, size, code and what stands behind
 abbrev pub message_bytes : ℕ → ℕ → List ℕ → List ℕ

@@ -1,10 +1,10 @@
 //! Authorizations as they are read and written (TPM 2.0 Part 2, TPMS_AUTH_COMMAND and TPMS_AUTH_RESPONSE).
-#![tactic(auto, unfolding(crate::specs::Authorizations::tail_of, crate::specs::Authorizations::area_of, crate::specs::Authorizations::sized_area, crate::specs::Authorizations::judged, crate::specs::Authorizations::area_at, tpol_fields::specs::Kinds::sized_at))]
+#![tactic(auto, unfolding(crate::specs::Authorizations::tail_of, crate::specs::Authorizations::whole_area, crate::specs::Authorizations::sized_area, crate::specs::Authorizations::judged, crate::specs::Authorizations::area_at, tpol_fields::specs::Kinds::sized_at))]
 
 ghost use Rattle.std.specs.Prelude.{◌==◌, ◌||◌, length, true};
 ghost use Rattle.tpol_fields.specs.Answers.{Gives, Reads};
 ghost use Rattle.tpol_wire.specs.Answers.{Finds, FindsFront, FindsSlice, Judges};
-ghost use Rattle.tpol_wire.specs.Authorizations.{area_at, area_of, area_with, authorization, judged, no_area, sized_area, spell_tail, tail_of};
+ghost use Rattle.tpol_wire.specs.Authorizations.{area_at, whole_area, area_with, authorization, judged, no_area, sized_area, spell_tail, tail_of};
 ghost use Rattle.tpol_fields.specs.Kinds.{is_any_length, sized_at};
 ghost use Rattle.tpol_fields.specs.Spellings.{Appends};
 
@@ -53,7 +53,7 @@ pub(crate) fn read_tail<'a>(cursor: &mut Cursor<'a>) -> Option<Tail<'a>>
 
 /// Exactly one area, with nothing behind.
 fn parts<'a>(bytes: &'a [u8]) -> Option<(u32, Tail<'a>)>
-    ensures { Finds (λ found. area_with found.0 found.1.nonce.now found.1.attributes found.1.hmac.now) result (area_of bytes.now) }
+    ensures { Finds (λ found. area_with found.0 found.1.nonce.now found.1.attributes found.1.hmac.now) result (whole_area bytes.now) }
 {
     let mut cursor = Cursor::new(bytes);
     let session = cursor.u32()?;

@@ -6,7 +6,8 @@ ghost use Rattle.tpol_fields.specs.Answers.{Gives, Reads};
 ghost use Rattle.tpol_wire.specs.Answers.{RefusesBy};
 ghost use Rattle.tpol_wire.specs.Commands.{Spells};
 ghost use Rattle.tpol_wire.specs.declared.command.Command.{Command as CommandOf};
-ghost use Rattle.tpol_wire.specs.Reading.{body_at, header_of, known as known_code, reading, wire_refusal};
+ghost use Rattle.tpol_wire.specs.Reading.{body_at, header_of, known as known_code, reading};
+ghost use Rattle.tpol_wire.specs.WireRules.{wire_refusal};
 
 use crate::command::Command;
 use crate::commands::{

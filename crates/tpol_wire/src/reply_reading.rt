@@ -140,9 +140,10 @@ fn authorized(
     }
 }
 
-/// The tag of a refusal: that of TPM 1.2 where the command's tag was refused.
-pub(crate) fn refusal_tag(code: u32) -> u16
-    ensures { result ≡ refusal_tag code }
+/// The tag of a refusal with this code: that of TPM 1.2 (00c4) where the command's tag was refused, else 8001
+/// (TPM 2.0 Part 1, "Response Structure").
+pub fn refusal_tag(code: u32) -> u16
+    ensures tag { result ≡ refusal_tag code }
 {
     if code == BAD_TAG {
         TPM_ST_RSP_COMMAND

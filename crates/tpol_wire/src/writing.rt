@@ -1,14 +1,12 @@
 //! Commands as bytes.
 
-ghost use Rattle.std.specs.Prelude.{◌≡◌, IfOk, option_copied, false};
+ghost use Rattle.std.specs.Prelude.{◌≡◌, IfOk, false};
 ghost use Rattle.tpol_base.specs.CommandCode.{number_of_code};
-ghost use Rattle.tpol_wire.specs.Authorizations.{authorization};
-ghost use Rattle.tpol_wire.specs.Commands.{code_of_command, FitsCommand, fields_of, is_assertion, spelling as spelled, Spells, spell_front, spell_parameters, spell_value, spell_values};
-ghost use Rattle.tpol_wire.specs.Rows.{row};
+ghost use Rattle.tpol_wire.specs.Commands.{code_of_command, FitsCommand, is_assertion, spelling as spelled, Spells, spell_front, spell_parameters};
+ghost use Rattle.tpol_wire.specs.Handles.{handles_of};
 ghost use Rattle.tpol_fields.specs.Spellings.{Appends};
-ghost use Rattle.tpol_wire.specs.Spellings.{spell_handle, spell_optional_area};
+ghost use Rattle.tpol_wire.specs.Spellings.{spell_handles};
 
-use crate::auth_area::AuthArea;
 use crate::command::Command;
 use crate::commands::{
     context_load, duplicate, flush_context, hmac, nv_read, nv_write, pcr_extend, pcr_read,
@@ -70,120 +68,26 @@ pub fn code_of(command: &Command) -> u32
     command_code(command).number()
 }
 
-/// The first handle of a command.
-#[tactic(auto, unfolding(crate::specs::Commands::spell_value, tpol_fields::specs::Kinds::spell))]
-fn first_handle(command: &Command) -> Option<u32>
-    ensures { spell_handle result ≡ spell_value 0 (row (code_of_command command.now)).handles (fields_of command.now).handles }
-{
-    match command {
-        Command::FlushContext { .. } | Command::ContextLoad { .. } | Command::PcrRead { .. } =>
-            None,
-        Command::StartAuthSession { tpm_key, .. } => Some(*tpm_key),
-        Command::PcrExtend { pcr, .. } => Some(*pcr),
-        Command::PolicySecret { entity, .. } => Some(*entity),
-        Command::Unseal { object, .. } | Command::Duplicate { object, .. } => Some(*object),
-        Command::VerifySignature { key, .. }
-        | Command::Hmac { key, .. }
-        | Command::PolicySigned { key, .. } => Some(*key),
-        Command::NvRead { authority, .. }
-        | Command::NvWrite { authority, .. }
-        | Command::NvIncrement { authority, .. }
-        | Command::PolicyNv { authority, .. }
-        | Command::PolicyAuthorizeNv { authority, .. } => Some(*authority),
-        Command::ContextSave { session }
-        | Command::PolicyRestart { session }
-        | Command::PolicyGetDigest { session }
-        | Command::PolicyCpHash { session, .. }
-        | Command::PolicyNameHash { session, .. }
-        | Command::PolicyAuthValue { session }
-        | Command::PolicyPassword { session }
-        | Command::PolicyPhysicalPresence { session }
-        | Command::PolicyCommandCode { session, .. }
-        | Command::PolicyCounterTimer { session, .. }
-        | Command::PolicyLocality { session, .. }
-        | Command::PolicyPcr { session, .. }
-        | Command::PolicyDuplicationSelect { session, .. }
-        | Command::PolicyNvWritten { session, .. }
-        | Command::PolicyTicket { session, .. }
-        | Command::PolicyAuthorize { session, .. }
-        | Command::PolicyOr { session, .. } => Some(*session),
-    }
-}
-
-/// The second handle of a command that has one.
-#[tactic(auto, unfolding(crate::specs::Commands::spell_value, tpol_fields::specs::Kinds::spell))]
-fn second_handle(command: &Command) -> Option<u32>
-    ensures { spell_handle result ≡ spell_value 1 (row (code_of_command command.now)).handles (fields_of command.now).handles }
-{
-    match command {
-        Command::StartAuthSession { bind, .. } => Some(*bind),
-        Command::Duplicate { parent, .. } => Some(*parent),
-        Command::PolicySigned { session, .. } | Command::PolicySecret { session, .. } => {
-            Some(*session)
-        }
-        Command::NvRead { index, .. }
-        | Command::NvWrite { index, .. }
-        | Command::NvIncrement { index, .. }
-        | Command::PolicyNv { index, .. }
-        | Command::PolicyAuthorizeNv { index, .. } => Some(*index),
-        _ => None,
-    }
-}
-
-/// The third handle of a command that has one.
-#[tactic(auto, unfolding(crate::specs::Commands::spell_value, tpol_fields::specs::Kinds::spell))]
-fn third_handle(command: &Command) -> Option<u32>
-    ensures { spell_handle result ≡ spell_value 2 (row (code_of_command command.now)).handles (fields_of command.now).handles }
-{
-    match command {
-        Command::PolicyNv { session, .. } | Command::PolicyAuthorizeNv { session, .. } => {
-            Some(*session)
-        }
-        _ => None,
-    }
-}
-
-/// The authorization of a command that takes one.
-#[tactic(auto, unfolding(crate::specs::Commands::spell_values, tpol_fields::specs::Kinds::spell))]
-fn authorization(command: &Command) -> Option<&AuthArea>
-    ensures { spell_optional_area (option_copied result) ≡ authorization (row (code_of_command command.now)).is_authorized (fields_of command.now).area }
-{
-    match command {
-        Command::PcrExtend { auth, .. }
-        | Command::Unseal { auth, .. }
-        | Command::Hmac { auth, .. }
-        | Command::NvRead { auth, .. }
-        | Command::NvWrite { auth, .. }
-        | Command::NvIncrement { auth, .. }
-        | Command::Duplicate { auth, .. }
-        | Command::PolicyNv { auth, .. }
-        | Command::PolicySecret { auth, .. }
-        | Command::PolicyAuthorizeNv { auth, .. } => Some(auth),
-        _ => None,
-    }
-}
-
-/// A handle, where there is one.
-fn handle(out: &mut Blob, handle: Option<u32>) -> Result<(), NoMemory>
-    ensures { Appends result out.old out.new (spell_handle handle) }
-{
-    match handle {
-        Some(handle) => spelling::number32(out, handle),
-        None => Ok(()),
-    }
-}
-
 /// The handles of a command, and its authorization.
 fn front(alloc: Global, out: &mut Blob, command: &Command) -> Result<(), NoMemory>
     ensures { Appends result out.old out.new (spell_front command.now) }
 {
-    handle(out, first_handle(command))?;
-    handle(out, second_handle(command))?;
-    handle(out, third_handle(command))?;
-    match authorization(command) {
+    handles(out, command)?;
+    match command.area() {
         Some(area) => authorization::write_area(alloc, out, area),
         None => Ok(()),
     }
+}
+
+/// The handles of a command, one after the other.
+fn handles(out: &mut Blob, command: &Command) -> Result<(), NoMemory>
+    ensures { Appends result out.old out.new (spell_handles (handles_of command.now)) }
+{
+    let handles = command.handles();
+    for handle in handles.as_slice() {
+        spelling::number32(out, *handle)?;
+    }
+    Ok(())
 }
 
 /// The parameters of a command.

@@ -10,11 +10,10 @@ ghost use Rattle.tpm_engine.specs.PolicyCommands as spec;
 ghost use Rattle.tpm_rules.specs.Session.{policy_digest_of};
 ghost use Rattle.tpm_world.specs.Entities.{name_at};
 
-use super::missing_index;
 use tpm_policy::assert_authorize_nv;
 use tpm_rules::nv_authority_rule;
 use tpm_session::Session;
-use tpm_world::World;
+use tpm_world::{World, missing_index};
 use tpol_base::{CommandCode, Rc};
 
 // Puts the index that holds the session's digest in the place of its policy, where the authorized handle may

@@ -10,11 +10,10 @@ ghost use Rattle.tpm_rules.specs.Rule.{Obeys};
 ghost use Rattle.tpm_engine.specs.PolicyCommands as spec;
 ghost use Rattle.tpm_world.specs.Entities.{name_at};
 
-use super::missing_index;
 use tpm_policy::assert_nv;
 use tpm_rules::nv_authority_rule;
 use tpm_session::Session;
-use tpm_world::World;
+use tpm_world::{World, missing_index};
 use tpol_base::{Blob, CommandCode, Compare, Rc};
 
 // Compares the content of an index with the operand, where the authorized handle may read it

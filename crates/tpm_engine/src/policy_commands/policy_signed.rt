@@ -7,13 +7,12 @@ ghost use Rattle.tpm_engine.specs.PolicyCommands as spec;
 ghost use Rattle.tpm_rules.specs.PolicySigned.{policy_signed_fact};
 ghost use Rattle.tpm_world.specs.Entities.{name_at};
 
-use super::missing_object;
 use super::ticket::{ticket_of, timeout_of};
 use std::alloc::Global;
 use tpm_policy::assert_signed;
 use tpm_rules::signing_key_rule;
 use tpm_session::Session;
-use tpm_world::World;
+use tpm_world::{World, missing_object};
 use tpol_base::constants::TPM_ST_AUTH_SIGNED;
 use tpol_base::{Blob, Digest32, NoMemory, Rc};
 use tpol_wire::Reply;

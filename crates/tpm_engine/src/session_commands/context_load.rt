@@ -5,8 +5,8 @@ ghost use Rattle.tpm_rules.specs.Rule.{Obeys};
 ghost use Rattle.tpm_engine.specs.SessionCommands as spec;
 ghost use Rattle.tpm_engine.specs.Tables.{with_loaded};
 
-use super::unless;
 use crate::Tables;
+use tpm_rules::unless;
 use tpm_world::context_mac;
 use tpol_base::response_code::{HANDLE, INTEGRITY, of_parameter};
 use tpol_base::{Digest32, Rc};

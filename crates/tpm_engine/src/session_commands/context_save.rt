@@ -6,8 +6,8 @@ ghost use Rattle.tpm_rules.specs.Rule.{Obeys};
 ghost use Rattle.tpm_engine.specs.SessionCommands as spec;
 ghost use Rattle.tpm_engine.specs.Tables.{with_saved};
 
-use super::unless;
 use crate::Tables;
+use tpm_rules::unless;
 use tpm_world::context_mac;
 use tpol_base::Rc;
 use tpol_base::response_code::REFERENCE_H0;

@@ -5,8 +5,8 @@ ghost use Rattle.tpm_rules.specs.Rule.{Obeys};
 ghost use Rattle.tpm_engine.specs.SessionCommands as spec;
 ghost use Rattle.tpm_engine.specs.Tables.{without};
 
-use super::unless;
 use crate::Tables;
+use tpm_rules::unless;
 use tpol_base::Rc;
 use tpol_base::response_code::{HANDLE, of_parameter};
 

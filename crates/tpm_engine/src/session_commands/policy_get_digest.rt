@@ -4,8 +4,8 @@ ghost use Rattle.std.specs.Prelude.{◌≡◌};
 ghost use Rattle.tpm_rules.specs.Rule.{Obeys};
 ghost use Rattle.tpm_engine.specs.SessionCommands as spec;
 
-use super::unless;
 use crate::Tables;
+use tpm_rules::unless;
 use tpol_base::response_code::REFERENCE_H0;
 use tpol_base::{Digest32, Rc};
 use tpol_wire::Reply;

@@ -6,8 +6,8 @@ ghost use Rattle.tpm_session.specs.Kept.{without_facts};
 ghost use Rattle.tpm_engine.specs.SessionCommands as spec;
 ghost use Rattle.tpm_engine.specs.Tables.{with_changed};
 
-use super::unless;
 use crate::Tables;
+use tpm_rules::unless;
 use tpol_base::Rc;
 use tpol_base::response_code::REFERENCE_H0;
 

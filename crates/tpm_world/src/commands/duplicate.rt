@@ -6,7 +6,7 @@ ghost use Rattle.tpm_rules.specs.Rule.{Obeys};
 ghost use Rattle.tpm_world.specs.Duplicate as spec;
 
 use crate::World;
-use crate::rule::missing_object;
+use crate::missing::missing_object;
 use std::alloc::Global;
 use tpm_rules::duplicate_rule;
 use tpol_base::constants::TPM_ALG_KEYEDHASH;

@@ -6,7 +6,7 @@ ghost use Rattle.tpm_rules.specs.Rule.{Obeys};
 ghost use Rattle.tpm_world.specs.Hmac as spec;
 
 use crate::World;
-use crate::rule::missing_object;
+use crate::missing::missing_object;
 use tpm_rules::hmac_rule;
 use tpol_base::{Digest32, Rc};
 use tpol_hash::Mac;

@@ -5,7 +5,7 @@ ghost use Rattle.tpm_rules.specs.Rule.{Obeys};
 ghost use Rattle.tpm_world.specs.NvWrite as spec;
 
 use crate::World;
-use crate::rule::missing_index;
+use crate::missing::missing_index;
 use tpm_nv::check_write;
 use tpm_rules::nv_authority_rule;
 use tpol_base::{CommandCode, Rc};

@@ -5,7 +5,7 @@ ghost use Rattle.tpm_rules.specs.Rule.{Obeys};
 ghost use Rattle.tpm_world.specs.PcrExtend as spec;
 
 use crate::World;
-use crate::rule::unless;
+use tpm_rules::unless;
 use tpol_base::response_code::{PCR, VALUE, of_handle};
 use tpol_base::{Digest32, Rc};
 

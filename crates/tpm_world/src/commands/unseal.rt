@@ -5,7 +5,7 @@ ghost use Rattle.tpm_rules.specs.Rule.{Obeys};
 ghost use Rattle.tpm_world.specs.Unseal as spec;
 
 use crate::World;
-use crate::rule::missing_object;
+use crate::missing::missing_object;
 use tpm_rules::unseal_rule;
 use tpol_base::{NoMemory, Rc};
 use tpol_wire::Reply;

@@ -5,7 +5,7 @@ ghost use Rattle.tpm_rules.specs.Rule.{Obeys};
 ghost use Rattle.tpm_world.specs.VerifySignature as spec;
 
 use crate::World;
-use crate::rule::missing_object;
+use crate::missing::missing_object;
 use std::alloc::Global;
 use tpm_auth::{sign, verified_ticket};
 use tpm_rules::verify_signature_rule;

@@ -1,6 +1,7 @@
 use Rattle.std.proofs.Common.{arith, subst}
 use Rattle.tpol_fields.specs.Answers.{Gives}
-use Rattle.tpol_wire.proofs.CommandLaws.{command_read, given_found, given_refusal}
+use Rattle.tpol_wire.proofs.CommandLaws.{command_read, given_found}
+use Rattle.tpol_wire.proofs.WireRuleLaws.{given_refusal}
 use Rattle.tpol_wire.proofs.reading.read_command.Goals as goal
 
 pub returns-clause-found : goal.returns-clause-found

@@ -1,18 +1,10 @@
-//! Rules in their order, and what a missing entity is refused with.
+//! What a missing entity is refused with.
 
 ghost use Rattle.std.specs.Prelude.{◌≡◌};
-ghost use Rattle.tpm_rules.specs.Rule.{Obeys, unless};
 ghost use Rattle.tpm_world.specs.Missing as spec;
 
 use tpol_base::Rc;
 use tpol_base::response_code::{HANDLE, of_handle, reference_of_handle};
-
-/// A rule: nothing where it holds, else the response code of its being broken.
-pub fn unless(holds: bool, code: u32) -> Result<(), Rc>
-    ensures rule { Obeys result (unless holds code) }
-{
-    if holds { Ok(()) } else { Err(Rc { code }) }
-}
 
 /// The refusal of a command whose first handle is an object that is not there.
 pub fn missing_object() -> Rc
