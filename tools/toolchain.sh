@@ -100,11 +100,6 @@ build() {
 
 # ---- the same source, unproved
 
-# Whether a word is the first of a command of the program, as `words` lists them. No other words are a command.
-is_word() {
-    words | grep -v '^--' | sed 's/ .*//' | grep -qxF -e "$1"
-}
-
 # Where the program would put a document, for a name that a policy may have.
 stem_of() {
     [[ ${1#/policy/} =~ ^[A-Za-z0-9_-][A-Za-z0-9_.-]{0,63}$ ]] && echo "${1#/policy/}"
