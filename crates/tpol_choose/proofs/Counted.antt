@@ -4,9 +4,9 @@ use Rattle.std.specs.Prelude.{is_some}
 use Rattle.tpol_tree.specs.declared.closed.ClosedElement.{ClosedElement}
 use Rattle.tpol_tree.specs.declared.path.ApprovedDoc.{ApprovedDoc}
 use Rattle.tpol_digest.specs.declared.extent.Extent.{Extent}
-use Rattle.tpol_digest.specs.Extent.{FullExtent, both, extent_at, extent_by_approval, document_extent, IsCapped}
+use Rattle.tpol_digest.specs.Extent.{FullExtent, where_paths, both, extent_at, extent_by_approval, document_extent, IsCapped}
 use Rattle.tpol_digest.specs.Paths.{approval_of}
-use Rattle.tpol_digest.proofs.Extents.{capped_both, capped_past, capped_entered, capped_passed}
+use Rattle.tpol_digest.proofs.Extents.{min_mul, capped_past, capped_entered, capped_passed}
 use Rattle.tpol_choose.specs.Counts.{IsCount}
 
 -- a count with the moves of the longest
@@ -19,9 +19,8 @@ is_extent count full h = record { paths = h.paths; moves = λ few. refl }
 pub is_count : (extent : Extent) (count : ℕ) (full : FullExtent) → extent.paths ≡ count → IsCapped extent full → IsCount count full
 is_count extent count full e h = record { paths = sym e ∙ h.paths }
 
-pub count_both : (r s t : ℕ) (a b : FullExtent) → IsCount r a → IsCount s b → 1 ≤ a.paths → 1 ≤ b.paths → t ≡ min (r * s) 65537 → IsCount t (both a b)
-count_both r s t a b ra sb pa pb e =
-    is_count (record { paths = t; moves = min (min a.moves 513 + min b.moves 513) 513 }) t (both a b) refl (capped_both (extent_of r a) (extent_of s b) (record { paths = t; moves = min (min a.moves 513 + min b.moves 513) 513 }) a b (is_extent r a ra) (is_extent s b sb) pa pb e refl)
+pub count_both : (r s t : ℕ) (a b : FullExtent) → IsCount r a → IsCount s b → t ≡ min (r * s) 65537 → IsCount t (both a b)
+count_both r s t a b ra sb e = record { paths = e ∙ min_mul a.paths b.paths r s ra.paths sb.paths }
 
 module _ (documents : List ApprovedDoc) (levels : ℕ) (some : levels ≢ 0) (element : ClosedElement) where
   abbrev full_to : ℕ → FullExtent
@@ -34,8 +33,8 @@ module _ (documents : List ApprovedDoc) (levels : ℕ) (some : levels ≢ 0) (el
   pub count_entered : (r s t i : ℕ) (document : ApprovedDoc) → i < length documents → document ≡ get_or documents i document → is_some (approval_of element document) ≡ true → IsCount r (full_to i) → IsCount s (extent_at (document_extent documents (levels - 1)) documents document.closed.elements) → t ≡ min (r + s) 65537 → IsCount t (full_to (i + 1))
   count_entered r s t i document within is accepted h k e =
       let inner = extent_at (document_extent documents (levels - 1)) documents document.closed.elements in
-      let longer : Extent = record { paths = s; moves = min (min inner.moves 513 + 1) 513 } in
-      let all : Extent = record { paths = t; moves = max (min (full_to i).moves 513) (min (min inner.moves 513 + 1) 513) } in
+      let longer : Extent = record { paths = s; moves = where_paths s (min (min inner.moves 513 + 1) 513) } in
+      let all : Extent = record { paths = t; moves = max (min (full_to i).moves 513) longer.moves } in
       is_count all t (full_to (i + 1)) refl (capped_entered documents levels some element (extent_of r (full_to i)) (extent_of s inner) longer all i document within is accepted (is_extent r (full_to i) h) (is_extent s inner k) refl refl e refl)
 
   pub count_passed : (r i : ℕ) (document : ApprovedDoc) → i < length documents → document ≡ get_or documents i document → is_some (approval_of element document) ≡ false → IsCount r (full_to i) → IsCount r (full_to (i + 1))

@@ -2,6 +2,7 @@ pub mod Bound
 pub mod Counted
 pub mod Counts
 pub mod Ends
+pub mod Few
 pub mod Found
 pub mod Going
 pub mod Hopeless

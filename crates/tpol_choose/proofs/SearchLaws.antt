@@ -1,21 +1,18 @@
 -- A search through lists of ways that are made of parts.
-use Rattle.std.proofs.Common.{◌≡◌, ◌≢◌, ℕ, ◌+◌, ◌-◌, ◌*◌, ◌<◌, ◌≤◌, ◌++◌, min, Bool, true, false, List, [], ◌∷◌, map, length, drop, get_or, Option, Some, None, refl, sym, ap, ◌∙◌, drop-cons, add-one, arith}
-use Rattle.std.specs.Prelude.{◌==◌, All, is_none, not, if◌then◌else◌}
+use Rattle.std.proofs.Common.{◌≡◌, ◌≢◌, ℕ, zero, suc, ◌+◌, ◌-◌, ◌*◌, ◌<◌, ◌≤◌, ◌++◌, min, Bool, true, false, List, [], ◌∷◌, map, length, drop, get_or, Option, Some, None, refl, sym, ap, ◌∙◌, drop-cons, add-one, arith}
+use Rattle.std.specs.Prelude.{◌==◌, is_none, not, if◌then◌else◌}
 use Rattle.std.specs.List.{AllByRecursion}
 use Rattle.std.proofs.lemmas.List.{drop_all}
-use Rattle.std.proofs.lemmas.List.Elements.{recursion_from_All}
 use Rattle.tpm_rules.specs.Rule.{or_else, unless}
 use Rattle.tpol_base.specs.declared.digest.Digest32.{Digest32}
 use Rattle.tpol_digest.specs.Digest.{zero_digest}
-use Rattle.tpol_digest.specs.Extent.{FullExtent, document_extent, extent_at}
+use Rattle.tpol_digest.specs.Extent.{document_extent, extent_at}
 use Rattle.tpol_digest.specs.Paths.{approval_of, approved_paths, between, document_paths, followed_by, outside_path, outside_paths, path_of_move, paths_by_approval, product}
 use Rattle.tpol_digest.specs.Positions.{element_list_ways, path_of_step}
 use Rattle.tpol_digest.specs.Walks.{first_path}
 use Rattle.tpol_digest.proofs.Documents.{document_paths-some}
-use Rattle.tpol_digest.proofs.Extents.{extent_at-positive}
-use Rattle.tpol_digest.proofs.Measures.{document_agrees, extent_at-measures}
-use Rattle.tpol_digest.proofs.Positions.{part, some_way}
-use Rattle.tpol_tree.specs.Closed.{HasBranchCounts}
+use Rattle.tpol_digest.proofs.Extents.{min_mul}
+use Rattle.tpol_digest.proofs.Positions.{part, ways_counted}
 use Rattle.tpol_tree.specs.declared.closed.ClosedElement.{ClosedElement}
 use Rattle.tpol_tree.specs.declared.closed.ClosedElement.TheVariants.{Assert, Or, Authorize, AuthorizeNv}
 use Rattle.tpol_tree.specs.declared.closed.ClosedElements.{ClosedElements}
@@ -31,7 +28,7 @@ use Rattle.tpol_choose.specs.declared.block.Why.TheVariants.{NoSession}
 use Rattle.tpol_choose.specs.declared.searching.Search.{Search}
 use Rattle.tpol_choose.specs.declared.searching.Search.TheVariants.{Found, Passed}
 use Rattle.tpol_choose.specs.Acts.{move_of}
-use Rattle.tpol_choose.specs.Ahead.{HasBranchCountsAhead, ways_ahead}
+use Rattle.tpol_choose.specs.Ahead.{ways_ahead}
 use Rattle.tpol_choose.specs.Blocks.{block_of, block_on, moves_block, whole_block}
 use Rattle.tpol_choose.specs.Clients.{Client}
 use Rattle.tpol_choose.specs.Counts.{IsCount}
@@ -39,11 +36,9 @@ use Rattle.tpol_choose.specs.Facts.{fresh_session}
 use Rattle.tpol_choose.specs.Hopes.{is_hopeless}
 use Rattle.tpol_choose.specs.Searches.{IsCounted, go_on, passed_more, search_ahead, search_end, search_ways}
 use Rattle.tpol_choose.specs.Tracks.{TrackState, block_at_end, fresh_track, track_after, track_along}
-use Rattle.tpol_choose.proofs.Counted.{count_both}
 use Rattle.tpol_choose.proofs.Ends.{path_ends}
 use Rattle.tpol_choose.proofs.Going.{along_both, along_between, along_closed, along_move}
 use Rattle.tpol_choose.proofs.Hopeless.{hopeless_after, hopeless_along, hopeless_end, hopeless_outside}
-use Rattle.tpol_choose.proofs.Loads.{mul_some}
 
 go_on_nowhere : (s : Search) → go_on s (λ n. Passed n) ≡ s
 go_on_nowhere (Found index) = refl
@@ -115,50 +110,50 @@ module _ (client : Client) (behind : TrackState → ℕ → Search) where
 
 -- ---- where something stands in the way of all ways
 
+pub passed_none : (n ways : ℕ) → ways ≡ 0 → passed_more n ways ≡ n
+passed_none n zero h = refl
+passed_none n (suc ways) h = absurd (omega arith)
+
+pub passed_some : (n ways : ℕ) → 1 ≤ ways → passed_more n ways ≡ min (n + ways) 65537
+passed_some n zero h = absurd (omega arith)
+passed_some n (suc ways) h = refl
+
+passed_twice : (n c k : ℕ) → passed_more (passed_more n c) k ≡ passed_more n (c + k)
+passed_twice n zero k = ap (passed_more n) (let e : k ≡ 0 + k = omega arith in e)
+passed_twice n (suc c) zero = ap (passed_more n) (let e : suc c ≡ suc c + 0 = omega arith in e)
+passed_twice n (suc c) (suc k) =
+    let both = passed_some n (suc c + suc k) (omega arith) in
+    let twice : min (min (n + suc c) 65537 + suc k) 65537 ≡ min (n + (suc c + suc k)) 65537 = omega arith in
+    twice ∙ sym both
+
 -- all ways are passed over, where those behind each are
 module _ (client : Client) (behind : TrackState → ℕ → Search) (c : ℕ) (passes : (t : TrackState) (m : ℕ) → is_hopeless client t ≡ true → behind t m ≡ Passed (passed_more m c)) where
-  ways_hopeless : (track : TrackState) (n : ℕ) (ways : List Path) → is_hopeless client track ≡ true → n ≤ 65537 → search_ways client behind track n ways ≡ Passed (passed_more n (length ways * c))
-  ways_hopeless track n [] h few = ap Passed (omega arith)
-  ways_hopeless track n (way ∷ ways) h few =
+  pub all_hopeless : (track : TrackState) (n : ℕ) (ways : List Path) → is_hopeless client track ≡ true → search_ways client behind track n ways ≡ Passed (passed_more n (length ways * c))
+  all_hopeless track n [] h =
+      let none : length {A = Path} [] * c ≡ 0 = omega arith in ap Passed (sym (passed_none n (length {A = Path} [] * c) none))
+  all_hopeless track n (way ∷ ways) h =
+      let more : c + length ways * c ≡ length (way ∷ ways) * c = grind arith in
       ap (λ s. go_on s (λ m. search_ways client behind track m ways)) (passes (track_along client track way) n (hopeless_along client track way h))
-      ∙ ways_hopeless track (passed_more n c) ways h (omega arith)
-      ∙ ap Passed (omega arith)
+      ∙ all_hopeless track (passed_more n c) ways h
+      ∙ ap Passed (passed_twice n c (length ways * c) ∙ ap (passed_more n) more)
 
-  pub all_hopeless : (track : TrackState) (n : ℕ) (ways : List Path) → is_hopeless client track ≡ true → 1 ≤ length ways → search_ways client behind track n ways ≡ Passed (passed_more n (length ways * c))
-  all_hopeless track n [] h some = absurd (omega arith)
-  all_hopeless track n (way ∷ ways) h some =
-      ap (λ s. go_on s (λ m. search_ways client behind track m ways)) (passes (track_along client track way) n (hopeless_along client track way h))
-      ∙ ways_hopeless track (passed_more n c) ways h (omega arith)
-      ∙ ap Passed (omega arith)
-
-module _ (client : Client) (documents : List ApprovedDoc) (approved : All (λ document. HasBranchCounts document.closed.elements) documents) where
-  ways_are : (levels : ℕ) (elements : ClosedElements) (d : Digest32) → HasBranchCounts elements → length (element_list_ways documents levels elements d) ≡ (extent_at (document_extent documents levels) documents elements).paths
-  ways_are levels elements d h =
-      (extent_at-measures _ _ documents (document_agrees documents (recursion_from_All (λ document. HasBranchCounts document.closed.elements) documents approved) levels) elements d h).count
-
+module _ (client : Client) (documents : List ApprovedDoc) where
   -- the ways through elements and what comes behind them are passed over
-  pub elements_hopeless : (behind : TrackState → ℕ → Search) (c : ℕ) → ((t : TrackState) (m : ℕ) → is_hopeless client t ≡ true → behind t m ≡ Passed (passed_more m c)) → (levels : ℕ) (elements : ClosedElements) (d : Digest32) (track : TrackState) (n : ℕ) → HasBranchCounts elements → is_hopeless client track ≡ true → search_ways client behind track n (element_list_ways documents levels elements d) ≡ Passed (passed_more n ((extent_at (document_extent documents levels) documents elements).paths * c))
-  elements_hopeless behind c passes levels elements d track n h hopeless =
-      all_hopeless client behind c passes track n (element_list_ways documents levels elements d) hopeless (some_way documents approved levels elements d h)
-      ∙ ap (λ k. Passed (passed_more n (k * c))) (ways_are levels elements d h)
+  pub elements_hopeless : (behind : TrackState → ℕ → Search) (c : ℕ) → ((t : TrackState) (m : ℕ) → is_hopeless client t ≡ true → behind t m ≡ Passed (passed_more m c)) → (levels : ℕ) (elements : ClosedElements) (d : Digest32) (track : TrackState) (n : ℕ) → is_hopeless client track ≡ true → search_ways client behind track n (element_list_ways documents levels elements d) ≡ Passed (passed_more n ((extent_at (document_extent documents levels) documents elements).paths * c))
+  elements_hopeless behind c passes levels elements d track n hopeless =
+      all_hopeless client behind c passes track n (element_list_ways documents levels elements d) hopeless
+      ∙ ap (λ k. Passed (passed_more n (k * c))) (ways_counted documents levels elements d)
 
-  pub ahead_hopeless : (ahead : Ahead) → HasBranchCountsAhead ahead → (track : TrackState) (n : ℕ) → is_hopeless client track ≡ true → search_ahead client documents ahead track n ≡ Passed (passed_more n (ways_ahead documents ahead))
-  ahead_hopeless Nothing h track n hopeless =
+  pub ahead_hopeless : (ahead : Ahead) (track : TrackState) (n : ℕ) → is_hopeless client track ≡ true → search_ahead client documents ahead track n ≡ Passed (passed_more n (ways_ahead documents ahead))
+  ahead_hopeless Nothing track n hopeless =
       ap (λ b. if b then Found n else Passed (passed_more n 1)) (hopeless_end client track hopeless)
-  ahead_hopeless (After' act rest before levels p ahead) h track n hopeless =
-      elements_hopeless (search_ahead client documents ahead) (ways_ahead documents ahead) (ahead_hopeless ahead h.1) levels rest.now before (track_after client track (move_of act)) n h.0 (hopeless_after client track (move_of act) hopeless)
-
-  rest_some : (ahead : Ahead) → HasBranchCountsAhead ahead → 1 ≤ ways_ahead documents ahead
-  rest_some Nothing h = omega arith
-  rest_some (After' act rest before levels p ahead) h =
-      mul_some (extent_at (document_extent documents levels) documents rest.now).paths (ways_ahead documents ahead) (extent_at-positive (document_extent documents levels) documents rest.now h.0) (rest_some ahead h.1)
+  ahead_hopeless (After' act rest before levels p ahead) track n hopeless =
+      elements_hopeless (search_ahead client documents ahead) (ways_ahead documents ahead) (ahead_hopeless ahead) levels rest.now before (track_after client track (move_of act)) n (hopeless_after client track (move_of act) hopeless)
 
   -- what the counts of two parts, each to 65,537, make
-  pub counted_both : (first others : ℕ) (levels : ℕ) (elements : ClosedElements) (ahead : Ahead) → HasBranchCounts elements → HasBranchCountsAhead ahead → IsCount first (extent_at (document_extent documents levels) documents elements) → others ≡ min (ways_ahead documents ahead) 65537 → min (first * others) 65537 ≡ min ((extent_at (document_extent documents levels) documents elements).paths * ways_ahead documents ahead) 65537
-  counted_both first others levels elements ahead h k counted e =
-      let full = extent_at (document_extent documents levels) documents elements in
-      let behind : FullExtent = record { paths = ways_ahead documents ahead; moves = 0 } in
-      (count_both first others (min (first * others) 65537) full behind counted (record { paths = e }) (extent_at-positive (document_extent documents levels) documents elements h) (rest_some ahead k) refl).paths
+  pub counted_both : (first others : ℕ) (levels : ℕ) (elements : ClosedElements) (ahead : Ahead) → IsCount first (extent_at (document_extent documents levels) documents elements) → others ≡ min (ways_ahead documents ahead) 65537 → min (first * others) 65537 ≡ min ((extent_at (document_extent documents levels) documents elements).paths * ways_ahead documents ahead) 65537
+  counted_both first others levels elements ahead counted e =
+      min_mul (extent_at (document_extent documents levels) documents elements).paths (ways_ahead documents ahead) first others counted.paths e
 
   -- the way by a policy that no listed document has is passed over
   pub outside_hopeless : (behind : TrackState → ℕ → Search) (c : ℕ) → ((t : TrackState) (m : ℕ) → is_hopeless client t ≡ true → behind t m ≡ Passed (passed_more m c)) → (element : ClosedElement) (track : TrackState) (n : ℕ) → length (outside_paths element) ≡ 1 → search_ways client behind track n (outside_paths element) ≡ Passed (passed_more n c)

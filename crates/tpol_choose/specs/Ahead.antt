@@ -3,13 +3,13 @@ use Rattle.std.specs.Prelude.{ℕ, ◌*◌, List, ⊤}
 use Rattle.tpol_choose.specs.declared.ahead.Ahead.{Ahead}
 use Rattle.tpol_choose.specs.declared.ahead.Ahead.TheVariants.{Nothing, After'}
 use Rattle.tpol_digest.specs.Extent.{document_extent, extent_at}
-use Rattle.tpol_tree.specs.Closed.{HasBranchCounts}
+use Rattle.tpol_choose.specs.Few.{HasFewBranches}
 use Rattle.tpol_tree.specs.declared.path.ApprovedDoc.{ApprovedDoc}
 
--- each OR in it, at any depth, has 2 to 8 branches
-abbrev pub HasBranchCountsAhead : Ahead → Type 0
-HasBranchCountsAhead Nothing = ⊤
-HasBranchCountsAhead (After' act rest before levels p ahead) = HasBranchCounts rest.now × HasBranchCountsAhead ahead
+-- each OR in it, at any depth, has at most 8 branches
+abbrev pub HasFewBranchesAhead : Ahead → Type 0
+HasFewBranchesAhead Nothing = ⊤
+HasFewBranchesAhead (After' act rest before levels p ahead) = HasFewBranches rest.now × HasFewBranchesAhead ahead
 
 -- how many ways there are through it
 abbrev pub ways_ahead : List ApprovedDoc → Ahead → ℕ

@@ -5,6 +5,7 @@ pub mod Clients
 pub mod Counts
 pub mod Entities
 pub mod Facts
+pub mod Few
 pub mod Goals
 pub mod Hopes
 pub mod Judges

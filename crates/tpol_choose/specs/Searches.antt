@@ -1,5 +1,5 @@
 -- What a walk through a policy that looks for a way comes to.
-use Rattle.std.specs.Prelude.{ℕ, ◌+◌, ◌≤◌, min, is_none, if◌then◌else◌, List, [], ◌∷◌, ⊤}
+use Rattle.std.specs.Prelude.{ℕ, zero, suc, ◌+◌, ◌≤◌, min, is_none, if◌then◌else◌, List, [], ◌∷◌, ⊤}
 use Rattle.tpol_choose.specs.declared.ahead.Ahead.{Ahead}
 use Rattle.tpol_choose.specs.declared.ahead.Ahead.TheVariants.{Nothing, After'}
 use Rattle.tpol_choose.specs.declared.searching.Search.{Search}
@@ -13,9 +13,10 @@ use Rattle.tpol_tree.specs.declared.closed.ClosedElements.{ClosedElements}
 use Rattle.tpol_tree.specs.declared.path.ApprovedDoc.{ApprovedDoc}
 use Rattle.tpol_tree.specs.declared.path.Path.{Path}
 
--- ways are counted to 65,537
+-- so many more ways are passed, counted to 65,537
 abbrev pub passed_more : ℕ → ℕ → ℕ
-passed_more passed ways = min (passed + ways) 65537
+passed_more passed zero = passed
+passed_more passed (suc ways) = min (passed + suc ways) 65537
 
 abbrev pub IsCounted : Search → Type 0
 IsCounted (Found index) = index ≤ 65537

@@ -1,8 +1,7 @@
 // What a walk through a policy has ahead of it.
 
-ghost use Rattle.std.specs.Prelude.{◌≡◌, All, min};
+ghost use Rattle.std.specs.Prelude.{◌≡◌, min};
 ghost use Rattle.tpol_choose.specs.Ahead as spec;
-ghost use Rattle.tpol_tree.specs.Closed.{HasBranchCounts};
 
 use crate::act::Act;
 use crate::counting::{COUNTED, count_elements};
@@ -26,8 +25,6 @@ pub enum Ahead<'a> {
 
 // The number of ways through what comes behind.
 pub fn count_ahead(approvals: &[ApprovedDoc], ahead: &Ahead<'_>) -> u64
-    requires counts { spec.HasBranchCountsAhead ahead.now }
-    requires approved { All (λ document. HasBranchCounts document.closed.elements) approvals.now }
     ensures { result ≡ min (spec.ways_ahead approvals.now ahead.now) 65537 }
 {
     match ahead {

@@ -6,9 +6,8 @@ ghost use Rattle.tpol_choose.specs.Outside.{outside_move};
 ghost use Rattle.tpol_digest.specs.Paths as spec;
 
 use crate::act::Act;
-use crate::session::zero;
-use tpol_base::{Blob, Digest32, Name};
-use tpol_tree::{ApprovedBy, ApprovedDoc, ClosedElement};
+use tpol_digest::{is_by_index, signature_of_key, zero_digest};
+use tpol_tree::{ApprovedDoc, ClosedElement};
 
 // The move that uses a document's approval for the element, if the element asks for it.
 pub fn approval<'a>(element: &'a ClosedElement, document: &ApprovedDoc) -> Option<Act<'a>>
@@ -16,56 +15,27 @@ pub fn approval<'a>(element: &'a ClosedElement, document: &ApprovedDoc) -> Optio
 {
     match element {
         ClosedElement::Authorize { key, policy_ref } => {
-            approval_by_key(key, policy_ref, document.digest, &document.by)
-        }
-        ClosedElement::AuthorizeNv { index } => {
-            approval_by_index(index, document.digest, &document.by)
-        }
-        ClosedElement::Assert(_) | ClosedElement::Or(_) => None,
-    }
-}
-
-fn approval_by_key<'a>(
-    key: &'a Name,
-    policy_ref: &'a Blob,
-    approved: Digest32,
-    by: &ApprovedBy,
-) -> Option<Act<'a>>
-    ensures { option_map move_of result ≡ spec.approval_by_key key.now policy_ref.now approved by.now }
-{
-    match by {
-        ApprovedBy::Key {
-            key: approver,
-            policy_ref: under,
-            signature,
-        } => {
-            if key == approver && policy_ref.as_slice() == under.as_slice() {
-                Some(Act::Approve {
+            match signature_of_key(&document.by, key, policy_ref) {
+                Some(signature) => Some(Act::Approve {
                     key,
                     policy_ref,
-                    approved,
-                    signature: *signature,
+                    approved: document.digest,
+                    signature,
+                }),
+                None => None,
+            }
+        }
+        ClosedElement::AuthorizeNv { index } => {
+            if is_by_index(&document.by, index) {
+                Some(Act::ApproveNv {
+                    index,
+                    approved: document.digest,
                 })
             } else {
                 None
             }
         }
-        ApprovedBy::Index { .. } => None,
-    }
-}
-
-fn approval_by_index<'a>(index: &'a Name, approved: Digest32, by: &ApprovedBy) -> Option<Act<'a>>
-    ensures { option_map move_of result ≡ spec.approval_by_index index.now approved by.now }
-{
-    match by {
-        ApprovedBy::Key { .. } => None,
-        ApprovedBy::Index { index: approver } => {
-            if index == approver {
-                Some(Act::ApproveNv { index, approved })
-            } else {
-                None
-            }
-        }
+        ClosedElement::Assert(_) | ClosedElement::Or(_) => None,
     }
 }
 
@@ -77,12 +47,12 @@ pub fn outside_approval(element: &ClosedElement) -> Option<Act<'_>>
         ClosedElement::Authorize { key, policy_ref } => Some(Act::Approve {
             key,
             policy_ref,
-            approved: zero(),
-            signature: zero(),
+            approved: zero_digest(),
+            signature: zero_digest(),
         }),
         ClosedElement::AuthorizeNv { index } => Some(Act::ApproveNv {
             index,
-            approved: zero(),
+            approved: zero_digest(),
         }),
         ClosedElement::Assert(_) | ClosedElement::Or(_) => None,
     }

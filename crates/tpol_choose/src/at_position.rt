@@ -11,9 +11,9 @@ ghost use Rattle.tpol_digest.specs.Limits.{AreWithinLimits};
 ghost use Rattle.tpol_digest.specs.Paths as paths;
 ghost use Rattle.tpol_digest.specs.Paths.{paths_of};
 ghost use Rattle.tpol_digest.specs.Positions as at;
-ghost use Rattle.tpol_digest.specs.WellFormed.{HaveBranchCounts};
+ghost use Rattle.tpol_choose.specs.Few.{HaveFewBranches};
 ghost use Rattle.tpol_name.specs.Setups.{IsSight};
-ghost use Rattle.tpol_tree.specs.Closed.{HasBranchCounts, ElementHasBranchCounts, BranchesHaveBranchCounts};
+ghost use Rattle.tpol_choose.specs.Few.{HasFewBranches, ElementHasFewBranches, BranchesHaveFewBranches};
 
 use crate::Block;
 use crate::act::Act;
@@ -23,11 +23,10 @@ use crate::branch_digests::BranchDigests;
 use crate::client::Client;
 use crate::counting::{count_element, count_elements};
 use crate::or_move::OrMove;
-use crate::session::zero;
 use crate::track::Track;
 use crate::walk::Walk;
 use tpol_base::Digest32;
-use tpol_digest::{MAX_LEVELS, digest_after_element};
+use tpol_digest::{MAX_LEVELS, digest_after_element, zero_digest};
 use tpol_goal::{Goal, Grants};
 use tpol_name::Sight;
 use tpol_tree::{Approvals, Closed, ClosedBranches, ClosedElement, ClosedElements};
@@ -43,7 +42,7 @@ pub fn block_at(
     goal: &Goal,
     locality: u8,
 ) -> Result<(), Block>
-    requires branches { HaveBranchCounts policy.now approvals.now }
+    requires few { HaveFewBranches policy.now approvals.now }
     requires within { AreWithinLimits (paths_of policy.now approvals.now) }
     requires positions { (1 ≤ position) × (position ≤ length (paths_of policy.now approvals.now)) }
     requires sight { IsSight sight.now }
@@ -65,8 +64,8 @@ pub fn block_at(
 
 // The same by the index of the path, from 0.
 fn block_at_index(walk: &Walk<'_>, policy: &Closed, index: u64) -> Result<(), Block>
-    requires branches { HasBranchCounts policy.now.elements }
-    requires approved { All (λ document. HasBranchCounts document.closed.elements) walk.now.approvals.now }
+    requires branches { HasFewBranches policy.now.elements }
+    requires approved { All (λ document. HasFewBranches document.closed.elements) walk.now.approvals.now }
     requires sight { IsSight walk.now.client.sight.now }
     requires levels { walk.now.levels ≡ 4 }
     requires within { AreWithinLimits (paths_of policy.now walk.now.approvals.now) }
@@ -76,7 +75,7 @@ fn block_at_index(walk: &Walk<'_>, policy: &Closed, index: u64) -> Result<(), Bl
 {
     let count = count_elements(walk.approvals, walk.levels, &policy.elements);
     let track = Track::new(&walk.client);
-    let track = go_elements(walk, track, &policy.elements, zero(), index, count);
+    let track = go_elements(walk, track, &policy.elements, zero_digest(), index, count);
     track.end(&walk.client)
 }
 
@@ -91,8 +90,8 @@ fn go_elements(
     index: u64,
     count: u64,
 ) -> Track
-    requires branches { HasBranchCounts elements.now }
-    requires approved { All (λ document. HasBranchCounts document.closed.elements) walk.now.approvals.now }
+    requires branches { HasFewBranches elements.now }
+    requires approved { All (λ document. HasFewBranches document.closed.elements) walk.now.approvals.now }
     requires sight { IsSight walk.now.client.sight.now }
     requires counted { count ≡ length (at.element_list_ways walk.now.approvals.now walk.now.levels elements.now before) }
     requires few { count ≤ 65536 }
@@ -134,8 +133,8 @@ fn go_element(
     before: Digest32,
     index: u64,
 ) -> Behind
-    requires branches { ElementHasBranchCounts element.now }
-    requires approved { All (λ document. HasBranchCounts document.closed.elements) walk.now.approvals.now }
+    requires branches { ElementHasFewBranches element.now }
+    requires approved { All (λ document. HasFewBranches document.closed.elements) walk.now.approvals.now }
     requires sight { IsSight walk.now.client.sight.now }
     requires few { length (at.element_ways walk.now.approvals.now walk.now.levels element.now before) ≤ 65536 }
     requires inside { index < length (at.element_ways walk.now.approvals.now walk.now.levels element.now before) }
@@ -176,8 +175,8 @@ fn go_branches(
     before: Digest32,
     index: u64,
 ) -> Track
-    requires branches { BranchesHaveBranchCounts branches.now }
-    requires approved { All (λ document. HasBranchCounts document.closed.elements) walk.now.approvals.now }
+    requires branches { BranchesHaveFewBranches branches.now }
+    requires approved { All (λ document. HasFewBranches document.closed.elements) walk.now.approvals.now }
     requires sight { IsSight walk.now.client.sight.now }
     requires few { length (at.branch_ways walk.now.approvals.now walk.now.levels branches.now 1 before) ≤ 65536 }
     requires inside { index < length (at.branch_ways walk.now.approvals.now walk.now.levels branches.now 1 before) }
@@ -201,7 +200,7 @@ fn go_branches(
 // The same of an element that asks for an approval.
 #[cycle(at_position)]
 fn go_approval(walk: &Walk<'_>, track: Track, element: &ClosedElement, index: u64) -> Track
-    requires approved { All (λ document. HasBranchCounts document.closed.elements) walk.now.approvals.now }
+    requires approved { All (λ document. HasFewBranches document.closed.elements) walk.now.approvals.now }
     requires sight { IsSight walk.now.client.sight.now }
     requires few { length (at.approval_ways walk.now.approvals.now walk.now.levels element.now) ≤ 65536 }
     requires inside { index < length (at.approval_ways walk.now.approvals.now walk.now.levels element.now) }
@@ -219,7 +218,7 @@ fn go_approval(walk: &Walk<'_>, track: Track, element: &ClosedElement, index: u6
                 let elements = &document.closed.elements;
                 let count = count_elements(walk.approvals, inner.levels, elements);
                 if left < count {
-                    let behind = go_elements(&inner, track, elements, zero(), left, count);
+                    let behind = go_elements(&inner, track, elements, zero_digest(), left, count);
                     return behind.after(&walk.client, &act);
                 }
                 left -= count;

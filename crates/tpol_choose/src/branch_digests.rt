@@ -6,8 +6,8 @@ ghost use Rattle.tpol_tree.specs.Closed.{branch_count};
 
 use std::marker::Model;
 use tpol_base::Digest32;
-use tpol_digest::digest_after_element;
-use tpol_tree::{ClosedBranches, ClosedElements};
+use tpol_digest::digest_after_elements;
+use tpol_tree::ClosedBranches;
 
 // The greatest number of branches.
 const GREATEST: usize = 8;
@@ -75,17 +75,6 @@ fn push_digests(digests: &mut BranchDigests, branches: &ClosedBranches, before: 
         ClosedBranches::More(branch, rest) => {
             digests.push(digest_after_elements(&branch.policy.elements, before));
             push_digests(digests, rest, before);
-        }
-    }
-}
-
-fn digest_after_elements(elements: &ClosedElements, before: Digest32) -> Digest32
-    ensures { result ≡ spec.digest_at elements.now before }
-{
-    match elements {
-        ClosedElements::End => before,
-        ClosedElements::More(element, rest) => {
-            digest_after_elements(rest, digest_after_element(element, before))
         }
     }
 }

@@ -4,7 +4,7 @@ ghost use Rattle.std.specs.Prelude.{◌≡◌};
 ghost use Rattle.tpol_choose.specs.Blocks.{chosen_path};
 ghost use Rattle.tpol_digest.specs.Limits.{AreWithinLimits};
 ghost use Rattle.tpol_digest.specs.Paths.{paths_of};
-ghost use Rattle.tpol_digest.specs.WellFormed.{HaveBranchCounts};
+ghost use Rattle.tpol_choose.specs.Few.{HaveFewBranches};
 ghost use Rattle.tpol_name.specs.Setups.{IsSight};
 
 use crate::client::Client;
@@ -26,7 +26,7 @@ pub fn choose(
     goal: &Goal,
     locality: u8,
 ) -> Option<u32>
-    requires branches { HaveBranchCounts policy.now approvals.now }
+    requires few { HaveFewBranches policy.now approvals.now }
     requires within { AreWithinLimits (paths_of policy.now approvals.now) }
     requires sight { IsSight sight.now }
     ensures chosen { result ≡ chosen_path (paths_of policy.now approvals.now) sight.now grants.now goal.now locality }

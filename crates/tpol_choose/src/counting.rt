@@ -1,9 +1,7 @@
 // How many ways a part of a policy has, without listing them.
 
-ghost use Rattle.std.specs.Prelude.{All};
 ghost use Rattle.tpol_choose.specs.Counts.{IsCount};
 ghost use Rattle.tpol_digest.specs.Extent as spec;
-ghost use Rattle.tpol_tree.specs.Closed.{HasBranchCounts, ElementHasBranchCounts, BranchesHaveBranchCounts};
 
 use tpol_digest::accepts;
 use tpol_tree::{ApprovedDoc, ClosedBranches, ClosedElement, ClosedElements};
@@ -14,8 +12,6 @@ pub const COUNTED: u64 = 65_537;
 // The number of ways through elements, where documents may be entered `levels` deep.
 #[cycle(counting)]
 pub fn count_elements(approvals: &[ApprovedDoc], levels: u8, elements: &ClosedElements) -> u64
-    requires counts { HasBranchCounts elements.now }
-    requires approved { All (λ document. HasBranchCounts document.closed.elements) approvals.now }
     ensures { IsCount result (spec.extent_at (spec.document_extent approvals.now levels) approvals.now elements.now) }
 {
     match elements {
@@ -31,8 +27,6 @@ pub fn count_elements(approvals: &[ApprovedDoc], levels: u8, elements: &ClosedEl
 // The number of ways through one element.
 #[cycle(counting)]
 pub fn count_element(approvals: &[ApprovedDoc], levels: u8, element: &ClosedElement) -> u64
-    requires counts { ElementHasBranchCounts element.now }
-    requires approved { All (λ document. HasBranchCounts document.closed.elements) approvals.now }
     ensures { IsCount result (spec.extent_at_element (spec.document_extent approvals.now levels) approvals.now element.now) }
 {
     match element {
@@ -47,8 +41,6 @@ pub fn count_element(approvals: &[ApprovedDoc], levels: u8, element: &ClosedElem
 // The number of ways through branches.
 #[cycle(counting)]
 fn count_branches(approvals: &[ApprovedDoc], levels: u8, branches: &ClosedBranches) -> u64
-    requires counts { BranchesHaveBranchCounts branches.now }
-    requires approved { All (λ document. HasBranchCounts document.closed.elements) approvals.now }
     ensures { IsCount result (spec.extent_at_branches (spec.document_extent approvals.now levels) approvals.now branches.now) }
 {
     match branches {
@@ -64,7 +56,6 @@ fn count_branches(approvals: &[ApprovedDoc], levels: u8, branches: &ClosedBranch
 // The number of ways through the documents that the element's approver approved.
 #[cycle(counting)]
 fn count_documents(approvals: &[ApprovedDoc], levels: u8, element: &ClosedElement) -> u64
-    requires approved { All (λ document. HasBranchCounts document.closed.elements) approvals.now }
     ensures { IsCount result (spec.extent_by_approval (spec.document_extent approvals.now levels) element.now approvals.now) }
 {
     let mut count = 0;

@@ -1,7 +1,7 @@
 // The first way through a policy that can be gone, on one walk through it, depth first.
 
 ghost use Rattle.std.specs.Prelude.{◌≡◌, ◌*◌, All, ℕ, length};
-ghost use Rattle.tpol_choose.specs.Ahead.{HasBranchCountsAhead, ways_ahead};
+ghost use Rattle.tpol_choose.specs.Ahead.{HasFewBranchesAhead, ways_ahead};
 ghost use Rattle.tpol_choose.specs.Lent.{client_of_lent};
 ghost use Rattle.tpol_choose.specs.Searches as spec;
 ghost use Rattle.tpol_choose.specs.Tracks.{IsTrack, TrackState, fresh_track};
@@ -11,7 +11,7 @@ ghost use Rattle.tpol_digest.specs.Extent.{document_extent, extent_at};
 ghost use Rattle.tpol_digest.specs.Paths.{approved_paths, document_paths, outside_paths, paths_of};
 ghost use Rattle.tpol_digest.specs.Positions as at;
 ghost use Rattle.tpol_name.specs.Setups.{IsSight};
-ghost use Rattle.tpol_tree.specs.Closed.{HasBranchCounts, ElementHasBranchCounts, BranchesHaveBranchCounts};
+ghost use Rattle.tpol_choose.specs.Few.{HasFewBranches, ElementHasFewBranches, BranchesHaveFewBranches};
 
 use crate::act::Act;
 use crate::ahead::{Ahead, count_ahead};
@@ -20,11 +20,10 @@ use crate::assert_move::AssertMove;
 use crate::branch_digests::BranchDigests;
 use crate::counting::{COUNTED, count_elements};
 use crate::or_move::OrMove;
-use crate::session::zero;
 use crate::track::Track;
 use crate::walk::Walk;
 use tpol_base::Digest32;
-use tpol_digest::digest_after_element;
+use tpol_digest::{digest_after_element, zero_digest};
 use tpol_tree::{Closed, ClosedBranches, ClosedElement, ClosedElements};
 
 // How far a search is: at the index, from 0, of a way that can be gone; or past so many ways, counted to
@@ -37,8 +36,8 @@ pub enum Search {
 
 // Looks for the first way through a policy that can be gone.
 pub fn search_policy(walk: &Walk<'_>, policy: &Closed) -> Search
-    requires branches { HasBranchCounts policy.now.elements }
-    requires approved { All (λ document. HasBranchCounts document.closed.elements) walk.now.approvals.now }
+    requires branches { HasFewBranches policy.now.elements }
+    requires approved { All (λ document. HasFewBranches document.closed.elements) walk.now.approvals.now }
     requires sight { IsSight walk.now.client.sight.now }
     requires levels { walk.now.levels ≡ 4 }
     ensures found { result ≡ spec.search_ways (client_of_lent walk.now.client) (spec.search_end (client_of_lent walk.now.client))
@@ -46,7 +45,14 @@ pub fn search_policy(walk: &Walk<'_>, policy: &Closed) -> Search
     ensures counted { spec.IsCounted result }
 {
     let track = Track::new(&walk.client);
-    search_elements(walk, track, &policy.elements, zero(), &Ahead::Nothing, 0)
+    search_elements(
+        walk,
+        track,
+        &policy.elements,
+        zero_digest(),
+        &Ahead::Nothing,
+        0,
+    )
 }
 
 // Goes on with a search, from a track that has passed so many ways, through all ways through elements and
@@ -60,10 +66,10 @@ fn search_elements<'a>(
     ahead: &'a Ahead<'a>,
     passed: u64,
 ) -> Search
-    requires branches { HasBranchCounts elements.now }
-    requires approved { All (λ document. HasBranchCounts document.closed.elements) walk.now.approvals.now }
+    requires branches { HasFewBranches elements.now }
+    requires approved { All (λ document. HasFewBranches document.closed.elements) walk.now.approvals.now }
     requires sight { IsSight walk.now.client.sight.now }
-    requires ahead { HasBranchCountsAhead ahead.now }
+    requires ahead { HasFewBranchesAhead ahead.now }
     ensures { (state : TrackState) → IsTrack track state
         → result ≡ spec.search_ways (client_of_lent walk.now.client) (spec.search_ahead (client_of_lent walk.now.client) walk.now.approvals.now ahead.now)
         state passed (at.element_list_ways walk.now.approvals.now walk.now.levels elements.now before) }
@@ -90,11 +96,11 @@ fn search_element<'a>(
     ahead: &'a Ahead<'a>,
     passed: u64,
 ) -> Search
-    requires branches { ElementHasBranchCounts element.now }
-    requires rest { HasBranchCounts rest.now }
-    requires approved { All (λ document. HasBranchCounts document.closed.elements) walk.now.approvals.now }
+    requires branches { ElementHasFewBranches element.now }
+    requires rest { HasFewBranches rest.now }
+    requires approved { All (λ document. HasFewBranches document.closed.elements) walk.now.approvals.now }
     requires sight { IsSight walk.now.client.sight.now }
-    requires ahead { HasBranchCountsAhead ahead.now }
+    requires ahead { HasFewBranchesAhead ahead.now }
     ensures { (state : TrackState) → IsTrack track state
         → result ≡ spec.search_ways (client_of_lent walk.now.client)
         (spec.search_rest (client_of_lent walk.now.client) walk.now.approvals.now walk.now.levels rest.now (digest_at_element element.now before) ahead.now)
@@ -135,10 +141,10 @@ fn search_branches<'a>(
     ahead: &'a Ahead<'a>,
     passed: u64,
 ) -> Search
-    requires branches { BranchesHaveBranchCounts branches.now }
-    requires approved { All (λ document. HasBranchCounts document.closed.elements) walk.now.approvals.now }
+    requires branches { BranchesHaveFewBranches branches.now }
+    requires approved { All (λ document. HasFewBranches document.closed.elements) walk.now.approvals.now }
     requires sight { IsSight walk.now.client.sight.now }
-    requires ahead { HasBranchCountsAhead ahead.now }
+    requires ahead { HasFewBranchesAhead ahead.now }
     ensures { (state : TrackState) (position : ℕ) → IsTrack track state
         → result ≡ spec.search_ways (client_of_lent walk.now.client) (spec.search_ahead (client_of_lent walk.now.client) walk.now.approvals.now ahead.now)
         state passed (at.branch_ways walk.now.approvals.now walk.now.levels branches.now position before) }
@@ -168,10 +174,10 @@ fn search_approvals<'a>(
     passed: u64,
 ) -> Search
     requires asks { length (outside_paths element.now) ≡ 1 }
-    requires rest { HasBranchCounts rest.now }
-    requires approved { All (λ document. HasBranchCounts document.closed.elements) walk.now.approvals.now }
+    requires rest { HasFewBranches rest.now }
+    requires approved { All (λ document. HasFewBranches document.closed.elements) walk.now.approvals.now }
     requires sight { IsSight walk.now.client.sight.now }
-    requires ahead { HasBranchCountsAhead ahead.now }
+    requires ahead { HasFewBranchesAhead ahead.now }
     ensures { (state : TrackState) → IsTrack track state
         → result ≡ spec.search_ways (client_of_lent walk.now.client)
         (spec.search_rest (client_of_lent walk.now.client) walk.now.approvals.now walk.now.levels rest.now after ahead.now)
@@ -194,10 +200,10 @@ fn search_documents<'a>(
     ahead: &'a Ahead<'a>,
     passed: u64,
 ) -> Search
-    requires rest { HasBranchCounts rest.now }
-    requires approved { All (λ document. HasBranchCounts document.closed.elements) walk.now.approvals.now }
+    requires rest { HasFewBranches rest.now }
+    requires approved { All (λ document. HasFewBranches document.closed.elements) walk.now.approvals.now }
     requires sight { IsSight walk.now.client.sight.now }
-    requires ahead { HasBranchCountsAhead ahead.now }
+    requires ahead { HasFewBranchesAhead ahead.now }
     ensures { (state : TrackState) → IsTrack track state
         → result ≡ spec.search_ways (client_of_lent walk.now.client)
         (spec.search_rest (client_of_lent walk.now.client) walk.now.approvals.now walk.now.levels rest.now after ahead.now)
@@ -221,7 +227,7 @@ fn search_documents<'a>(
                 ahead: &*ahead,
             };
             let elements = &document.closed.elements;
-            match search_elements(&inner, track, &*elements, zero(), &behind, so_far) {
+            match search_elements(&inner, track, &*elements, zero_digest(), &behind, so_far) {
                 Search::Found(index) => return Search::Found(index),
                 Search::Passed(more) => so_far = more,
             }
@@ -233,9 +239,9 @@ fn search_documents<'a>(
 // The same of what comes behind a branch or a document.
 #[cycle(searching)]
 fn search_ahead<'a>(walk: &Walk<'_>, track: Track, ahead: &'a Ahead<'a>, passed: u64) -> Search
-    requires approved { All (λ document. HasBranchCounts document.closed.elements) walk.now.approvals.now }
+    requires approved { All (λ document. HasFewBranches document.closed.elements) walk.now.approvals.now }
     requires sight { IsSight walk.now.client.sight.now }
-    requires ahead { HasBranchCountsAhead ahead.now }
+    requires ahead { HasFewBranchesAhead ahead.now }
     ensures { (state : TrackState) → IsTrack track state
         → result ≡ spec.search_ahead (client_of_lent walk.now.client) walk.now.approvals.now ahead.now state passed }
 {
@@ -273,9 +279,6 @@ fn search_end(walk: &Walk<'_>, track: &Track, passed: u64) -> Search
 
 // Passes over all ways through elements and what comes behind them.
 fn pass_over(walk: &Walk<'_>, elements: &ClosedElements, ahead: &Ahead<'_>, passed: u64) -> Search
-    requires branches { HasBranchCounts elements.now }
-    requires approved { All (λ document. HasBranchCounts document.closed.elements) walk.now.approvals.now }
-    requires ahead { HasBranchCountsAhead ahead.now }
     ensures { result ≡ found.Passed (spec.passed_more passed
         ((extent_at (document_extent walk.now.approvals.now walk.now.levels) walk.now.approvals.now elements.now).paths
         * ways_ahead walk.now.approvals.now ahead.now)) }
@@ -283,5 +286,8 @@ fn pass_over(walk: &Walk<'_>, elements: &ClosedElements, ahead: &Ahead<'_>, pass
     let first = count_elements(walk.approvals, walk.levels, elements);
     let behind = count_ahead(walk.approvals, ahead);
     let ways = first.saturating_mul(behind);
+    if ways == 0 {
+        return Search::Passed(passed);
+    }
     Search::Passed(passed.saturating_add(ways).min(COUNTED))
 }

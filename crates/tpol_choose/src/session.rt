@@ -21,7 +21,7 @@ use crate::entity_at::entity_of_name;
 use tpm_bindings::Bindings;
 use tpm_rules::{Standing, deadline_of};
 use tpol_base::{CommandCode, Digest32, Name};
-use tpol_digest::{approve_digest, approve_nv_digest};
+use tpol_digest::{approve_digest, approve_nv_digest, zero_digest};
 use tpol_hash::Hasher;
 use tpol_name::Sight;
 use tpol_tree::{Assertion, Move};
@@ -32,18 +32,11 @@ pub fn fresh_session(sight: &Sight) -> Standing
 {
     Standing {
         start: sight.time,
-        nonce: zero(),
-        digest: zero(),
+        nonce: zero_digest(),
+        digest: zero_digest(),
         bindings: Bindings::new(),
         counter: None,
     }
-}
-
-// 32 zero bytes.
-pub fn zero() -> Digest32
-    ensures { result ≡ zero_digest }
-{
-    Digest32::ZERO
 }
 
 // The session with the fact of one more move, where what its facts then bind is known.
@@ -140,7 +133,7 @@ fn secret_digest(before: Digest32, name: &Name, policy_ref: &[u8]) -> Digest32
 pub fn or_digest(digests: &[Digest32]) -> Digest32
     ensures { result ≡ or_digest digests.now }
 {
-    let mut hasher = start(&zero(), CommandCode::PolicyOr);
+    let mut hasher = start(&zero_digest(), CommandCode::PolicyOr);
     for digest in digests {
         hasher.put(&digest.bytes);
     }

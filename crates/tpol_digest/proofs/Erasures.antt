@@ -20,7 +20,7 @@ use Rattle.tpol_tree.specs.Closed.{ApprovalsLead, ApprovalsLeadBranches, Approva
 use Rattle.tpol_tree.specs.ClosedErased.{erased, erased_branches, erased_document, erased_element, erased_elements}
 use Rattle.tpol_digest.specs.Digest.{zero_digest, digest_at, digest_at_element, branch_digests, or_digest, policy_digest}
 use Rattle.tpol_digest.specs.Inputs.{inputs_at, inputs_at_element, inputs_at_branches, strings_of}
-use Rattle.tpol_digest.specs.Laws.{DigestsIgnoreBoxes, InputsIgnoreBoxes, PathsIgnoreBoxes, WellFormedIgnoresBoxes}
+use Rattle.tpol_digest.specs.Laws.{DigestsIgnoreBoxes, InputsIgnoreBoxes, PathsIgnoreBoxes, WellFormedIgnoresBoxes, BranchCountsIgnoreBoxes}
 use Rattle.tpol_digest.specs.Paths.{approval_of, approved_paths, between, document_paths, outside_paths, paths_at, paths_at_branches, paths_at_element, paths_by_approval, paths_of, product}
 use Rattle.tpol_digest.specs.Update.{update_of_or}
 use Rattle.tpol_digest.specs.WellFormed.{HasPcrDigest, IsWellFormedDocument, IsWellFormedPolicy}
@@ -223,14 +223,12 @@ policy_same : (policy : Closed) → IsWellFormedPolicy (erased policy) → IsWel
 policy_same policy h = record {
   approvals_lead = lead-erased true policy.elements h.approvals_lead;
   pcr_digests = each-erased HasPcrDigest policy.elements h.pcr_digests;
-  branch_counts = counts-erased policy.elements h.branch_counts;
 }
 
 policy_back : (policy : Closed) → IsWellFormedPolicy policy → IsWellFormedPolicy (erased policy)
 policy_back policy h = record {
   approvals_lead = along (ApprovalsLead true policy.elements) (ApprovalsLead true (erased_elements policy.elements)) (sym (lead_same true policy.elements)) h.approvals_lead;
   pcr_digests = along (EachAssertion HasPcrDigest policy.elements) (EachAssertion HasPcrDigest (erased_elements policy.elements)) (sym (each_same HasPcrDigest policy.elements)) h.pcr_digests;
-  branch_counts = along (HasBranchCounts policy.elements) (HasBranchCounts (erased_elements policy.elements)) (sym (counts_same policy.elements)) h.branch_counts;
 }
 
 document_same : (document : ApprovedDoc) → IsWellFormedDocument (erased_document document) → IsWellFormedDocument document
@@ -256,5 +254,33 @@ well_formed_ignores_boxes policy documents = (
   λ h. record {
     policy_itself = policy_back policy h.policy_itself;
     documents = All-from_recursion IsWellFormedDocument (map erased_document documents) (documents_back documents (recursion_from_All IsWellFormedDocument documents h.documents));
+  },
+)
+
+-- ---- how many branches there are
+
+abbrev HasCounts : ApprovedDoc → Type 0
+HasCounts document = HasBranchCounts document.closed.elements
+
+counts-back : (elements : ClosedElements) → HasBranchCounts elements → HasBranchCounts (erased_elements elements)
+counts-back elements h = along (HasBranchCounts elements) (HasBranchCounts (erased_elements elements)) (sym (counts_same elements)) h
+
+counts_in : (documents : List ApprovedDoc) → AllByRecursion HasCounts (map erased_document documents) → AllByRecursion HasCounts documents
+counts_in [] h = tt
+counts_in (document ∷ rest) h = (counts-erased document.closed.elements h.0, counts_in rest h.1)
+
+counts_in_erased : (documents : List ApprovedDoc) → AllByRecursion HasCounts documents → AllByRecursion HasCounts (map erased_document documents)
+counts_in_erased [] h = tt
+counts_in_erased (document ∷ rest) h = (counts-back document.closed.elements h.0, counts_in_erased rest h.1)
+
+pub branch_counts_ignore_boxes : BranchCountsIgnoreBoxes
+branch_counts_ignore_boxes policy documents = (
+  λ h. record {
+    policy_itself = counts-erased policy.elements h.policy_itself;
+    documents = All-from_recursion HasCounts documents (counts_in documents (recursion_from_All HasCounts (map erased_document documents) h.documents));
+  },
+  λ h. record {
+    policy_itself = counts-back policy.elements h.policy_itself;
+    documents = All-from_recursion HasCounts (map erased_document documents) (counts_in_erased documents (recursion_from_All HasCounts documents h.documents));
   },
 )

@@ -4,51 +4,33 @@ use Rattle.std.proofs.Math.Nat.{mul-le-mul_left}
 use Rattle.std.proofs.lemmas.Bool.{cases_lt}
 use Rattle.std.specs.Prelude.{is_some, if◌then◌else◌}
 use Rattle.std.proofs.lemmas.List.{take_more, take-append-drop}
-use Rattle.tpol_tree.specs.declared.closed.ClosedElements.{ClosedElements}
-use Rattle.tpol_tree.specs.declared.closed.ClosedElements.TheVariants.{More', End}
 use Rattle.tpol_tree.specs.declared.closed.ClosedElement.{ClosedElement}
-use Rattle.tpol_tree.specs.declared.closed.ClosedElement.TheVariants.{Assert, Or, Authorize, AuthorizeNv}
-use Rattle.tpol_tree.specs.declared.closed.ClosedBranches.{ClosedBranches}
-use Rattle.tpol_tree.specs.declared.closed.ClosedBranches.TheVariants.{More' as MoreBranches', End as EndBranches}
 use Rattle.tpol_tree.specs.declared.path.ApprovedDoc.{ApprovedDoc}
-use Rattle.tpol_tree.specs.Closed.{branch_count, HasBranchCounts, ElementHasBranchCounts, BranchesHaveBranchCounts}
 use Rattle.tpol_digest.specs.declared.extent.Extent.{Extent}
 use Rattle.tpol_digest.specs.Paths.{approval_of}
-use Rattle.tpol_digest.specs.Extent.{FullExtent, no_path, both, either, longer, extent_by_approval, extent_at, extent_at_element, extent_at_branches, document_extent, IsCapped}
+use Rattle.tpol_digest.specs.Extent.{FullExtent, where_paths, no_path, both, either, longer, extent_by_approval, extent_at, document_extent, IsCapped}
 
--- ---- there is a path
+-- ---- where there is a path
 
-mul_positive : (a b : ℕ) → 1 ≤ a → 1 ≤ b → 1 ≤ a * b
+pub mul_positive : (a b : ℕ) → 1 ≤ a → 1 ≤ b → 1 ≤ a * b
 mul_positive a b h k = grind arith
 
-module _ (within : Option (ApprovedDoc → FullExtent)) (documents : List ApprovedDoc) where
-  mutual
-    pub extent_at-positive : (elements : ClosedElements) → HasBranchCounts elements → 1 ≤ (extent_at within documents elements).paths
-    extent_at-positive End h = omega arith
-    extent_at-positive (More' p element q rest) h =
-        mul_positive (extent_at_element within documents element).paths (extent_at within documents rest).paths (extent_at_element-positive element h.0) (extent_at-positive rest h.1)
+pub parts_positive : (a b : ℕ) → 1 ≤ a * b → (1 ≤ a) × (1 ≤ b)
+parts_positive zero b h = absurd (omega arith)
+parts_positive (suc a) zero h = absurd (grind arith)
+parts_positive (suc a) (suc b) h = (omega arith, omega arith)
 
-    pub extent_at_element-positive : (element : ClosedElement) → ElementHasBranchCounts element → 1 ≤ (extent_at_element within documents element).paths
-    extent_at_element-positive (Assert assertion) h = omega arith
-    extent_at_element-positive (Or branches) h =
-        let many = extent_at_branches-positive branches h.1 in omega (arith, h.0.0)
-    extent_at_element-positive (Authorize key policy_ref) h = omega arith
-    extent_at_element-positive (AuthorizeNv index) h = omega arith
-
-    pub extent_at_branches-positive : (branches : ClosedBranches) → BranchesHaveBranchCounts branches → branch_count branches ≤ (extent_at_branches within documents branches).paths
-    extent_at_branches-positive EndBranches h = omega arith
-    extent_at_branches-positive (MoreBranches' p name elements q rest) h =
-        let first = extent_at-positive elements h.0 in
-        let others = extent_at_branches-positive rest h.1 in
-        omega arith
+pub where_some : (paths moves : ℕ) → 1 ≤ paths → where_paths paths moves ≡ moves
+where_some zero moves h = absurd (omega arith)
+where_some (suc more) moves h = refl
 
 -- ---- counted to the limit
 
 pub mul_bounds : (a b c : ℕ) → 1 ≤ a → 1 ≤ b → a * b ≤ c → (a ≤ c) × (b ≤ c)
 mul_bounds a b c h k l = (omega (arith, mul-le-mul_left a k), omega (arith, mul-le-mul_left b h))
 
-min_mul : (a b x y : ℕ) → x ≡ min a 65537 → y ≡ min b 65537 → 1 ≤ a → 1 ≤ b → min (x * y) 65537 ≡ min (a * b) 65537
-min_mul a b x y ex ey h k =
+min_mul_some : (a b x y : ℕ) → x ≡ min a 65537 → y ≡ min b 65537 → 1 ≤ a → 1 ≤ b → min (x * y) 65537 ≡ min (a * b) 65537
+min_mul_some a b x y ex ey h k =
     ⊎_elim
     (λ small_a.
     ⊎_elim
@@ -65,10 +47,50 @@ min_mul a b x y ex ey h k =
     omega (arith, mul-le-mul_left x y_positive, mul-le-mul_left a k))
     (cases_lt a 65537)
 
-pub capped_both : (r s t : Extent) (a b : FullExtent) → IsCapped r a → IsCapped s b → 1 ≤ a.paths → 1 ≤ b.paths → t.paths ≡ min (r.paths * s.paths) 65537 → t.moves ≡ min (r.moves + s.moves) 513 → IsCapped t (both a b)
-capped_both r s t a b ra sb pa pb paths moves = record {
-  paths = paths ∙ min_mul a.paths b.paths r.paths s.paths ra.paths sb.paths pa pb;
-  moves = λ few. let bounds = mul_bounds a.paths b.paths 65536 pa pb few in let first = ra.moves bounds.0 in let second = sb.moves bounds.1 in omega arith;
+none_left : (b : ℕ) → 0 * b ≡ 0
+none_left b = omega arith
+
+none_right : (a : ℕ) → a * 0 ≡ 0
+none_right a = omega arith
+
+pub min_mul : (a b x y : ℕ) → x ≡ min a 65537 → y ≡ min b 65537 → min (x * y) 65537 ≡ min (a * b) 65537
+min_mul zero b x y ex ey =
+    let none : x ≡ 0 = omega arith in
+    ap (λ n. min n 65537) (ap (λ n. n * y) none ∙ none_left y ∙ sym (none_left b))
+min_mul (suc a) zero x y ex ey =
+    let none : y ≡ 0 = omega arith in
+    ap (λ n. min n 65537) (ap (λ n. x * n) none ∙ none_right x ∙ sym (none_right (suc a)))
+min_mul (suc a) (suc b) x y ex ey = min_mul_some (suc a) (suc b) x y ex ey (omega arith) (omega arith)
+
+-- the moves of two parts one after the other
+both_moves : (a b : FullExtent) (r s t : Extent) → IsCapped r a → IsCapped s b → t.moves ≡ where_paths (r.paths * s.paths) (min (r.moves + s.moves) 513) → a.paths * b.paths ≤ 65536 → (m n : ℕ) → a.paths ≡ m → b.paths ≡ n → t.moves ≡ min (both a b).moves 513
+both_moves a b r s t ra sb moves few zero n am bn =
+    let none : r.paths ≡ 0 = omega (arith, ra.paths, am) in
+    moves
+    ∙ ap (λ p. where_paths p (min (r.moves + s.moves) 513)) (ap (λ p. p * s.paths) none ∙ none_left s.paths)
+    ∙ sym (ap (λ p. min (where_paths p (a.moves + b.moves)) 513) (ap (λ p. p * b.paths) am ∙ none_left b.paths))
+both_moves a b r s t ra sb moves few (suc m) zero am bn =
+    let none : s.paths ≡ 0 = omega (arith, sb.paths, bn) in
+    moves
+    ∙ ap (λ p. where_paths p (min (r.moves + s.moves) 513)) (ap (λ p. r.paths * p) none ∙ none_right r.paths)
+    ∙ sym (ap (λ p. min (where_paths p (a.moves + b.moves)) 513) (ap (λ p. a.paths * p) bn ∙ none_right a.paths))
+both_moves a b r s t ra sb moves few (suc m) (suc n) am bn =
+    let pa : 1 ≤ a.paths = omega arith in
+    let pb : 1 ≤ b.paths = omega arith in
+    let pr : 1 ≤ r.paths = omega (arith, ra.paths) in
+    let ps : 1 ≤ s.paths = omega (arith, sb.paths) in
+    let bounds = mul_bounds a.paths b.paths 65536 pa pb few in
+    let first = ra.moves bounds.0 in
+    let second = sb.moves bounds.1 in
+    let code = where_some (r.paths * s.paths) (min (r.moves + s.moves) 513) (mul_positive r.paths s.paths pr ps) in
+    let full = where_some (a.paths * b.paths) (a.moves + b.moves) (mul_positive a.paths b.paths pa pb) in
+    let sum : min (r.moves + s.moves) 513 ≡ min (a.moves + b.moves) 513 = omega (arith, first, second) in
+    moves ∙ code ∙ sum ∙ ap (λ n. min n 513) (sym full)
+
+pub capped_both : (r s t : Extent) (a b : FullExtent) → IsCapped r a → IsCapped s b → t.paths ≡ min (r.paths * s.paths) 65537 → t.moves ≡ where_paths (r.paths * s.paths) (min (r.moves + s.moves) 513) → IsCapped t (both a b)
+capped_both r s t a b ra sb paths moves = record {
+  paths = paths ∙ min_mul a.paths b.paths r.paths s.paths ra.paths sb.paths;
+  moves = λ few. both_moves a b r s t ra sb moves few a.paths b.paths refl refl;
 }
 
 pub capped_either : (r s t : Extent) (a b : FullExtent) → IsCapped r a → IsCapped s b → t.paths ≡ min (r.paths + s.paths) 65537 → t.moves ≡ max r.moves s.moves → IsCapped t (either a b)
@@ -77,10 +99,24 @@ capped_either r s t a b ra sb paths moves = record {
   moves = λ few. let first = ra.moves (omega arith) in let second = sb.moves (omega arith) in omega arith;
 }
 
-pub capped_longer : (r t : Extent) (a : FullExtent) → IsCapped r a → t.paths ≡ r.paths → t.moves ≡ min (r.moves + 1) 513 → IsCapped t (longer a)
+longer_moves : (r t : Extent) (a : FullExtent) → IsCapped r a → t.moves ≡ where_paths r.paths (min (r.moves + 1) 513) → a.paths ≤ 65536 → (m : ℕ) → a.paths ≡ m → t.moves ≡ min (longer a).moves 513
+longer_moves r t a ra moves few zero am =
+    let none : r.paths ≡ 0 = omega (arith, ra.paths, am) in
+    moves
+    ∙ ap (λ p. where_paths p (min (r.moves + 1) 513)) none
+    ∙ sym (ap (λ p. min (where_paths p (a.moves + 1)) 513) am)
+longer_moves r t a ra moves few (suc m) am =
+    let pr : 1 ≤ r.paths = omega (arith, ra.paths, am) in
+    let first = ra.moves few in
+    let code = where_some r.paths (min (r.moves + 1) 513) pr in
+    let full = where_some a.paths (a.moves + 1) (omega arith) in
+    let sum : min (r.moves + 1) 513 ≡ min (a.moves + 1) 513 = omega (arith, first) in
+    moves ∙ code ∙ sum ∙ ap (λ n. min n 513) (sym full)
+
+pub capped_longer : (r t : Extent) (a : FullExtent) → IsCapped r a → t.paths ≡ r.paths → t.moves ≡ where_paths r.paths (min (r.moves + 1) 513) → IsCapped t (longer a)
 capped_longer r t a ra paths moves = record {
   paths = paths ∙ ra.paths;
-  moves = λ few. let first = ra.moves few in omega arith;
+  moves = λ few. longer_moves r t a ra moves few a.paths refl;
 }
 
 -- ---- documents, as a loop over them goes
@@ -155,7 +191,7 @@ module _ (documents : List ApprovedDoc) (levels : ℕ) (some : levels ≢ 0) (el
       let so_far = (entered r (take i documents) h).paths in
       leave r documents (record { paths = omega arith; moves = λ few. absurd (omega arith) })
 
-  pub capped_entered : (r s m t : Extent) (i : ℕ) (document : ApprovedDoc) → i < length documents → document ≡ get_or documents i document → is_some (approval_of element document) ≡ true → IsCapped r (extent_by_approval (document_extent documents levels) element (take i documents)) → IsCapped s (enter document) → m.paths ≡ s.paths → m.moves ≡ min (s.moves + 1) 513 → t.paths ≡ min (r.paths + m.paths) 65537 → t.moves ≡ max r.moves m.moves → IsCapped t (extent_by_approval (document_extent documents levels) element (take (i + 1) documents))
+  pub capped_entered : (r s m t : Extent) (i : ℕ) (document : ApprovedDoc) → i < length documents → document ≡ get_or documents i document → is_some (approval_of element document) ≡ true → IsCapped r (extent_by_approval (document_extent documents levels) element (take i documents)) → IsCapped s (enter document) → m.paths ≡ s.paths → m.moves ≡ where_paths s.paths (min (s.moves + 1) 513) → t.paths ≡ min (r.paths + m.paths) 65537 → t.moves ≡ max r.moves m.moves → IsCapped t (extent_by_approval (document_extent documents levels) element (take (i + 1) documents))
   capped_entered r s m t i document within is accepted h k m_paths m_moves t_paths t_moves =
       let one = capped_either r m t (extent_by_approval (Some enter) element (take i documents)) (longer (enter document)) (entered r (take i documents) h) (capped_longer s m (enter document) k m_paths m_moves) t_paths t_moves in
       let chosen : one_document enter element document ≡ longer (enter document) = ap (λ b. if b then longer (enter document) else no_path) accepted in

@@ -1,4 +1,3 @@
-pub mod Digests
 pub mod Documents
 pub mod Erasures
 pub mod Extents

@@ -4,7 +4,7 @@ use Rattle.std.specs.Prelude.{Any, is_some, if◌then◌else◌}
 use Rattle.std.specs.List.{AllByRecursion}
 use Rattle.std.proofs.lemmas.Bool.{cases_lt}
 use Rattle.std.proofs.lemmas.List.{append-nil, length-map}
-use Rattle.std.proofs.lemmas.List.Elements.{All-from_recursion, recursion_from_All}
+use Rattle.std.proofs.lemmas.List.Elements.{All-from_recursion}
 use Rattle.tpol_base.specs.declared.digest.Digest32.{Digest32}
 use Rattle.tpol_tree.specs.declared.closed.Closed.{Closed}
 use Rattle.tpol_tree.specs.declared.closed.ClosedElements.{ClosedElements}
@@ -19,13 +19,12 @@ use Rattle.tpol_tree.specs.declared.path.Move.TheVariants.{Or as OrMove, Approve
 use Rattle.tpol_tree.specs.declared.path.Path.{Path}
 use Rattle.tpol_tree.specs.declared.path.PathStep.{PathStep}
 use Rattle.tpol_tree.specs.declared.path.PathStep.TheVariants.{Branch, Document}
-use Rattle.tpol_tree.specs.Closed.{branch_count, HasBranchCounts, ElementHasBranchCounts, BranchesHaveBranchCounts}
 use Rattle.tpol_digest.specs.Digest.{zero_digest, digest_at_element, branch_digests}
 use Rattle.tpol_digest.specs.Paths.{empty_path, followed_by, product, between, outside_path, approval_of, paths_by_approval, approved_paths, paths_at, paths_at_element, paths_at_branches, document_paths, paths_of}
-use Rattle.tpol_digest.specs.Extent.{FullExtent, no_path, one_move, both, either, longer, extent_by_approval, extent_at, extent_at_element, extent_at_branches, document_extent, IsCapped}
+use Rattle.tpol_digest.specs.Extent.{FullExtent, where_paths, no_path, one_move, both, either, longer, extent_by_approval, extent_at, extent_at_element, extent_at_branches, document_extent, IsCapped}
 use Rattle.tpol_digest.specs.declared.extent.Extent.{Extent}
-use Rattle.tpol_digest.specs.WellFormed.{HaveBranchCounts}
-use Rattle.tpol_digest.proofs.Products.{Each-append, Each-product}
+use Rattle.tpol_digest.proofs.Extents.{mul_positive, where_some}
+use Rattle.tpol_digest.proofs.Products.{Each-append, Each-product, product_none}
 use Rattle.tpol_digest.proofs.Walks.{length-product}
 
 -- some path has at least so many moves
@@ -49,8 +48,19 @@ pub record Measures (extent : FullExtent) (paths : List Path) : Type 0 where
   pub reached : HasLong extent.moves paths
 
 -- the same where there may be no path
-abbrev MeasuresAny : FullExtent → List Path → Type 0
+abbrev pub MeasuresAny : FullExtent → List Path → Type 0
 MeasuresAny extent paths = ((extent ≡ no_path) × (paths ≡ [])) ⊎ Measures extent paths
+
+pub any_count : (extent : FullExtent) (paths : List Path) → MeasuresAny extent paths → length paths ≡ extent.paths
+any_count extent paths (inl h) = ap length h.1 ∙ sym (ap (λ x. x.paths) h.0)
+any_count extent paths (inr h) = h.count
+
+long_some : (n : ℕ) (paths : List Path) → HasLong n paths → 1 ≤ length paths
+long_some n [] h = absurd h
+long_some n (p ∷ rest) h = omega arith
+
+some_paths : (extent : FullExtent) (paths : List Path) → Measures extent paths → 1 ≤ extent.paths
+some_paths extent paths h = omega (arith, h.count, long_some extent.moves paths h.reached)
 
 same_extent : (a b : FullExtent) → a.paths ≡ b.paths → a.moves ≡ b.moves → a ≡ b
 same_extent a b paths moves = λ i. record { paths = paths i; moves = moves i }
@@ -108,11 +118,17 @@ longer_reached n step act (p ∷ rest) (inl h) = inl (omega (arith, between_move
 longer_reached n step act (p ∷ rest) (inr h) = inr (longer_reached n step act rest h)
 
 measures_longer : (a : FullExtent) (step : PathStep) (act : Move) (paths : List Path) → Measures a paths → Measures (longer a) (map (between step act) paths)
-measures_longer a step act paths h = record {
-  count = length-map paths (between step act) ∙ h.count;
-  most = longer_most a.moves step act paths h.most;
-  reached = longer_reached a.moves step act paths h.reached;
-}
+measures_longer a step act paths h =
+    let moves : a.moves + 1 ≡ (longer a).moves = sym (where_some a.paths (a.moves + 1) (some_paths a paths h)) in
+    record {
+      count = length-map paths (between step act) ∙ h.count;
+      most = subst (λ n. AllByRecursion (λ p. length p.moves ≤ n) (map (between step act) paths)) moves (longer_most a.moves step act paths h.most);
+      reached = subst (λ n. HasLong n (map (between step act) paths)) moves (longer_reached a.moves step act paths h.reached);
+    }
+
+any_longer : (a : FullExtent) (step : PathStep) (act : Move) (paths : List Path) → MeasuresAny a paths → MeasuresAny (longer a) (map (between step act) paths)
+any_longer a step act paths (inl h) = inl (ap longer h.0, ap (map (between step act)) h.1)
+any_longer a step act paths (inr h) = inr (measures_longer a step act paths h)
 
 -- ---- one part after the other
 
@@ -130,11 +146,30 @@ reached_product m n (x ∷ xs) ys (inl h) k = has_long_left (m + n) (map (follow
 reached_product m n (x ∷ xs) ys (inr h) k = has_long_right (m + n) (map (followed_by x) ys) (product xs ys) (reached_product m n xs ys h k)
 
 measures_both : (a b : FullExtent) (xs ys : List Path) → Measures a xs → Measures b ys → Measures (both a b) (product xs ys)
-measures_both a b xs ys h k = record {
-  count = length-product xs ys ∙ ap (λ n. n * length ys) h.count ∙ ap (λ n. a.paths * n) k.count;
-  most = Each-product (λ p. length p.moves ≤ a.moves) (λ p. length p.moves ≤ b.moves) (λ p. length p.moves ≤ a.moves + b.moves) xs ys (λ p q x y. omega (arith, followed_moves p q)) h.most k.most;
-  reached = reached_product a.moves b.moves xs ys h.reached k.reached;
-}
+measures_both a b xs ys h k =
+    let moves : a.moves + b.moves ≡ (both a b).moves = sym (where_some (a.paths * b.paths) (a.moves + b.moves) (mul_positive a.paths b.paths (some_paths a xs h) (some_paths b ys k))) in
+    record {
+      count = length-product xs ys ∙ ap (λ n. n * length ys) h.count ∙ ap (λ n. a.paths * n) k.count;
+      most = subst (λ n. AllByRecursion (λ p. length p.moves ≤ n) (product xs ys)) moves (Each-product (λ p. length p.moves ≤ a.moves) (λ p. length p.moves ≤ b.moves) (λ p. length p.moves ≤ a.moves + b.moves) xs ys (λ p q x y. omega (arith, followed_moves p q)) h.most k.most);
+      reached = subst (λ n. HasLong n (product xs ys)) moves (reached_product a.moves b.moves xs ys h.reached k.reached);
+    }
+
+-- a part without a path leaves none
+both_none : (a : FullExtent) → both a no_path ≡ no_path
+both_none a =
+    let none : a.paths * 0 ≡ 0 = omega arith in
+    same_extent (both a no_path) no_path none (ap (λ p. where_paths p (a.moves + 0)) none)
+
+none_both : (b : FullExtent) → both no_path b ≡ no_path
+none_both b =
+    let none : 0 * b.paths ≡ 0 = omega arith in
+    same_extent (both no_path b) no_path none (ap (λ p. where_paths p (0 + b.moves)) none)
+
+any_both : (a b : FullExtent) (xs ys : List Path) → MeasuresAny a xs → MeasuresAny b ys → MeasuresAny (both a b) (product xs ys)
+any_both a b xs ys (inl h) k = inl (ap (λ x. both x b) h.0 ∙ none_both b, ap (λ l. product l ys) h.1)
+any_both a b xs ys (inr h) (inl k) =
+    inl (ap (both a) k.0 ∙ both_none a, ap (product xs) k.1 ∙ product_none xs)
+any_both a b xs ys (inr h) (inr k) = inr (measures_both a b xs ys h k)
 
 measures_one : (n : ℕ) (p : Path) → length p.moves ≡ n → Measures (record { paths = 1; moves = n }) (p ∷ [])
 measures_one n p e = record { count = refl; most = (omega arith, tt); reached = inl (omega arith) }
@@ -144,7 +179,7 @@ measures_one n p e = record { count = refl; most = (omega arith, tt); reached = 
 -- what the extents and the paths of documents agree on
 abbrev Agrees : Option (ApprovedDoc → FullExtent) → (ApprovedDoc → List Path) → List ApprovedDoc → Type 0
 Agrees None paths documents = AllByRecursion (λ document. paths document ≡ []) documents
-Agrees (Some extents) paths documents = AllByRecursion (λ document. Measures (extents document) (paths document)) documents
+Agrees (Some extents) paths documents = AllByRecursion (λ document. MeasuresAny (extents document) (paths document)) documents
 
 approvals_none : (paths : ApprovedDoc → List Path) (element : ClosedElement) (documents : List ApprovedDoc) → AllByRecursion (λ document. paths document ≡ []) documents → approved_paths paths documents element ≡ []
 approvals_none paths element [] h = refl
@@ -155,11 +190,11 @@ approvals_none paths element (document ∷ rest) h =
     nothing None = refl
     nothing (Some act) = refl
 
-one_measures : (extent : FullExtent) (document : ApprovedDoc) (paths : List Path) → Measures extent paths → (found : Option Move) → MeasuresAny (if is_some found then longer extent else no_path) (paths_by_approval found document paths)
+one_measures : (extent : FullExtent) (document : ApprovedDoc) (paths : List Path) → MeasuresAny extent paths → (found : Option Move) → MeasuresAny (if is_some found then longer extent else no_path) (paths_by_approval found document paths)
 one_measures extent document paths h None = inl (refl, refl)
-one_measures extent document paths h (Some act) = inr (measures_longer extent (Document document.document) act paths h)
+one_measures extent document paths h (Some act) = any_longer extent (Document document.document) act paths h
 
-approvals_measure : (extents : ApprovedDoc → FullExtent) (paths : ApprovedDoc → List Path) (element : ClosedElement) (documents : List ApprovedDoc) → AllByRecursion (λ document. Measures (extents document) (paths document)) documents → MeasuresAny (extent_by_approval (Some extents) element documents) (approved_paths paths documents element)
+approvals_measure : (extents : ApprovedDoc → FullExtent) (paths : ApprovedDoc → List Path) (element : ClosedElement) (documents : List ApprovedDoc) → AllByRecursion (λ document. MeasuresAny (extents document) (paths document)) documents → MeasuresAny (extent_by_approval (Some extents) element documents) (approved_paths paths documents element)
 approvals_measure extents paths element [] h = inl (refl, refl)
 approvals_measure extents paths element (document ∷ rest) h =
     any_any (if is_some (approval_of element document) then longer (extents document) else no_path) (extent_by_approval (Some extents) element rest) (paths_by_approval (approval_of element document) document (paths document)) (approved_paths paths rest element) (one_measures (extents document) document (paths document) h.0 (approval_of element document)) (approvals_measure extents paths element rest h.1)
@@ -170,47 +205,41 @@ approvals_agree (Some extents) paths element documents h = approvals_measure ext
 
 module _ (extents : Option (ApprovedDoc → FullExtent)) (within : ApprovedDoc → List Path) (documents : List ApprovedDoc) (agree : Agrees extents within documents) where
   mutual
-    pub extent_at-measures : (elements : ClosedElements) (d : Digest32) → HasBranchCounts elements → Measures (extent_at extents documents elements) (paths_at within documents elements d)
-    extent_at-measures End d h = measures_one 0 empty_path refl
-    extent_at-measures (More' p element q rest) d h =
-        measures_both (extent_at_element extents documents element) (extent_at extents documents rest) (paths_at_element within documents element d) (paths_at within documents rest (digest_at_element element d)) (extent_at_element-measures element d h.0) (extent_at-measures rest (digest_at_element element d) h.1)
+    pub extent_at-measures : (elements : ClosedElements) (d : Digest32) → MeasuresAny (extent_at extents documents elements) (paths_at within documents elements d)
+    extent_at-measures End d = inr (measures_one 0 empty_path refl)
+    extent_at-measures (More' p element q rest) d =
+        any_both (extent_at_element extents documents element) (extent_at extents documents rest) (paths_at_element within documents element d) (paths_at within documents rest (digest_at_element element d)) (extent_at_element-measures element d) (extent_at-measures rest (digest_at_element element d))
 
-    pub extent_at_element-measures : (element : ClosedElement) (d : Digest32) → ElementHasBranchCounts element → Measures (extent_at_element extents documents element) (paths_at_element within documents element d)
-    extent_at_element-measures (Assert assertion) d h = measures_one 1 _ refl
-    extent_at_element-measures (Or branches) d h =
-        ⊎_elim (λ empty. absurd (omega (arith, h.0.0, empty))) (λ m. m) (extent_at_branches-measures branches 1 (OrMove (branch_digests branches d)) d h.1)
-    extent_at_element-measures (Authorize key policy_ref) d h =
-        any_either (extent_by_approval extents (Authorize key policy_ref) documents) one_move (approved_paths within documents (Authorize key policy_ref)) (outside_path (Approve key policy_ref zero_digest zero_digest) ∷ []) (approvals_agree extents within (Authorize key policy_ref) documents agree) (measures_one 1 _ refl)
-    extent_at_element-measures (AuthorizeNv index) d h =
-        any_either (extent_by_approval extents (AuthorizeNv index) documents) one_move (approved_paths within documents (AuthorizeNv index)) (outside_path (ApproveNv index zero_digest) ∷ []) (approvals_agree extents within (AuthorizeNv index) documents agree) (measures_one 1 _ refl)
+    pub extent_at_element-measures : (element : ClosedElement) (d : Digest32) → MeasuresAny (extent_at_element extents documents element) (paths_at_element within documents element d)
+    extent_at_element-measures (Assert assertion) d = inr (measures_one 1 _ refl)
+    extent_at_element-measures (Or branches) d = extent_at_branches-measures branches 1 (OrMove (branch_digests branches d)) d
+    extent_at_element-measures (Authorize key policy_ref) d =
+        inr (any_either (extent_by_approval extents (Authorize key policy_ref) documents) one_move (approved_paths within documents (Authorize key policy_ref)) (outside_path (Approve key policy_ref zero_digest zero_digest) ∷ []) (approvals_agree extents within (Authorize key policy_ref) documents agree) (measures_one 1 _ refl))
+    extent_at_element-measures (AuthorizeNv index) d =
+        inr (any_either (extent_by_approval extents (AuthorizeNv index) documents) one_move (approved_paths within documents (AuthorizeNv index)) (outside_path (ApproveNv index zero_digest) ∷ []) (approvals_agree extents within (AuthorizeNv index) documents agree) (measures_one 1 _ refl))
 
-    pub extent_at_branches-measures : (branches : ClosedBranches) (position : ℕ) (act : Move) (d : Digest32) → BranchesHaveBranchCounts branches → (branch_count branches ≡ 0) ⊎ Measures (extent_at_branches extents documents branches) (paths_at_branches within documents branches position act d)
-    extent_at_branches-measures EndBranches position act d h = inl refl
-    extent_at_branches-measures (MoreBranches' p name elements q rest) position act d h =
-        inr (either_any (longer (extent_at extents documents elements)) (extent_at_branches extents documents rest) (map (between (Branch position name) act) (paths_at within documents elements d)) (paths_at_branches within documents rest (position + 1) act d) (measures_longer (extent_at extents documents elements) (Branch position name) act (paths_at within documents elements d) (extent_at-measures elements d h.0)) (others rest (extent_at_branches-measures rest (position + 1) act d h.1)))
-      where
-        others : (rest : ClosedBranches) → (branch_count rest ≡ 0) ⊎ Measures (extent_at_branches extents documents rest) (paths_at_branches within documents rest (position + 1) act d) → MeasuresAny (extent_at_branches extents documents rest) (paths_at_branches within documents rest (position + 1) act d)
-        others EndBranches m = inl (refl, refl)
-        others (MoreBranches' p name elements q rest) (inl empty) = absurd (omega arith)
-        others (MoreBranches' p name elements q rest) (inr m) = inr m
+    pub extent_at_branches-measures : (branches : ClosedBranches) (position : ℕ) (act : Move) (d : Digest32) → MeasuresAny (extent_at_branches extents documents branches) (paths_at_branches within documents branches position act d)
+    extent_at_branches-measures EndBranches position act d = inl (refl, refl)
+    extent_at_branches-measures (MoreBranches' p name elements q rest) position act d =
+        any_any (longer (extent_at extents documents elements)) (extent_at_branches extents documents rest) (map (between (Branch position name) act) (paths_at within documents elements d)) (paths_at_branches within documents rest (position + 1) act d) (any_longer (extent_at extents documents elements) (Branch position name) act (paths_at within documents elements d) (extent_at-measures elements d)) (extent_at_branches-measures rest (position + 1) act d)
 
-pub document_agrees : (documents : List ApprovedDoc) → AllByRecursion (λ document. HasBranchCounts document.closed.elements) documents → (levels : ℕ) → Agrees (document_extent documents levels) (document_paths documents levels) documents
+pub document_agrees : (documents : List ApprovedDoc) (levels : ℕ) → Agrees (document_extent documents levels) (document_paths documents levels) documents
 unfolding document_paths document_extent
-document_agrees documents counts zero = each documents
+document_agrees documents zero = each documents
   where
     each : (some : List ApprovedDoc) → AllByRecursion (λ document. document_paths documents zero document ≡ []) some
     each [] = tt
     each (document ∷ rest) = (refl, each rest)
-document_agrees documents counts (suc levels) = each (document_agrees documents counts levels) documents counts
+document_agrees documents (suc levels) = each (document_agrees documents levels) documents
   where
-    each : Agrees (document_extent documents levels) (document_paths documents levels) documents → (some : List ApprovedDoc) → AllByRecursion (λ document. HasBranchCounts document.closed.elements) some → AllByRecursion (λ document. Measures (extent_at (document_extent documents levels) documents document.closed.elements) (document_paths documents (suc levels) document)) some
-    each before [] h = tt
-    each before (document ∷ rest) h =
-        (extent_at-measures (document_extent documents levels) (document_paths documents levels) documents before document.closed.elements zero_digest h.0, each before rest h.1)
+    each : Agrees (document_extent documents levels) (document_paths documents levels) documents → (some : List ApprovedDoc) → AllByRecursion (λ document. MeasuresAny (extent_at (document_extent documents levels) documents document.closed.elements) (document_paths documents (suc levels) document)) some
+    each before [] = tt
+    each before (document ∷ rest) =
+        (extent_at-measures (document_extent documents levels) (document_paths documents levels) documents before document.closed.elements zero_digest, each before rest)
 
-pub paths_of-measures : (policy : Closed) (approvals : List ApprovedDoc) → HaveBranchCounts policy approvals → Measures (extent_at (document_extent approvals 4) approvals policy.elements) (paths_of policy approvals)
-paths_of-measures policy approvals h =
-    extent_at-measures (document_extent approvals 4) (document_paths approvals 4) approvals (document_agrees approvals (recursion_from_All (λ document. HasBranchCounts document.closed.elements) approvals h.documents) 4) policy.elements zero_digest h.policy_itself
+pub paths_of-measures : (policy : Closed) (approvals : List ApprovedDoc) → MeasuresAny (extent_at (document_extent approvals 4) approvals policy.elements) (paths_of policy approvals)
+paths_of-measures policy approvals =
+    extent_at-measures (document_extent approvals 4) (document_paths approvals 4) approvals (document_agrees approvals 4) policy.elements zero_digest
 
 -- ---- the limits
 
@@ -226,26 +255,37 @@ no_long n paths h found =
     let low' = subst (λ p. length p.moves ≤ n) found.3 low in
     omega (arith, low', found.4)
 
-module _ (extent : Extent) (full : FullExtent) (paths : List Path) (capped : IsCapped extent full) (measures : Measures full paths) where
+module _ (extent : Extent) (full : FullExtent) (paths : List Path) (capped : IsCapped extent full) (measures : MeasuresAny full paths) where
+  count : length paths ≡ full.paths
+  count = any_count full paths measures
+
   pub counted : extent.paths ≡ min (length paths) 65537
-  counted = capped.paths ∙ ap (λ n. min n 65537) (sym measures.count)
+  counted = capped.paths ∙ ap (λ n. min n 65537) (sym count)
 
   pub many : 65536 < extent.paths → 65536 < length paths
-  many h = let a = capped.paths in let b = measures.count in omega arith
+  many h = let a = capped.paths in let b = count in omega arith
 
   pub few : extent.paths ≤ 65536 → length paths ≤ 65536
-  few h = let a = capped.paths in let b = measures.count in omega arith
+  few h = let a = capped.paths in let b = count in omega arith
 
   pub long : extent.paths ≤ 65536 → 512 < extent.moves → Any (λ p. 512 < length p.moves) paths
   long h k =
       let a = capped.paths in
       let b = capped.moves (omega arith) in
       let high : 512 + 1 ≤ full.moves = omega arith in
-      any_from_long 512 paths (lower (512 + 1) full.moves high paths measures.reached)
+      reached measures high
+    where
+      reached : MeasuresAny full paths → 512 + 1 ≤ full.moves → Any (λ p. 512 < length p.moves) paths
+      reached (inl none) high = absurd (omega (arith, high, ap (λ x. x.moves) none.0))
+      reached (inr some) high = any_from_long 512 paths (lower (512 + 1) full.moves high paths some.reached)
 
   pub short : extent.paths ≤ 65536 → extent.moves ≤ 512 → Any (λ p. 512 < length p.moves) paths → ⊥
   short h k =
       let a = capped.paths in
       let b = capped.moves (omega arith) in
       let low : full.moves ≤ 512 = omega arith in
-      no_long 512 paths (weaker full.moves 512 low paths measures.most)
+      no_long 512 paths (most measures low)
+    where
+      most : MeasuresAny full paths → full.moves ≤ 512 → AllByRecursion (λ p. length p.moves ≤ 512) paths
+      most (inl none) low = subst (AllByRecursion (λ (p : Path). length p.moves ≤ 512)) (sym none.1) tt
+      most (inr some) low = weaker full.moves 512 low paths some.most

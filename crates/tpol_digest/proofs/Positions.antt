@@ -7,7 +7,6 @@ use Rattle.std.proofs.lemmas.Nat.{div-add-mod', div_below}
 use Rattle.std.proofs.lemmas.Bool.{or_parts}
 use Rattle.std.proofs.lemmas.List.{append-nil, length-map, map-append, take_more, take_all}
 use Rattle.std.proofs.lemmas.List.Concat.{flat_map-append, get_or-flat_map}
-use Rattle.std.proofs.lemmas.List.Elements.{recursion_from_All}
 use Rattle.std.proofs.lemmas.List.Folds.{length-flat_map-take}
 use Rattle.std.proofs.lemmas.Option.{slice_get_read, slice_get_within, get_or_from_slice_get}
 use Rattle.tpol_base.specs.declared.digest.Digest32.{Digest32}
@@ -22,15 +21,14 @@ use Rattle.tpol_tree.specs.declared.path.Move.{Move}
 use Rattle.tpol_tree.specs.declared.path.Path.{Path}
 use Rattle.tpol_tree.specs.declared.path.PathStep.{PathStep}
 use Rattle.tpol_tree.specs.declared.path.PathStep.TheVariants.{Branch, Document}
-use Rattle.tpol_tree.specs.Closed.{HasBranchCounts, ElementHasBranchCounts}
 use Rattle.tpol_digest.specs.declared.extent.Extent.{Extent}
 use Rattle.tpol_digest.specs.Digest.{zero_digest, digest_at_element}
 use Rattle.tpol_digest.specs.Extent.{extent_at, extent_at_element, document_extent, IsCapped}
 use Rattle.tpol_digest.specs.Paths.{empty_path, path_of_move, followed_by, product, between, approval_of, paths_by_approval, approved_paths, outside_paths, paths_at_branches, document_paths}
 use Rattle.tpol_digest.specs.Positions.{is_or, has_or, path_of_step, element_list_ways, element_ways, branch_ways, approval_ways, GoesOn}
 use Rattle.tpol_digest.proofs.Documents.{approved_none, document_paths-some}
-use Rattle.tpol_digest.proofs.Extents.{mul_bounds, extent_at-positive, extent_at_element-positive}
-use Rattle.tpol_digest.proofs.Measures.{document_agrees, extent_at-measures, extent_at_element-measures}
+use Rattle.tpol_digest.proofs.Extents.{mul_bounds, parts_positive}
+use Rattle.tpol_digest.proofs.Measures.{any_count, document_agrees, extent_at-measures, extent_at_element-measures}
 use Rattle.tpol_digest.proofs.Products.{same_path, or_false, followed_by_empty, followed_by_assoc}
 use Rattle.tpol_digest.proofs.Walks.{length-product, path_at-first, path_at-later, path_at-map, path_at-product}
 
@@ -126,31 +124,21 @@ unbranched_ways documents levels (More' p element q rest) d e h =
 
 -- ---- how many ways there are
 
-module _ (documents : List ApprovedDoc) (approved : All (λ document. HasBranchCounts document.closed.elements) documents) (levels : ℕ) where
-  ways_counted : (elements : ClosedElements) (d : Digest32) → HasBranchCounts elements → length (element_list_ways documents levels elements d) ≡ (extent_at (document_extent documents levels) documents elements).paths
-  ways_counted elements d h =
-      (extent_at-measures (document_extent documents levels) (document_paths documents levels) documents (document_agrees documents (recursion_from_All (λ document. HasBranchCounts document.closed.elements) documents approved) levels) elements d h).count
+module _ (documents : List ApprovedDoc) (levels : ℕ) where
+  pub ways_counted : (elements : ClosedElements) (d : Digest32) → length (element_list_ways documents levels elements d) ≡ (extent_at (document_extent documents levels) documents elements).paths
+  ways_counted elements d =
+      any_count (extent_at (document_extent documents levels) documents elements) (element_list_ways documents levels elements d) (extent_at-measures (document_extent documents levels) (document_paths documents levels) documents (document_agrees documents levels) elements d)
 
-  element_ways_counted : (element : ClosedElement) (d : Digest32) → ElementHasBranchCounts element → length (element_ways documents levels element d) ≡ (extent_at_element (document_extent documents levels) documents element).paths
-  element_ways_counted element d h =
-      (extent_at_element-measures (document_extent documents levels) (document_paths documents levels) documents (document_agrees documents (recursion_from_All (λ document. HasBranchCounts document.closed.elements) documents approved) levels) element d h).count
+  element_ways_counted : (element : ClosedElement) (d : Digest32) → length (element_ways documents levels element d) ≡ (extent_at_element (document_extent documents levels) documents element).paths
+  element_ways_counted element d =
+      any_count (extent_at_element (document_extent documents levels) documents element) (element_ways documents levels element d) (extent_at_element-measures (document_extent documents levels) (document_paths documents levels) documents (document_agrees documents levels) element d)
 
-  pub some_way : (elements : ClosedElements) (d : Digest32) → HasBranchCounts elements → 1 ≤ length (element_list_ways documents levels elements d)
-  some_way elements d h =
-      let n = ways_counted elements d h in let some = extent_at-positive (document_extent documents levels) documents elements h in omega arith
+  pub counted_ways : (extent : Extent) (elements : ClosedElements) (d : Digest32) → IsCapped extent (extent_at (document_extent documents levels) documents elements) → extent.paths ≡ min (length (element_list_ways documents levels elements d)) 65537
+  counted_ways extent elements d capped = capped.paths ∙ ap (λ n. min n 65537) (sym (ways_counted elements d))
 
-  pub some_element_way : (element : ClosedElement) (d : Digest32) → ElementHasBranchCounts element → 1 ≤ length (element_ways documents levels element d)
-  some_element_way element d h =
-      let n = element_ways_counted element d h in
-      let some = extent_at_element-positive (document_extent documents levels) documents element h in
-      omega arith
-
-  pub counted_ways : (extent : Extent) (elements : ClosedElements) (d : Digest32) → HasBranchCounts elements → IsCapped extent (extent_at (document_extent documents levels) documents elements) → extent.paths ≡ min (length (element_list_ways documents levels elements d)) 65537
-  counted_ways extent elements d h capped = capped.paths ∙ ap (λ n. min n 65537) (sym (ways_counted elements d h))
-
-  pub counted_element_ways : (extent : Extent) (element : ClosedElement) (d : Digest32) → ElementHasBranchCounts element → IsCapped extent (extent_at_element (document_extent documents levels) documents element) → extent.paths ≡ min (length (element_ways documents levels element d)) 65537
-  counted_element_ways extent element d h capped =
-      capped.paths ∙ ap (λ n. min n 65537) (sym (element_ways_counted element d h))
+  pub counted_element_ways : (extent : Extent) (element : ClosedElement) (d : Digest32) → IsCapped extent (extent_at_element (document_extent documents levels) documents element) → extent.paths ≡ min (length (element_ways documents levels element d)) 65537
+  counted_element_ways extent element d capped =
+      capped.paths ∙ ap (λ n. min n 65537) (sym (element_ways_counted element d))
 
 -- ---- an index among the ways of two parts, one after the other
 
@@ -164,8 +152,11 @@ pub record Parted (choices count index first rest : ℕ) : Type 0 where
   pub rest_inside : index % (count / choices) < count / choices
   pub whole : index ≡ (index / (count / choices)) * rest + index % (count / choices)
 
-pub parted : (choices count index first rest : ℕ) → 1 ≤ first → 1 ≤ rest → count ≡ first * rest → count ≤ 65536 → choices ≡ min first 65537 → index < count → Parted choices count index first rest
-parted choices count index first rest f r e few c inside =
+pub parted : (choices count index first rest : ℕ) → count ≡ first * rest → count ≤ 65536 → choices ≡ min first 65537 → index < count → Parted choices count index first rest
+parted choices count index first rest e few c inside =
+    let each = parts_positive first rest (omega (arith, e)) in
+    let f = each.0 in
+    let r = each.1 in
     let bounds = mul_bounds first rest 65536 f r (omega (arith, e)) in
     let same : choices ≡ first = let small = bounds.0 in omega arith in
     let positive : 0 < choices = omega arith in
@@ -183,25 +174,25 @@ parted choices count index first rest f r e few c inside =
       whole = rw behind (sym (div-add-mod' index rest));
     }
 
-module _ (documents : List ApprovedDoc) (approved : All (λ document. HasBranchCounts document.closed.elements) documents) (levels : ℕ) where
-  pub parted_ways : (extent : Extent) (element : ClosedElement) (rest : ClosedElements) (d : Digest32) (count index : ℕ) → ElementHasBranchCounts element → HasBranchCounts rest → count ≡ length (product (element_ways documents levels element d) (element_list_ways documents levels rest (digest_at_element element d))) → count ≤ 65536 → index < count → IsCapped extent (extent_at_element (document_extent documents levels) documents element) → Parted extent.paths count index (length (element_ways documents levels element d)) (length (element_list_ways documents levels rest (digest_at_element element d)))
-  parted_ways extent element rest d count index h k counted few inside capped =
+module _ (documents : List ApprovedDoc) (levels : ℕ) where
+  pub parted_ways : (extent : Extent) (element : ClosedElement) (rest : ClosedElements) (d : Digest32) (count index : ℕ) → count ≡ length (product (element_ways documents levels element d) (element_list_ways documents levels rest (digest_at_element element d))) → count ≤ 65536 → index < count → IsCapped extent (extent_at_element (document_extent documents levels) documents element) → Parted extent.paths count index (length (element_ways documents levels element d)) (length (element_list_ways documents levels rest (digest_at_element element d)))
+  parted_ways extent element rest d count index counted few inside capped =
       let firsts = element_ways documents levels element d in
       let rests = element_list_ways documents levels rest (digest_at_element element d) in
-      parted extent.paths count index (length firsts) (length rests) (some_element_way documents approved levels element d h) (some_way documents approved levels rest (digest_at_element element d) k) (counted ∙ length-product firsts rests) few (counted_element_ways documents approved levels extent element d h capped) inside
+      parted extent.paths count index (length firsts) (length rests) (counted ∙ length-product firsts rests) few (counted_element_ways documents levels extent element d capped) inside
 
   -- the same without an OR, from the zero digest alone
-  pub parted_unbranched : (extent : Extent) (element : ClosedElement) (rest : ClosedElements) (count index : ℕ) → ElementHasBranchCounts element → HasBranchCounts rest → has_or rest ≡ false → count ≡ length (product (element_ways documents levels element zero_digest) (element_list_ways documents levels rest (digest_at_element element zero_digest))) → count ≤ 65536 → index < count → IsCapped extent (extent_at_element (document_extent documents levels) documents element) → Parted extent.paths count index (length (element_ways documents levels element zero_digest)) (length (element_list_ways documents levels rest zero_digest))
-  parted_unbranched extent element rest count index h k none counted few inside capped =
-      subst (λ ways. Parted extent.paths count index (length (element_ways documents levels element zero_digest)) (length ways)) (unbranched_ways documents levels rest (digest_at_element element zero_digest) zero_digest none) (parted_ways extent element rest zero_digest count index h k counted few inside capped)
+  pub parted_unbranched : (extent : Extent) (element : ClosedElement) (rest : ClosedElements) (count index : ℕ) → has_or rest ≡ false → count ≡ length (product (element_ways documents levels element zero_digest) (element_list_ways documents levels rest (digest_at_element element zero_digest))) → count ≤ 65536 → index < count → IsCapped extent (extent_at_element (document_extent documents levels) documents element) → Parted extent.paths count index (length (element_ways documents levels element zero_digest)) (length (element_list_ways documents levels rest zero_digest))
+  parted_unbranched extent element rest count index none counted few inside capped =
+      subst (λ ways. Parted extent.paths count index (length (element_ways documents levels element zero_digest)) (length ways)) (unbranched_ways documents levels rest (digest_at_element element zero_digest) zero_digest none) (parted_ways extent element rest zero_digest count index counted few inside capped)
 
   -- a branch, or a document, and what stands behind it
-  pub counted_first : (extent : Extent) (elements : ClosedElements) (d : Digest32) (f : Path → Path) (others : List Path) → HasBranchCounts elements → length (map f (element_list_ways documents levels elements d) ++ others) ≤ 65536 → IsCapped extent (extent_at (document_extent documents levels) documents elements) → (extent.paths ≡ length (element_list_ways documents levels elements d)) × (length (map f (element_list_ways documents levels elements d) ++ others) ≡ extent.paths + length others)
-  counted_first extent elements d f others h few capped =
+  pub counted_first : (extent : Extent) (elements : ClosedElements) (d : Digest32) (f : Path → Path) (others : List Path) → length (map f (element_list_ways documents levels elements d) ++ others) ≤ 65536 → IsCapped extent (extent_at (document_extent documents levels) documents elements) → (extent.paths ≡ length (element_list_ways documents levels elements d)) × (length (map f (element_list_ways documents levels elements d) ++ others) ≡ extent.paths + length others)
+  counted_first extent elements d f others few capped =
       let ways = element_list_ways documents levels elements d in
       let total = length-append (map f ways) others in
       let same = length-map ways f in
-      let counted = counted_ways documents approved levels extent elements d h capped in
+      let counted = counted_ways documents levels extent elements d capped in
       let exact : extent.paths ≡ length ways = omega arith in
       (exact, omega arith)
 
@@ -257,13 +248,12 @@ module _ (documents : List ApprovedDoc) (levels : ℕ) (element : ClosedElement)
           ∙ ap (λ x. get_or (part x) left g.way) (sym is)
           ∙ get_or_from_slice_get (part document) left g.way g.way g.is_there
 
-  pub document_counted : (approved : All (λ x. HasBranchCounts x.closed.elements) documents) (extent : Extent) (i : ℕ) (document : ApprovedDoc) → i < length documents → document ≡ get_or documents i document → levels ≢ 0 → is_some (approval_of element document) ≡ true → length (approval_ways documents levels element) ≤ 65536 → IsCapped extent (extent_at (document_extent documents (levels - 1)) documents document.closed.elements) → (extent.paths ≡ length (part document)) × (extent.paths ≡ length (element_list_ways documents (levels - 1) document.closed.elements zero_digest))
-  document_counted approved extent i document inside is level accepted few capped =
-      let counts = subst (λ x. HasBranchCounts x.closed.elements) (sym is) (approved i document inside) in
+  pub document_counted : (extent : Extent) (i : ℕ) (document : ApprovedDoc) → i < length documents → document ≡ get_or documents i document → levels ≢ 0 → is_some (approval_of element document) ≡ true → length (approval_ways documents levels element) ≤ 65536 → IsCapped extent (extent_at (document_extent documents (levels - 1)) documents document.closed.elements) → (extent.paths ≡ length (part document)) × (extent.paths ≡ length (element_list_ways documents (levels - 1) document.closed.elements zero_digest))
+  document_counted extent i document inside is level accepted few capped =
       let total = length-append (approved_paths (document_paths documents levels) documents element) (outside_paths element) in
       let low = part_inside i document inside is in
       let entered = part_entered document level accepted in
-      let counted = counted_ways documents approved (levels - 1) extent document.closed.elements zero_digest counts capped in
+      let counted = counted_ways documents (levels - 1) extent document.closed.elements zero_digest capped in
       let exact : extent.paths ≡ length (element_list_ways documents (levels - 1) document.closed.elements zero_digest) = omega arith in
       (exact ∙ sym entered, exact)
 

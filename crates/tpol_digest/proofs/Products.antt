@@ -50,6 +50,10 @@ product_map a (b ∷ bs) cs =
     ∙ ap (λ l. map (followed_by a) (map (followed_by b) cs) ++ l) (product_map a bs cs)
     ∙ sym (map-append (followed_by a) (map (followed_by b) cs) (product bs cs))
 
+pub product_none : (paths : List Path) → product paths [] ≡ []
+product_none [] = refl
+product_none (p ∷ rest) = product_none rest
+
 pub product_assoc : (xs ys zs : List Path) → product (product xs ys) zs ≡ product xs (product ys zs)
 product_assoc [] ys zs = refl
 product_assoc (x ∷ xs) ys zs =

@@ -12,8 +12,7 @@ use Rattle.tpol_digest.specs.declared.limits.PathLimit.TheVariants.{TooManyPaths
 use Rattle.tpol_digest.specs.Extent.{FullExtent, extent_at, document_extent, IsCapped}
 use Rattle.tpol_digest.specs.Limits.{AreWithinLimits}
 use Rattle.tpol_digest.specs.Paths.{paths_of}
-use Rattle.tpol_digest.specs.WellFormed.{HaveBranchCounts}
-use Rattle.tpol_digest.proofs.Measures.{Measures, paths_of-measures, counted, many, few, long, short}
+use Rattle.tpol_digest.proofs.Measures.{MeasuresAny, paths_of-measures, counted, many, few, long, short}
 
 -- the two refusals come exactly where they should
 abbrev pub RefusesMany : {A : Type 0} → Result A PathLimit → List Path → Type 0
@@ -29,7 +28,7 @@ none_longer paths none = λ i d inside.
     ⊎_elim (λ lt. absurd (none (i, get_or paths i d, inside, get_or_default paths i (get_or paths i d) d inside, lt))) (λ le. le) (cases_lt 512 (length (get_or paths i d).moves))
 
 -- what follows from the extent of a policy's paths, where the documents are the approvals
-module _ (policy : Closed) (approvals documents : List ApprovedDoc) (same : documents ≡ approvals) (branches : HaveBranchCounts policy approvals) (extent : Extent) (extent_is : IsCapped extent (extent_at (document_extent documents 4) documents policy.elements)) where
+module _ (policy : Closed) (approvals documents : List ApprovedDoc) (same : documents ≡ approvals) (extent : Extent) (extent_is : IsCapped extent (extent_at (document_extent documents 4) documents policy.elements)) where
   abbrev full : FullExtent
   full = extent_at (document_extent approvals 4) approvals policy.elements
 
@@ -39,8 +38,8 @@ module _ (policy : Closed) (approvals documents : List ApprovedDoc) (same : docu
   capped : IsCapped extent full
   capped = subst (λ xs. IsCapped extent (extent_at (document_extent xs 4) xs policy.elements)) same extent_is
 
-  measures : Measures full all
-  measures = paths_of-measures policy approvals branches
+  measures : MeasuresAny full all
+  measures = paths_of-measures policy approvals
 
   pub counted_paths : extent.paths ≡ min (length all) 65537
   counted_paths = counted extent full all capped measures

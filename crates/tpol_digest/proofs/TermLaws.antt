@@ -2,6 +2,8 @@
 use Rattle.std.proofs.Common.{◌≡◌, ℕ, Bool, true, false, List, [], ◌∷◌, ◌++◌, Option, Some, None, refl, sym, ap, ◌∙◌, append_assoc}
 use Rattle.std.proofs.lemmas.List.{append-nil}
 use Rattle.std.specs.Int.{to_be_bytes, w32}
+use Rattle.tpol_base.specs.declared.command_code.CommandCode.TheVariants.{PolicyOr}
+use Rattle.tpol_base.specs.CommandCode.{number_of_code}
 use Rattle.tpol_base.specs.declared.digest.Digest32.{Digest32}
 use Rattle.tpol_hash.specs.Sha256.{sha256_digest}
 use Rattle.tpol_tree.specs.declared.closed.ClosedElements.{ClosedElements}
@@ -13,7 +15,7 @@ use Rattle.tpol_tree.specs.declared.closed.ClosedBranches.TheVariants.{More' as 
 use Rattle.tpol_tree.specs.declared.path.Move.{Move}
 use Rattle.tpol_digest.specs.Update.{Update, update_of, update_of_assertion, update_of_approve, update_of_approve_nv, joined}
 use Rattle.tpol_digest.specs.Digest.{zero_digest, start_of, inner_digest, head_of, after_second, after_update, digest_from, digest_at, digest_at_element, branch_digests}
-use Rattle.tpol_digest.proofs.Digests.{same_digest}
+use Rattle.tpol_base.proofs.Digests.{same_digest}
 use Rattle.tpol_digest.specs.Term.{Term, Zero, Parts, NoParts, BytesThen, bytes_of_term, bytes_of_parts, start_term, inner_then, term_after_second, term_after_update, term_after, term_from, term_of_moves, term_at, term_at_element, branch_terms}
 
 start_bytes : (fresh : Bool) (t : Term) → bytes_of_term (start_term fresh t) ≡ start_of fresh (bytes_of_term t)
@@ -53,7 +55,7 @@ mutual
   term_at_element_bytes : (element : ClosedElement) (t : Term) → bytes_of_term (term_at_element element t) ≡ digest_at_element element (bytes_of_term t)
   term_at_element_bytes (Assert assertion) t = update_bytes (update_of_assertion assertion) t
   term_at_element_bytes (Or branches) t =
-      ap (λ l. sha256_digest (zero_digest.bytes ++ (to_be_bytes w32 0x171 ++ l))) (branch_terms_bytes branches t)
+      ap (λ l. sha256_digest (zero_digest.bytes ++ (to_be_bytes w32 (number_of_code PolicyOr) ++ l))) (branch_terms_bytes branches t)
   term_at_element_bytes (Authorize key policy_ref) t = update_bytes (update_of_approve key policy_ref) t
   term_at_element_bytes (AuthorizeNv index) t = update_bytes (update_of_approve_nv index) t
 

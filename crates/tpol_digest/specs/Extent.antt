@@ -10,7 +10,7 @@ use Rattle.tpol_tree.specs.declared.path.ApprovedDoc.{ApprovedDoc}
 use Rattle.tpol_digest.specs.declared.extent.Extent.{Extent}
 use Rattle.tpol_digest.specs.Paths.{approval_of}
 
--- the number of paths and the moves of the longest, without a limit
+-- the number of paths and the moves of the longest, without a limit; 0 moves where there is no path
 pub record FullExtent : Type 0 where
   pub paths : ℕ
   pub moves : ℕ
@@ -25,9 +25,14 @@ no_move = record { paths = 1; moves = 0 }
 abbrev pub one_move : FullExtent
 one_move = record { paths = 1; moves = 1 }
 
+-- so many moves where there are paths, and 0 where there is none
+abbrev pub where_paths : ℕ → ℕ → ℕ
+where_paths zero moves = 0
+where_paths (suc more) moves = moves
+
 -- of the paths of two parts one after the other
 abbrev pub both : FullExtent → FullExtent → FullExtent
-both a b = record { paths = a.paths * b.paths; moves = a.moves + b.moves }
+both a b = record { paths = a.paths * b.paths; moves = where_paths (a.paths * b.paths) (a.moves + b.moves) }
 
 -- of the paths of either part
 abbrev pub either : FullExtent → FullExtent → FullExtent
@@ -35,7 +40,7 @@ either a b = record { paths = a.paths + b.paths; moves = max a.moves b.moves }
 
 -- of the same paths with one more move each
 abbrev pub longer : FullExtent → FullExtent
-longer a = record { paths = a.paths; moves = a.moves + 1 }
+longer a = record { paths = a.paths; moves = where_paths a.paths (a.moves + 1) }
 
 -- of the documents that an element's approver approved, where `within` gives a document's own extent
 abbrev pub extent_by_approval : Option (ApprovedDoc → FullExtent) → ClosedElement → List ApprovedDoc → FullExtent

@@ -28,6 +28,10 @@ abbrev pub WellFormedIgnoresBoxes : Type 0
 WellFormedIgnoresBoxes =
     (policy : Closed) (documents : List ApprovedDoc) → IsWellFormed (erased policy) (map erased_document documents) ↔ IsWellFormed policy documents
 
+abbrev pub BranchCountsIgnoreBoxes : Type 0
+BranchCountsIgnoreBoxes =
+    (policy : Closed) (documents : List ApprovedDoc) → HaveBranchCounts (erased policy) (map erased_document documents) ↔ HaveBranchCounts policy documents
+
 -- ---- what holds of each policy command on a path
 
 -- a PCR assertion has the hash of its values joined

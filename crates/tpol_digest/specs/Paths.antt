@@ -1,10 +1,10 @@
 -- The ways through a policy, in document order: earlier choices vary slowest.
-use Rattle.std.specs.Prelude.{◌≡◌, ℕ, zero, suc, ◌+◌, Bool, true, false, ◌||◌, ◌&&◌, if◌then◌else◌, List, [], ◌∷◌, ◌++◌, map, Option, Some, None, nat_eq}
+use Rattle.std.specs.Prelude.{◌≡◌, ℕ, zero, suc, ◌+◌, Bool, true, false, ◌||◌, ◌&&◌, if◌then◌else◌, List, [], ◌∷◌, ◌++◌, map, Option, Some, None}
 use Rattle.std.specs.List.{flat_map}
 use Rattle.std.specs.Str.{bytes_eq}
 use Rattle.tpol_base.specs.declared.digest.Digest32.{Digest32}
 use Rattle.tpol_base.specs.declared.name.Name.{Name}
-use Rattle.tpol_base.specs.declared.name.Name.TheVariants.{Empty, Handle, Hash}
+use Rattle.tpol_base.specs.Name.{is_same_name}
 use Rattle.tpol_tree.specs.declared.closed.Closed.{Closed}
 use Rattle.tpol_tree.specs.declared.closed.ClosedElements.{ClosedElements}
 use Rattle.tpol_tree.specs.declared.closed.ClosedElements.TheVariants.{More', End}
@@ -21,13 +21,6 @@ use Rattle.tpol_tree.specs.declared.path.Path.{Path}
 use Rattle.tpol_tree.specs.declared.path.PathStep.{PathStep}
 use Rattle.tpol_tree.specs.declared.path.PathStep.TheVariants.{Branch, Document, Outside}
 use Rattle.tpol_digest.specs.Digest.{zero_digest, digest_at_element, branch_digests}
-
--- whether two Names are the same
-abbrev pub same_name : Name → Name → Bool
-same_name Empty Empty = true
-same_name (Handle a) (Handle b) = nat_eq a b
-same_name (Hash a) (Hash b) = bytes_eq a.bytes b.bytes
-same_name _ _ = false
 
 -- whether a choice is outside the listed documents
 abbrev pub is_outside : PathStep → Bool
@@ -69,12 +62,12 @@ outside_paths _ = []
 -- the move that uses a document's approval, where it is by this key with this policyRef, or by this index
 abbrev pub approval_by_key : Name → List ℕ → Digest32 → ApprovedBy → Option Move
 approval_by_key key policy_ref digest (Key by under signature) =
-    if same_name key by && bytes_eq policy_ref under then Some (Approve key policy_ref digest signature) else None
+    if is_same_name key by && bytes_eq policy_ref under then Some (Approve key policy_ref digest signature) else None
 approval_by_key key policy_ref digest (Index by) = None
 
 abbrev pub approval_by_index : Name → Digest32 → ApprovedBy → Option Move
 approval_by_index index digest (Key by under signature) = None
-approval_by_index index digest (Index by) = if same_name index by then Some (ApproveNv index digest) else None
+approval_by_index index digest (Index by) = if is_same_name index by then Some (ApproveNv index digest) else None
 
 -- the move that uses a document's approval for an AUTHORIZE or an AUTHORIZENV
 abbrev pub approval_of : ClosedElement → ApprovedDoc → Option Move

@@ -3,6 +3,8 @@ use Rattle.std.specs.Prelude.{ℕ, Bool, true, false, List, [], ◌∷◌, ◌++
 use Rattle.std.specs.Int.{to_be_bytes, w32}
 use Rattle.tpol_base.specs.declared.digest.Digest32.{Digest32}
 use Rattle.tpol_base.specs.declared.name.Name.{Name}
+use Rattle.tpol_base.specs.declared.command_code.CommandCode.TheVariants.{PolicyOr}
+use Rattle.tpol_base.specs.CommandCode.{number_of_code}
 use Rattle.tpol_hash.specs.Sha256.{sha256_digest}
 use Rattle.tpol_tree.specs.declared.closed.Assertion.{Assertion}
 use Rattle.tpol_tree.specs.declared.closed.Closed.{Closed}
@@ -92,7 +94,7 @@ abbrev mutual
 
   pub term_at_element : ClosedElement → Term → Term
   term_at_element (Assert assertion) t = term_after_assertion assertion t
-  term_at_element (Or branches) t = Hash (TermThen Zero (BytesThen (to_be_bytes w32 0x171) (branch_terms branches t)))
+  term_at_element (Or branches) t = Hash (TermThen Zero (BytesThen (to_be_bytes w32 (number_of_code PolicyOr)) (branch_terms branches t)))
   term_at_element (Authorize key policy_ref) t = term_of_approve key policy_ref
   term_at_element (AuthorizeNv index) t = term_of_approve_nv index
 

@@ -5,6 +5,8 @@ use Rattle.std.specs.List.{flat_map}
 use Rattle.tpol_base.specs.declared.digest.Digest32.{Digest32}
 use Rattle.tpol_base.specs.declared.name.Name.{Name}
 use Rattle.tpol_base.specs.declared.compare.Compare.{Compare}
+use Rattle.tpol_base.specs.declared.command_code.CommandCode.TheVariants as commands
+use Rattle.tpol_base.specs.CommandCode.{number_of_code}
 use Rattle.tpol_base.specs.Name.{name_bytes}
 use Rattle.tpol_base.specs.Compare.{number_of_compare}
 pub use Rattle.tpol_base.specs.Pcr.{pcr_selection}
@@ -57,22 +59,22 @@ abbrev pub duplication : Bool → List ℕ → List ℕ → List ℕ
 duplication true object parent = object ++ parent ++ yes_no true ∷ []
 duplication false object parent = parent ++ yes_no false ∷ []
 
--- one line for each assertion
+-- one line for each assertion; PolicyPassword has the digest of PolicyAuthValue
 abbrev pub update_of_assertion : Assertion → Update
-update_of_assertion (Pcr mask digest values) = one_hash 0x17f (pcr_selection mask ++ digest.bytes)
-update_of_assertion (Nv index operand offset operation) = hash_of_inner 0x149 (comparison operand offset operation) (name_bytes index)
-update_of_assertion (CounterTimer operand offset operation) = hash_of_inner 0x16d (comparison operand offset operation) []
-update_of_assertion (Secret entity policy_ref cp_hash expiration) = two_hashes 0x151 (name_bytes entity) policy_ref
-update_of_assertion (Signed key policy_ref cp_hash expiration) = two_hashes 0x160 (name_bytes key) policy_ref
-update_of_assertion (CommandCode code) = one_hash 0x16c (to_be_bytes w32 code)
-update_of_assertion (Locality locality) = one_hash 0x16f (locality ∷ [])
-update_of_assertion (CpHash digest) = one_hash 0x16e digest.bytes
-update_of_assertion (NameHash digest) = one_hash 0x170 digest.bytes
-update_of_assertion (NvWritten written) = one_hash 0x18f (yes_no written ∷ [])
-update_of_assertion AuthValue = one_hash 0x16b []
-update_of_assertion Password = one_hash 0x16b []
-update_of_assertion PhysicalPresence = one_hash 0x187 []
-update_of_assertion (Duplication object parent include) = one_hash 0x188 (duplication include (name_bytes object) (name_bytes parent))
+update_of_assertion (Pcr mask digest values) = one_hash (number_of_code commands.PolicyPcr) (pcr_selection mask ++ digest.bytes)
+update_of_assertion (Nv index operand offset operation) = hash_of_inner (number_of_code commands.PolicyNv) (comparison operand offset operation) (name_bytes index)
+update_of_assertion (CounterTimer operand offset operation) = hash_of_inner (number_of_code commands.PolicyCounterTimer) (comparison operand offset operation) []
+update_of_assertion (Secret entity policy_ref cp_hash expiration) = two_hashes (number_of_code commands.PolicySecret) (name_bytes entity) policy_ref
+update_of_assertion (Signed key policy_ref cp_hash expiration) = two_hashes (number_of_code commands.PolicySigned) (name_bytes key) policy_ref
+update_of_assertion (CommandCode code) = one_hash (number_of_code commands.PolicyCommandCode) (to_be_bytes w32 code)
+update_of_assertion (Locality locality) = one_hash (number_of_code commands.PolicyLocality) (locality ∷ [])
+update_of_assertion (CpHash digest) = one_hash (number_of_code commands.PolicyCpHash) digest.bytes
+update_of_assertion (NameHash digest) = one_hash (number_of_code commands.PolicyNameHash) digest.bytes
+update_of_assertion (NvWritten written) = one_hash (number_of_code commands.PolicyNvWritten) (yes_no written ∷ [])
+update_of_assertion AuthValue = one_hash (number_of_code commands.PolicyAuthValue) []
+update_of_assertion Password = one_hash (number_of_code commands.PolicyAuthValue) []
+update_of_assertion PhysicalPresence = one_hash (number_of_code commands.PolicyPhysicalPresence) []
+update_of_assertion (Duplication object parent include) = one_hash (number_of_code commands.PolicyDuplicationSelect) (duplication include (name_bytes object) (name_bytes parent))
 
 -- the bytes of digests, joined
 abbrev pub joined : List Digest32 → List ℕ
@@ -80,13 +82,13 @@ joined digests = flat_map (λ d. d.bytes) digests
 
 -- PolicyOR, PolicyAuthorize and PolicyAuthorizeNV, which start from zero
 abbrev pub update_of_or : List Digest32 → Update
-update_of_or digests = from_zero (one_hash 0x171 (joined digests))
+update_of_or digests = from_zero (one_hash (number_of_code commands.PolicyOr) (joined digests))
 
 abbrev pub update_of_approve : Name → List ℕ → Update
-update_of_approve key policy_ref = from_zero (two_hashes 0x16a (name_bytes key) policy_ref)
+update_of_approve key policy_ref = from_zero (two_hashes (number_of_code commands.PolicyAuthorize) (name_bytes key) policy_ref)
 
 abbrev pub update_of_approve_nv : Name → Update
-update_of_approve_nv index = from_zero (one_hash 0x192 (name_bytes index))
+update_of_approve_nv index = from_zero (one_hash (number_of_code commands.PolicyAuthorizeNv) (name_bytes index))
 
 -- one line for each kind of move
 abbrev pub update_of : Move → Update

@@ -18,7 +18,6 @@ HasPcrDigest _ = ⊤
 pub record IsWellFormedPolicy (policy : Closed) : Type 0 where
   pub approvals_lead : ApprovalsLead true policy.elements
   pub pcr_digests : EachAssertion HasPcrDigest policy.elements
-  pub branch_counts : HasBranchCounts policy.elements
 
 -- an approved document with the digest of its policy
 pub record IsWellFormedDocument (document : ApprovedDoc) : Type 0 where

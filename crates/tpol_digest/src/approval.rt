@@ -6,8 +6,9 @@ use std::alloc::Global;
 use tpol_base::{Blob, Digest32, Name, NoMemory};
 use tpol_tree::{ApprovedBy, ApprovedDoc, ClosedElement, Move};
 
-// The signature of an approval by this key with this policyRef.
-fn signature_of_key(by: &ApprovedBy, key: &Name, policy_ref: &Blob) -> Option<Digest32>
+/// The signature of an approval by this key with this policyRef; `None` where it is by another key, with
+/// another policyRef or by an index.
+pub fn signature_of_key(by: &ApprovedBy, key: &Name, policy_ref: &Blob) -> Option<Digest32>
     ensures { (digest : Digest32) → spec.approval_by_key key.now policy_ref.now digest by.now
         ≡ option_map (λ signature. Move.Approve key.now policy_ref.now digest signature) result }
 {
@@ -27,8 +28,8 @@ fn signature_of_key(by: &ApprovedBy, key: &Name, policy_ref: &Blob) -> Option<Di
     }
 }
 
-// Whether an approval is by this index.
-fn is_by_index(by: &ApprovedBy, index: &Name) -> bool
+/// Whether an approval is by this index.
+pub fn is_by_index(by: &ApprovedBy, index: &Name) -> bool
     ensures { (digest : Digest32) → spec.approval_by_index index.now digest by.now
         ≡ (if result then Some (Move.ApproveNv index.now digest) else None) }
 {

@@ -1,20 +1,19 @@
 // One path of a policy, by its position, without the others.
 
-ghost use Rattle.std.specs.Prelude.{◌≡◌, false, ◌+◌, ◌-◌, ◌^◌, ◌<◌, ◌≤◌, ◌++◌, Some, All, IfOk, IfSome, IsTrue, OnOk, length};
+ghost use Rattle.std.specs.Prelude.{◌≡◌, false, ◌+◌, ◌-◌, ◌<◌, ◌≤◌, ◌++◌, Some, IfOk, IfSome, IsTrue, OnOk, length};
 ghost use Rattle.std.specs.List.{list_any, slice_get};
-ghost use Rattle.tpol_tree.specs.Closed.{branch_count, HasBranchCounts, ElementHasBranchCounts, BranchesHaveBranchCounts};
 ghost use Rattle.tpol_digest.specs.Digest as digest;
 ghost use Rattle.tpol_digest.specs.Limits.{AreWithinLimits};
 ghost use Rattle.tpol_digest.specs.Paths as spec;
 ghost use Rattle.tpol_digest.specs.Positions as at;
 ghost use Rattle.tpol_digest.specs.Sound.{IsSound};
-ghost use Rattle.tpol_digest.specs.WellFormed.{HaveBranchCounts, IsWellFormed};
+ghost use Rattle.tpol_digest.specs.WellFormed.{IsWellFormed};
 
 use crate::approval::{accepts, approval};
 use crate::counting::{extent_of_element, extent_of_elements};
 use crate::limits::MAX_LEVELS;
 use crate::policy::{
-    digest_after_element, digest_after_elements, or_digest, push_branch_digests, zero,
+    digest_after_element, digest_after_elements, or_digest, push_branch_digests, zero_digest,
 };
 use std::alloc::Global;
 use tpol_base::{Blob, Digest32, Digests, NoMemory};
@@ -45,7 +44,6 @@ pub fn path_at(
     approvals: &Approvals,
     position: u32,
 ) -> Result<Path, NoMemory>
-    requires branches { HaveBranchCounts policy.now approvals.now }
     requires within { AreWithinLimits (spec.paths_of policy.now approvals.now) }
     requires positions { (1 ≤ position) × (position ≤ length (spec.paths_of policy.now approvals.now)) }
     ensures path { IfOk result (λ path. slice_get (spec.paths_of policy.now approvals.now) (position - 1) ≡ Some path) }
@@ -107,15 +105,13 @@ fn push_from_zero(
     index: u64,
     count: u64,
 ) -> Result<(), NoMemory>
-    requires branches { HasBranchCounts elements.now }
-    requires approved { All (λ document. HasBranchCounts document.closed.elements) walk.now.approvals.now }
     requires counted { count ≡ length (at.element_list_ways walk.now.approvals.now walk.now.levels elements.now digest.zero_digest) }
     requires few { count ≤ 65536 }
     requires inside { index < count }
     ensures { OnOk result (at.GoesOn path.old (at.element_list_ways walk.now.approvals.now walk.now.levels elements.now digest.zero_digest) index path.new) }
 {
     if has_or(elements) {
-        let _ = push_elements(walk, path, elements, zero(), index, count)?;
+        let _ = push_elements(walk, path, elements, zero_digest(), index, count)?;
         Ok(())
     } else {
         push_unbranched(walk, path, elements, index, count)
@@ -131,9 +127,7 @@ fn push_unbranched(
     index: u64,
     count: u64,
 ) -> Result<(), NoMemory>
-    requires branches { HasBranchCounts elements.now }
     requires unbranched { at.has_or elements.now ≡ false }
-    requires approved { All (λ document. HasBranchCounts document.closed.elements) walk.now.approvals.now }
     requires counted { count ≡ length (at.element_list_ways walk.now.approvals.now walk.now.levels elements.now digest.zero_digest) }
     requires few { count ≤ 65536 }
     requires inside { index < count }
@@ -159,7 +153,6 @@ fn push_unbranched_element(
     index: u64,
 ) -> Result<(), NoMemory>
     requires unbranched { at.is_or element.now ≡ false }
-    requires approved { All (λ document. HasBranchCounts document.closed.elements) walk.now.approvals.now }
     requires few { length (at.element_ways walk.now.approvals.now walk.now.levels element.now digest.zero_digest) ≤ 65536 }
     requires inside { index < length (at.element_ways walk.now.approvals.now walk.now.levels element.now digest.zero_digest) }
     ensures { OnOk result (at.GoesOn path.old (at.element_ways walk.now.approvals.now walk.now.levels element.now digest.zero_digest) index path.new) }
@@ -185,8 +178,6 @@ fn push_elements(
     index: u64,
     count: u64,
 ) -> Result<Digest32, NoMemory>
-    requires branches { HasBranchCounts elements.now }
-    requires approved { All (λ document. HasBranchCounts document.closed.elements) walk.now.approvals.now }
     requires counted { count ≡ length (at.element_list_ways walk.now.approvals.now walk.now.levels elements.now before) }
     requires few { count ≤ 65536 }
     requires inside { index < count }
@@ -213,8 +204,6 @@ fn push_element(
     before: Digest32,
     index: u64,
 ) -> Result<Digest32, NoMemory>
-    requires branches { ElementHasBranchCounts element.now }
-    requires approved { All (λ document. HasBranchCounts document.closed.elements) walk.now.approvals.now }
     requires few { length (at.element_ways walk.now.approvals.now walk.now.levels element.now before) ≤ 65536 }
     requires inside { index < length (at.element_ways walk.now.approvals.now walk.now.levels element.now before) }
     ensures digest { IfOk result (λ after. after ≡ digest.digest_at_element element.now before) }
@@ -246,9 +235,6 @@ fn push_branch(
     position: u32,
     index: u64,
 ) -> Result<(), NoMemory>
-    requires branches { BranchesHaveBranchCounts branches.now }
-    requires approved { All (λ document. HasBranchCounts document.closed.elements) walk.now.approvals.now }
-    requires positions { position + branch_count branches.now < 2 ^ 32 }
     requires few { length (at.branch_ways walk.now.approvals.now walk.now.levels branches.now position before) ≤ 65536 }
     requires inside { index < length (at.branch_ways walk.now.approvals.now walk.now.levels branches.now position before) }
     ensures digests { OnOk result (digests.new ≡ digests.old ++ digest.branch_digests branches.now before) }
@@ -267,18 +253,18 @@ fn push_branch(
                 push_branch_digests(digests, rest, before)
             } else {
                 digests.push(digest_after_elements(elements, before))?;
-                push_branch(
-                    walk,
-                    path,
-                    digests,
-                    rest,
-                    before,
-                    position + 1,
-                    index - count,
-                )
+                let next = next_position(position)?;
+                push_branch(walk, path, digests, rest, before, next, index - count)
             }
         }
     }
+}
+
+// The position behind one, which must fit 32 bits.
+fn next_position(position: u32) -> Result<u32, NoMemory>
+    ensures { IfOk result (λ next. next ≡ position + 1) }
+{
+    position.checked_add(1).ok_or(NoMemory)
 }
 
 // The same of an element that asks for an approval.
@@ -289,7 +275,6 @@ fn push_approval(
     element: &ClosedElement,
     index: u64,
 ) -> Result<(), NoMemory>
-    requires approved { All (λ document. HasBranchCounts document.closed.elements) walk.now.approvals.now }
     requires few { length (at.approval_ways walk.now.approvals.now walk.now.levels element.now) ≤ 65536 }
     requires inside { index < length (at.approval_ways walk.now.approvals.now walk.now.levels element.now) }
     ensures { OnOk result (at.GoesOn path.old (at.approval_ways walk.now.approvals.now walk.now.levels element.now) index path.new) }
@@ -346,8 +331,8 @@ fn push_outside(alloc: Global, path: &mut Path, element: &ClosedElement) -> Resu
                 Move::Approve {
                     key: *key,
                     policy_ref,
-                    approved: zero(),
-                    signature: zero(),
+                    approved: zero_digest(),
+                    signature: zero_digest(),
                 },
             )
         }
@@ -355,7 +340,7 @@ fn push_outside(alloc: Global, path: &mut Path, element: &ClosedElement) -> Resu
             path,
             Move::ApproveNv {
                 index: *index,
-                approved: zero(),
+                approved: zero_digest(),
             },
         ),
         ClosedElement::Assert(_) | ClosedElement::Or(_) => Ok(()),

@@ -1,7 +1,5 @@
 // How many paths a policy has and how long they are, without listing them.
 
-ghost use Rattle.std.specs.Prelude.{All};
-ghost use Rattle.tpol_tree.specs.Closed.{HasBranchCounts, ElementHasBranchCounts, BranchesHaveBranchCounts};
 ghost use Rattle.tpol_digest.specs.Extent as spec;
 
 use crate::approval::accepts;
@@ -15,8 +13,6 @@ pub fn extent_of_elements(
     levels: u8,
     elements: &ClosedElements,
 ) -> Extent
-    requires counts { HasBranchCounts elements.now }
-    requires approved { All (λ document. HasBranchCounts document.closed.elements) approvals.now }
     ensures { spec.IsCapped result (spec.extent_at (spec.document_extent approvals.now levels) approvals.now elements.now) }
 {
     match elements {
@@ -32,8 +28,6 @@ pub fn extent_of_elements(
 // The extent of the paths of one element.
 #[cycle(counting)]
 pub fn extent_of_element(approvals: &[ApprovedDoc], levels: u8, element: &ClosedElement) -> Extent
-    requires counts { ElementHasBranchCounts element.now }
-    requires approved { All (λ document. HasBranchCounts document.closed.elements) approvals.now }
     ensures { spec.IsCapped result (spec.extent_at_element (spec.document_extent approvals.now levels) approvals.now element.now) }
 {
     match element {
@@ -48,8 +42,6 @@ pub fn extent_of_element(approvals: &[ApprovedDoc], levels: u8, element: &Closed
 // The extent of the paths of branches.
 #[cycle(counting)]
 fn extent_of_branches(approvals: &[ApprovedDoc], levels: u8, branches: &ClosedBranches) -> Extent
-    requires counts { BranchesHaveBranchCounts branches.now }
-    requires approved { All (λ document. HasBranchCounts document.closed.elements) approvals.now }
     ensures { spec.IsCapped result (spec.extent_at_branches (spec.document_extent approvals.now levels) approvals.now branches.now) }
 {
     match branches {
@@ -66,7 +58,6 @@ fn extent_of_branches(approvals: &[ApprovedDoc], levels: u8, branches: &ClosedBr
 // move. It stops where the limit is passed.
 #[cycle(counting)]
 fn extent_of_documents(approvals: &[ApprovedDoc], levels: u8, element: &ClosedElement) -> Extent
-    requires approved { All (λ document. HasBranchCounts document.closed.elements) approvals.now }
     ensures { spec.IsCapped result (spec.extent_by_approval (spec.document_extent approvals.now levels) element.now approvals.now) }
 {
     let mut extent = Extent::no_path();

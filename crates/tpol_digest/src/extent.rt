@@ -1,7 +1,8 @@
 ghost use Rattle.std.specs.Prelude.{◌≡◌, ◌+◌, ◌*◌, min, max};
+ghost use Rattle.tpol_digest.specs.Extent.{where_paths};
 
 /// How many paths there are, and how many moves the longest has, each counted no further than one past
-/// its limit.
+/// its limit. No path has no moves.
 #[derive(Clone, Copy)]
 pub struct Extent {
     pub paths: u64,
@@ -34,8 +35,11 @@ impl Extent {
     // The extent of the paths of two parts one after the other.
     pub fn then(self, rest: Extent) -> Extent
         ensures paths { result.paths ≡ min (self.paths * rest.paths) 65537 }
-        ensures moves { result.moves ≡ min (self.moves + rest.moves) 513 }
+        ensures moves { result.moves ≡ where_paths (self.paths * rest.paths) (min (self.moves + rest.moves) 513) }
     {
+        if self.paths == 0 || rest.paths == 0 {
+            return Extent::no_path();
+        }
         Extent {
             paths: self.paths.saturating_mul(rest.paths).min(MAX_PATHS + 1),
             moves: self.moves.saturating_add(rest.moves).min(MAX_MOVES + 1),
@@ -56,8 +60,11 @@ impl Extent {
     // The extent of the same paths with one more move each.
     pub fn with_move(self) -> Extent
         ensures paths { result.paths ≡ self.paths }
-        ensures moves { result.moves ≡ min (self.moves + 1) 513 }
+        ensures moves { result.moves ≡ where_paths self.paths (min (self.moves + 1) 513) }
     {
+        if self.paths == 0 {
+            return Extent::no_path();
+        }
         Extent {
             paths: self.paths,
             moves: self.moves.saturating_add(1).min(MAX_MOVES + 1),

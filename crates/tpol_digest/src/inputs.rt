@@ -8,7 +8,7 @@ ghost use Rattle.tpol_digest.specs.Sound.{moves_of_facts};
 ghost use Rattle.tpol_digest.specs.Update.{joined, update_of};
 ghost use Rattle.tpol_digest.specs.UpdateBytes.{update_value};
 
-use crate::policy::zero;
+use crate::policy::zero_digest;
 use crate::update_bytes::{
     UpdateBytes, update_of_approve, update_of_approve_nv, update_of_assertion, update_of_move,
     update_of_or,
@@ -28,9 +28,9 @@ pub fn inputs_of(alloc: Global, policy: &Closed, approvals: &Approvals) -> Resul
     ensures { IfOk result (λ inputs. inputs ≡ spec.inputs_of_policy policy.now approvals.now) }
 {
     let mut inputs = Inputs::new(alloc);
-    let _ = push_elements(alloc, &mut inputs, &policy.elements, zero())?;
+    let _ = push_elements(alloc, &mut inputs, &policy.elements, zero_digest())?;
     for document in approvals.as_slice() {
-        let _ = push_elements(alloc, &mut inputs, &document.closed.elements, zero())?;
+        let _ = push_elements(alloc, &mut inputs, &document.closed.elements, zero_digest())?;
     }
     Ok(inputs)
 }
@@ -41,7 +41,7 @@ pub fn inputs_of_facts(alloc: Global, facts: &Facts) -> Result<Inputs, NoMemory>
     ensures { IfOk result (λ inputs. inputs ≡ spec.inputs_of_facts facts.now) }
 {
     let mut inputs = Inputs::new(alloc);
-    push_facts(alloc, &mut inputs, facts.as_slice(), zero())?;
+    push_facts(alloc, &mut inputs, facts.as_slice(), zero_digest())?;
     Ok(inputs)
 }
 

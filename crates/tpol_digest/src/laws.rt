@@ -1,14 +1,15 @@
 //! Laws of digests and paths, over their definitions alone.
 
-ghost use Rattle.tpol_digest.specs.Laws.{DigestsIgnoreBoxes, InputsIgnoreBoxes, PathsHaveBounds, PathsHavePcrDigests, PathsIgnoreBoxes, WellFormedIgnoresBoxes};
+ghost use Rattle.tpol_digest.specs.Laws.{BranchCountsIgnoreBoxes, DigestsIgnoreBoxes, InputsIgnoreBoxes, PathsHaveBounds, PathsHavePcrDigests, PathsIgnoreBoxes, WellFormedIgnoresBoxes};
 
-/// Digests, paths, the strings that are hashed and well-formedness are the same whichever memory a policy
-/// and its approved documents lie in.
+/// Digests, paths, the strings that are hashed, well-formedness and the numbers of branches are the same
+/// whichever memory a policy and its approved documents lie in.
 pub fn boxes_are_ignored()
     ensures digests { DigestsIgnoreBoxes }
     ensures paths { PathsIgnoreBoxes }
     ensures inputs { InputsIgnoreBoxes }
     ensures well_formed { WellFormedIgnoresBoxes }
+    ensures branch_counts { BranchCountsIgnoreBoxes }
 {}
 
 /// Each PCR assertion on a path of a well formed policy has the hash of its values joined.

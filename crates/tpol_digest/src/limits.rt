@@ -1,12 +1,13 @@
+ghost use Rattle.tpol_base.specs.declared.digest.Digest32.{Digest32 as OneDigest};
 ghost use Rattle.std.specs.Prelude.{◌≡◌, ◌<◌, ◌≤◌, ◌↔◌, Any, IfOk, IsErrOf, length, min};
 ghost use Rattle.tpol_digest.specs.Limits.{AreWithinLimits};
 ghost use Rattle.tpol_digest.specs.Paths.{paths_of};
-ghost use Rattle.tpol_digest.specs.WellFormed.{HaveBranchCounts};
+ghost use Rattle.tpol_digest.specs.Positions.{element_list_ways};
 
 use crate::counting::extent_of_elements;
 use crate::extent::{MAX_MOVES, MAX_PATHS};
 use thiserror::Error;
-use tpol_tree::{Approvals, Closed};
+use tpol_tree::{Approvals, ApprovedDoc, Closed, ClosedElements};
 
 /// How many approvals may lie inside one another.
 pub const MAX_LEVELS: u8 = 4;
@@ -27,7 +28,6 @@ pub enum PathLimit {
 /// `TooManyPaths` comes for more than 65,536 paths, and `TooLong` for at most 65,536 of which one has more
 /// than 512 moves.
 pub fn check_paths(policy: &Closed, approvals: &Approvals) -> Result<u32, PathLimit>
-    requires branches { HaveBranchCounts policy.now approvals.now }
     ensures number { IfOk result (λ number. number ≡ length (paths_of policy.now approvals.now)) }
     ensures within { IfOk result (λ _. AreWithinLimits (paths_of policy.now approvals.now)) }
     ensures too_many { IsErrOf result PathLimit.TooManyPaths ↔ (65536 < length (paths_of policy.now approvals.now)) }
@@ -47,8 +47,16 @@ pub fn check_paths(policy: &Closed, approvals: &Approvals) -> Result<u32, PathLi
 
 /// The number of ways through a policy, or 65,537 where there are more than 65,536. It takes no memory.
 pub fn count_paths(policy: &Closed, approvals: &Approvals) -> u64
-    requires branches { HaveBranchCounts policy.now approvals.now }
     ensures { result ≡ min (length (paths_of policy.now approvals.now)) 65537 }
 {
     extent_of_elements(approvals.as_slice(), MAX_LEVELS, &policy.elements).paths
+}
+
+/// The number of ways through elements, or 65,537 where there are more than 65,536: of a policy's own, of those of
+/// a branch or of an approved document, and so of what stands behind an element. Documents may be entered `levels`
+/// deep. The digest before the elements does not matter. It takes no memory.
+pub fn count_ways(approvals: &[ApprovedDoc], levels: u8, elements: &ClosedElements) -> u64
+    ensures ways { (before : OneDigest) → result ≡ min (length (element_list_ways approvals.now levels elements.now before)) 65537 }
+{
+    extent_of_elements(approvals, levels, elements).paths
 }

@@ -5,9 +5,8 @@ ghost use Rattle.tpol_digest.specs.Digest as spec;
 ghost use Rattle.tpol_digest.specs.Term.{bytes_of_term, term_of_approve, term_of_approve_nv, term_of_or, term_of_policy};
 
 use crate::assertion::extend;
-use crate::command_code;
 use crate::update::{hash_twice, start};
-use tpol_base::{Blob, Digest32, Digests, Name, NoMemory};
+use tpol_base::{Blob, CommandCode, Digest32, Digests, Name, NoMemory};
 use tpol_hash::Hasher;
 use tpol_tree::{Closed, ClosedBranches, ClosedElement, ClosedElements};
 
@@ -16,7 +15,7 @@ pub fn or_digest(digests: &Digests) -> Digest32
     ensures digest { result ≡ spec.or_digest digests.now }
     ensures term { result ≡ bytes_of_term (term_of_or digests.now) }
 {
-    let mut hasher = start(&Digest32::ZERO, command_code::POLICY_OR);
+    let mut hasher = start(&Digest32::ZERO, CommandCode::PolicyOr.number());
     for digest in digests.as_slice() {
         hasher.put(&digest.bytes);
     }
@@ -30,7 +29,7 @@ pub fn approve_digest(key: &Name, policy_ref: &Blob) -> Digest32
 {
     hash_twice(
         &Digest32::ZERO,
-        command_code::POLICY_AUTHORIZE,
+        CommandCode::PolicyAuthorize,
         key,
         policy_ref,
     )
@@ -41,7 +40,7 @@ pub fn approve_nv_digest(index: &Name) -> Digest32
     ensures digest { result ≡ spec.approve_nv_digest index.now }
     ensures term { result ≡ bytes_of_term (term_of_approve_nv index.now) }
 {
-    let mut hasher = start(&Digest32::ZERO, command_code::POLICY_AUTHORIZE_NV);
+    let mut hasher = start(&Digest32::ZERO, CommandCode::PolicyAuthorizeNv.number());
     hasher.put_name(index);
     hasher.done()
 }
@@ -55,14 +54,14 @@ pub fn digest_of(policy: &Closed) -> Digest32
     digest_after_elements(&policy.elements, Digest32::ZERO)
 }
 
-// 32 zero bytes.
-pub fn zero() -> Digest32
+/// 32 zero bytes.
+pub fn zero_digest() -> Digest32
     ensures { result ≡ spec.zero_digest }
 {
     Digest32::ZERO
 }
 
-// The digest after elements.
+/// The digest after elements, where `before` is the digest before them.
 #[cycle(policy)]
 pub fn digest_after_elements(elements: &ClosedElements, before: Digest32) -> Digest32
     ensures { result ≡ spec.digest_at elements.now before }
@@ -83,7 +82,7 @@ pub fn digest_after_element(element: &ClosedElement, before: Digest32) -> Digest
     match element {
         ClosedElement::Assert(assertion) => extend(before, assertion),
         ClosedElement::Or(branches) => {
-            let mut hasher = start(&Digest32::ZERO, command_code::POLICY_OR);
+            let mut hasher = start(&Digest32::ZERO, CommandCode::PolicyOr.number());
             put_branches(&mut hasher, branches, before);
             hasher.done()
         }

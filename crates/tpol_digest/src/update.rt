@@ -4,6 +4,7 @@
 ghost use Rattle.std.specs.Prelude.{◌≡◌, ◌++◌};
 ghost use Rattle.std.specs.Int.{to_be_bytes, w16, w32};
 ghost use Rattle.std.specs.Option.{option_copied};
+ghost use Rattle.tpol_base.specs.CommandCode.{number_of_code};
 ghost use Rattle.tpol_base.specs.Compare.{number_of_compare};
 ghost use Rattle.tpol_base.specs.Name.{name_bytes};
 ghost use Rattle.tpol_hash.specs.Sha256.{sha256_digest};
@@ -11,7 +12,7 @@ ghost use Rattle.tpol_hash.specs.Messages.{Holds};
 ghost use Rattle.tpol_digest.specs.Digest.{after_second, after_update};
 ghost use Rattle.tpol_digest.specs.Update.{two_hashes};
 
-use tpol_base::{Blob, Compare, Digest32, Name};
+use tpol_base::{Blob, CommandCode, Compare, Digest32, Name};
 use tpol_hash::Hasher;
 
 // A hasher that holds the digest before and the command's code.
@@ -25,10 +26,10 @@ pub fn start(old: &Digest32, code: u32) -> Hasher
 }
 
 // The digest after a command that hashes a Name, and then the first digest with the policyRef.
-pub fn hash_twice(old: &Digest32, code: u32, name: &Name, policy_ref: &Blob) -> Digest32
-    ensures { result ≡ after_update (two_hashes code (name_bytes name.now) policy_ref.now) old.now }
+pub fn hash_twice(old: &Digest32, command: CommandCode, name: &Name, policy_ref: &Blob) -> Digest32
+    ensures { result ≡ after_update (two_hashes (number_of_code command) (name_bytes name.now) policy_ref.now) old.now }
 {
-    let mut hasher = start(old, code);
+    let mut hasher = start(old, command.number());
     hasher.put_name(name);
     hash_again(hasher.done(), Some(policy_ref))
 }

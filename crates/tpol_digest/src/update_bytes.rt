@@ -1,14 +1,15 @@
 // What a move hashes, as bytes; the strings of its hashes follow from it.
 
 ghost use Rattle.std.specs.Prelude.{◌≡◌, IfOk};
+ghost use Rattle.tpol_base.specs.CommandCode.{number_of_code};
 ghost use Rattle.tpol_base.specs.Name.{name_bytes};
 ghost use Rattle.tpol_digest.specs.Update as spec;
 ghost use Rattle.tpol_digest.specs.UpdateBytes.{update_value};
 
-use crate::command_code::{self, code_of_assertion};
+use crate::command_code::code_of_assertion;
 use crate::pieces::{comparison_of, policy_ref_of, rest_of};
 use std::alloc::Global;
-use tpol_base::{Blob, Digests, Name, NoMemory};
+use tpol_base::{Blob, CommandCode, Digests, Name, NoMemory};
 use tpol_tree::{Assertion, Move};
 
 /// What a policy command hashes (TPM 2.0 Part 3, the policy commands). The new digest is
@@ -28,12 +29,12 @@ pub struct UpdateBytes {
 }
 
 // A command that hashes these bytes behind its code.
-fn one_hash(code: u32, rest: Blob) -> UpdateBytes
-    ensures { update_value result ≡ spec.one_hash code rest }
+fn one_hash(command: CommandCode, rest: Blob) -> UpdateBytes
+    ensures { update_value result ≡ spec.one_hash (number_of_code command) rest }
 {
     UpdateBytes {
         fresh: false,
-        code,
+        code: command.number(),
         inner: None,
         rest,
         policy_ref: None,
@@ -43,18 +44,18 @@ fn one_hash(code: u32, rest: Blob) -> UpdateBytes
 // A command that hashes a Name, and then the first digest with the policyRef.
 fn two_hashes(
     alloc: Global,
-    code: u32,
+    command: CommandCode,
     name: &Name,
     policy_ref: &Blob,
 ) -> Result<UpdateBytes, NoMemory>
     ensures { IfOk result (λ update. update_value update
-        ≡ spec.two_hashes code (name_bytes name.now) policy_ref.now) }
+        ≡ spec.two_hashes (number_of_code command) (name_bytes name.now) policy_ref.now) }
 {
     let rest = name.to_bytes(alloc)?;
     let second = Blob::from_slice(alloc, policy_ref.as_slice())?;
     Ok(UpdateBytes {
         fresh: false,
-        code,
+        code: command.number(),
         inner: None,
         rest,
         policy_ref: Some(second),
@@ -109,7 +110,7 @@ pub fn update_of_or(alloc: Global, digests: &Digests) -> Result<UpdateBytes, NoM
     for digest in digests.as_slice() {
         rest.extend_from_slice(&digest.bytes)?;
     }
-    let mut update = one_hash(command_code::POLICY_OR, rest);
+    let mut update = one_hash(CommandCode::PolicyOr, rest);
     update.fresh = true;
     Ok(update)
 }
@@ -122,7 +123,7 @@ pub fn update_of_approve(
 ) -> Result<UpdateBytes, NoMemory>
     ensures { IfOk result (λ update. update_value update ≡ spec.update_of_approve key.now policy_ref.now) }
 {
-    let mut update = two_hashes(alloc, command_code::POLICY_AUTHORIZE, key, policy_ref)?;
+    let mut update = two_hashes(alloc, CommandCode::PolicyAuthorize, key, policy_ref)?;
     update.fresh = true;
     Ok(update)
 }
@@ -132,7 +133,7 @@ pub fn update_of_approve_nv(alloc: Global, index: &Name) -> Result<UpdateBytes, 
     ensures { IfOk result (λ update. update_value update ≡ spec.update_of_approve_nv index.now) }
 {
     let rest = index.to_bytes(alloc)?;
-    let mut update = one_hash(command_code::POLICY_AUTHORIZE_NV, rest);
+    let mut update = one_hash(CommandCode::PolicyAuthorizeNv, rest);
     update.fresh = true;
     Ok(update)
 }

@@ -1,9 +1,6 @@
 //! Digests that a TPM 2.0 and a FAPI gave for the same policies, and lists of paths. `docs/check` compares more such
 //! digests, those of `examples/measured.tsv`, as the built program prints them.
 
-ghost use Rattle.std.specs.Prelude.{◌≡◌, ◌+◌, IfOk};
-ghost use Rattle.tpol_tree.specs.Closed.{BranchesHaveBranchCounts, ElementHasBranchCounts, HasBranchCounts, branch_count};
-
 use std::alloc::Global;
 use tpol_base::{Blob, Compare, Digest32, Digests, Name, NoMemory, Text};
 use tpol_digest::{
@@ -206,9 +203,7 @@ fn before(
     alloc: Global,
     element: ClosedElement,
     rest: ClosedElements,
-) -> Result<ClosedElements, NoMemory>
-    ensures { IfOk result (λ all. ElementHasBranchCounts element → HasBranchCounts rest → HasBranchCounts all) }
-{
+) -> Result<ClosedElements, NoMemory> {
     Ok(ClosedElements::More(Box::new(alloc, element)?, Box::new(alloc, rest)?))
 }
 
@@ -216,9 +211,7 @@ fn assert_before(
     alloc: Global,
     assertion: Assertion,
     rest: ClosedElements,
-) -> Result<ClosedElements, NoMemory>
-    ensures { IfOk result (λ all. HasBranchCounts rest → HasBranchCounts all) }
-{
+) -> Result<ClosedElements, NoMemory> {
     before(alloc, ClosedElement::Assert(assertion), rest)
 }
 
@@ -227,10 +220,7 @@ fn branch_before(
     alloc: Global,
     elements: ClosedElements,
     rest: ClosedBranches,
-) -> Result<ClosedBranches, NoMemory>
-    ensures counts { IfOk result (λ all. HasBranchCounts elements → BranchesHaveBranchCounts rest → BranchesHaveBranchCounts all) }
-    ensures count { IfOk result (λ all. branch_count all ≡ branch_count rest + 1) }
-{
+) -> Result<ClosedBranches, NoMemory> {
     let branch = ClosedBranch {
         name: Text::new(alloc),
         policy: Closed { elements },
@@ -243,24 +233,18 @@ fn either(
     alloc: Global,
     first: ClosedElements,
     second: ClosedElements,
-) -> Result<ClosedElement, NoMemory>
-    ensures { IfOk result (λ element. HasBranchCounts first → HasBranchCounts second → ElementHasBranchCounts element) }
-{
+) -> Result<ClosedElement, NoMemory> {
     let last = branch_before(alloc, second, ClosedBranches::End)?;
     Ok(ClosedElement::Or(branch_before(alloc, first, last)?))
 }
 
-fn value_or_locality(alloc: Global) -> Result<ClosedElement, NoMemory>
-    ensures { IfOk result (λ element. ElementHasBranchCounts element) }
-{
+fn value_or_locality(alloc: Global) -> Result<ClosedElement, NoMemory> {
     let value = assert_before(alloc, Assertion::AuthValue, ClosedElements::End)?;
     let locality = assert_before(alloc, Assertion::Locality(1), ClosedElements::End)?;
     either(alloc, value, locality)
 }
 
-fn or_behind_code(alloc: Global) -> Result<Closed, NoMemory>
-    ensures { IfOk result (λ policy. HasBranchCounts policy.elements) }
-{
+fn or_behind_code(alloc: Global) -> Result<Closed, NoMemory> {
     let or = before(alloc, value_or_locality(alloc)?, ClosedElements::End)?;
     Ok(Closed {
         elements: assert_before(alloc, Assertion::CommandCode(0x15e), or)?,
@@ -268,9 +252,7 @@ fn or_behind_code(alloc: Global) -> Result<Closed, NoMemory>
 }
 
 // The number of ways through a policy where no document approves any, and what walking them is answered.
-fn ways_of(alloc: Global, policy: &Closed) -> (u64, Result<u32, PathLimit>)
-    requires { HasBranchCounts policy.now.elements }
-{
+fn ways_of(alloc: Global, policy: &Closed) -> (u64, Result<u32, PathLimit>) {
     let none = Approvals::new(alloc);
     (count_paths(policy, &none), check_paths(policy, &none))
 }
@@ -284,9 +266,7 @@ fn branches_start_behind(rt: HostRuntime) -> Result<(), NoMemory> {
 }
 
 // An OR of a secret and of an index that approves.
-fn secret_or_index(alloc: Global) -> Result<Closed, NoMemory>
-    ensures { IfOk result (λ policy. HasBranchCounts policy.elements) }
-{
+fn secret_or_index(alloc: Global) -> Result<Closed, NoMemory> {
     let authorize = ClosedElement::AuthorizeNv {
         index: Name::Hash(Digest32 { bytes: *INDEX }),
     };
@@ -305,9 +285,7 @@ fn is_outside(path: Result<Path, NoMemory>) -> bool {
 }
 
 // Whether a policy has two ways where no document approves any, and the last is an outside path.
-fn has_last_outside(alloc: Global, policy: &Closed) -> bool
-    requires { HasBranchCounts policy.now.elements }
-{
+fn has_last_outside(alloc: Global, policy: &Closed) -> bool {
     let none = Approvals::new(alloc);
     match check_paths(policy, &none) {
         Ok(2) => is_outside(path_at(alloc, policy, &none, 2)),
@@ -323,9 +301,7 @@ fn an_index_approves(rt: HostRuntime) -> Result<(), NoMemory> {
     Ok(())
 }
 
-fn ors(alloc: Global, count: u8) -> Result<ClosedElements, NoMemory>
-    ensures { IfOk result (λ elements. HasBranchCounts elements) }
-{
+fn ors(alloc: Global, count: u8) -> Result<ClosedElements, NoMemory> {
     let mut elements = ClosedElements::End;
     for _ in 0..count {
         elements = before(alloc, value_or_locality(alloc)?, elements)?;

@@ -5,6 +5,7 @@ use Rattle.tpol_digest.specs.WellFormed.{HasPcrDigest, IsWellFormedPolicy}
 use Rattle.tpol_tree.specs.Elements.{HasBranchCount, EachElement, EachElementWithin, EachElementOfBranches}
 use Rattle.tpol_tree.specs.Elements as written
 use Rattle.tpol_tree.specs.ClosedErased.{erased_elements}
+use Rattle.tpol_fill.specs.Forms.{IsFilledPolicy}
 use Rattle.tpol_fill.specs.Filling.{branches_faults, element_faults, elements_faults, filled_branches, filled_element, filled_elements, void_prefix}
 use Rattle.tpol_fill.specs.Groups.{NamedBranch, branches_of, grouped}
 use Rattle.tpol_fill.specs.Outcome.{Fault}
@@ -177,10 +178,16 @@ branches-filled elements sight closed counts same =
     counts-erased closed.elements (subst HasBranchCounts (sym same) (counts-filled sight elements counts))
 
 -- what is filled without faults is well formed
-pub well_formed-filled : (list : Place) (elements : Elements) (sight : Option Sight) (closed : Closed) → written.HasBranchCounts elements → elements_faults sight true list 0 elements ≡ [] → erased_elements closed.elements ≡ filled_elements sight elements → IsWellFormedPolicy closed
-well_formed-filled list elements sight closed counts none same =
+pub well_formed-filled : (list : Place) (elements : Elements) (sight : Option Sight) (closed : Closed) → elements_faults sight true list 0 elements ≡ [] → erased_elements closed.elements ≡ filled_elements sight elements → IsWellFormedPolicy closed
+well_formed-filled list elements sight closed none same =
     record {
       approvals_lead = approvals_lead-filled list elements sight closed none same;
       pcr_digests = pcr_digests-filled elements sight closed same;
-      branch_counts = branches-filled elements sight closed counts same;
     }
+
+-- and what was read, with 2 to 64 branches at each OR, has 2 to 8 at each
+pub form-filled : (list : Place) (elements : Elements) (sight : Option Sight) (closed : Closed) → written.HasBranchCounts elements → elements_faults sight true list 0 elements ≡ [] → erased_elements closed.elements ≡ filled_elements sight elements → IsFilledPolicy closed
+form-filled list elements sight closed counts none same = record {
+  well_formed = well_formed-filled list elements sight closed none same;
+  branch_counts = branches-filled elements sight closed counts same;
+}

@@ -9,6 +9,7 @@ ghost use Rattle.tpol_digest.specs.WellFormed.{HasPcrDigest, IsWellFormedPolicy}
 ghost use Rattle.tpol_tree.specs.Bounds.{HasBounds, HasClosedBounds};
 ghost use Rattle.tpol_tree.specs.Closed.{ApprovalsLead, EachAssertion, HasBranchCounts};
 ghost use Rattle.tpol_tree.specs.Elements as written;
+ghost use Rattle.tpol_fill.specs.Forms.{IsFilledPolicy};
 ghost use Rattle.tpol_fill.specs.declared.fault.FillFault.TheVariants.{NoMemory as no_memory};
 ghost use Rattle.tpol_tree.specs.ClosedErased.{erased, erased_element, erased_elements};
 ghost use Rattle.tpol_fill.specs.Groups.{branches_in};
@@ -50,7 +51,8 @@ pub fn fill(alloc: Global, policy: &Policy, sight: Option<&Sight>) -> Result<Clo
     ensures branches { written.HasBranchCounts policy.now.elements → IfOk result (λ closed. HasBranchCounts closed.elements) }
     ensures approvals_lead { IfOk result (λ closed. ApprovalsLead true closed.elements) }
     ensures pcr_digests { IfOk result (λ closed. EachAssertion HasPcrDigest closed.elements) }
-    ensures well_formed { written.HasBranchCounts policy.now.elements → IfOk result IsWellFormedPolicy }
+    ensures well_formed { IfOk result IsWellFormedPolicy }
+    ensures form { written.HasBranchCounts policy.now.elements → IfOk result IsFilledPolicy }
     ensures bounded { HasBounds policy.now → IfOk result HasClosedBounds }
     ensures digest { IfOk result (λ closed.
         policy_digest closed ≡ policy_digest (filled policy.now (option_copied sight.entry))) }

@@ -3,7 +3,7 @@
 ghost use Rattle.std.specs.Prelude.{◌≡◌, [], ◌∷◌, ◌++◌, ◌<◌, ◌≤◌, ◌^◌, None, codes, length, IfOk, OnOk};
 ghost use Rattle.tpol_digest.specs.Limits.{AreWithinLimits};
 ghost use Rattle.tpol_digest.specs.Paths.{paths_of};
-ghost use Rattle.tpol_digest.specs.WellFormed.{IsWellFormedPolicy};
+ghost use Rattle.tpol_fill.specs.Forms.{IsFilledPolicy};
 ghost use Rattle.tpol_generate.specs.FirstRun.{performed_run};
 ghost use Rattle.tpol_generate.specs.Generate.{generate_step, generated_answer, generated_head, generated_performance, generated_policy, generated_run, generated_run_lines, generated_scenario};
 ghost use Rattle.tpol_lines.specs.Generated.{command_count_line, generated_line, path_count_line};
@@ -53,7 +53,7 @@ pub fn perform_generated(alloc: Global, ors: u8, order: u32) -> Result<Answer, H
 fn filled_policy(alloc: Global, ors: u8, order: u32) -> Result<Closed, Halt>
     ensures answer { Answers erased (filled_step None (generated_policy ors order) None) result }
     ensures inside { IsInside result }
-    ensures well_formed { IfOk result IsWellFormedPolicy }
+    ensures form { IfOk result IsFilledPolicy }
 {
     let policy = generated_policy(alloc, ors, order)?;
     let closed = fill_document(alloc, None, &policy, None);
@@ -63,7 +63,6 @@ fn filled_policy(alloc: Global, ors: u8, order: u32) -> Result<Closed, Halt>
 
 // Ends the run where a policy to which nothing is approved has too many paths, or one that is too long.
 fn check_alone(alloc: Global, closed: &Closed) -> Result<(), Halt>
-    requires { IsWellFormedPolicy closed.now }
     ensures answer { Answers (λ _. tt) (limit_step None (erased closed.now) []) result }
     ensures inside { IsInside result }
     ensures within { IfOk result (λ _. AreWithinLimits (paths_of closed.now [])) }
@@ -73,7 +72,7 @@ fn check_alone(alloc: Global, closed: &Closed) -> Result<(), Halt>
 
 // What is printed of the policy and of its run.
 fn generated_answer(alloc: Global, ors: u8, order: u32, closed: Closed) -> Result<Answer, NoMemory>
-    requires well_formed { IsWellFormedPolicy closed }
+    requires form { IsFilledPolicy closed }
     requires within { AreWithinLimits (paths_of closed []) }
     ensures { IfOk result (λ answer. answer ≡ generated_answer ors order closed) }
 {
@@ -91,7 +90,6 @@ fn generated_answer(alloc: Global, ors: u8, order: u32, closed: Closed) -> Resul
 
 // The lines of the policy: by which numbers it was made, how many paths it has, and its digest.
 fn generated_head(alloc: Global, ors: u8, order: u32, closed: &Closed) -> Result<Lines, NoMemory>
-    requires well_formed { IsWellFormedPolicy closed.now }
     requires within { AreWithinLimits (paths_of closed.now []) }
     ensures { IfOk result (λ lines. lines ≡ generated_head ors order closed.now) }
 {
@@ -126,7 +124,7 @@ fn push_digest(alloc: Global, lines: &mut Lines, digest: &Digest32) -> Result<()
 
 // The lines of the run of the policy.
 fn push_run(alloc: Global, lines: &mut Lines, order: u32, closed: Closed) -> Result<(), NoMemory>
-    requires well_formed { IsWellFormedPolicy closed }
+    requires form { IsFilledPolicy closed }
     requires within { AreWithinLimits (paths_of closed []) }
     ensures { OnOk result (lines.new ≡ lines.old ++ generated_run_lines (generated_performance order closed)) }
 {
@@ -161,7 +159,7 @@ fn push_command_count(alloc: Global, lines: &mut Lines, count: u32) -> Result<()
 
 // The run begins, and goes to its end.
 fn generated_performance(alloc: Global, order: u32, closed: Closed) -> Result<Performance, NoMemory>
-    requires well_formed { IsWellFormedPolicy closed }
+    requires form { IsFilledPolicy closed }
     requires within { AreWithinLimits (paths_of closed []) }
     ensures told { IfOk result (λ performance. performance ≡ generated_performance order closed) }
     ensures few { IfOk result (λ performance. length performance.past ≤ 2000) }
@@ -178,7 +176,7 @@ fn generated_performance(alloc: Global, order: u32, closed: Closed) -> Result<Pe
 // The same, on a machine that starts from this setup.
 fn performance_from(alloc: Global, setup: Setup, closed: Closed) -> Result<Performance, NoMemory>
     requires setup { IsSetup setup }
-    requires well_formed { IsWellFormedPolicy closed }
+    requires form { IsFilledPolicy closed }
     requires within { AreWithinLimits (paths_of closed []) }
     ensures told { IfOk result (λ performance. performance ≡ performed_run (generated_scenario setup closed) (codes "gen") generated_run (start_of setup)) }
     ensures few { IfOk result (λ performance. length performance.past ≤ 2000) }

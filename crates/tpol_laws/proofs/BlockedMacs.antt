@@ -13,7 +13,7 @@ use Rattle.tpol_base.specs.Name.{is_same_name}
 use Rattle.tpol_choose.specs.Entities.{EntityAt, name_as_is, name_in_directory}
 use Rattle.tpol_choose.specs.Goals.{proves as is_planned}
 use Rattle.tpol_choose.specs.Keys.{is_same_block}
-use Rattle.tpol_digest.proofs.Digests.{same_digest as digest-same}
+use Rattle.tpol_base.proofs.Digests.{same_digest as digest-same}
 use Rattle.tpol_driver.specs.declared.plan.Plan.{Plan}
 use Rattle.tpol_driver.specs.declared.session.Session.{Session}
 use Rattle.tpol_driver.specs.Commands.{caller_nonce}

@@ -43,7 +43,7 @@ use Rattle.tpol_base.specs.ResponseCode.{of_parameter, rc_signature}
 use Rattle.tpol_choose.specs.Entities.{EntityAt, entity_of_name as entity_at_name}
 use Rattle.tpol_choose.specs.Keys.{is_same_block}
 use Rattle.tpol_choose.specs.Moves.{answered, assertion_block, code_of_denial, index_block, move_block, password_rule, reader_of, reading_rule, secret_block, signed_block, signing_block}
-use Rattle.tpol_digest.proofs.Digests.{same_digest as digest-same}
+use Rattle.tpol_base.proofs.Digests.{same_digest as digest-same}
 use Rattle.tpol_driver.specs.Commands.{command_of_assertion, command_of_move, key_of, or_null, password_area}
 use Rattle.tpol_driver.specs.Driving.{is_verification}
 use Rattle.tpol_driver.specs.Plans.{is_granted_key, is_known_assertion, is_known_move}

@@ -18,7 +18,7 @@ use Rattle.tpol_choose.specs.Entities.{EntityAt, entity_of_name as entity_at_nam
 use Rattle.tpol_choose.specs.Facts.{fact_of_move, name_of_found}
 use Rattle.tpol_choose.specs.Keys.{is_same_block}
 use Rattle.tpol_choose.specs.Moves.{answered, assertion_block, index_block, move_block, password_rule, reader_of, reading_rule, secret_block, signed_block, signing_block}
-use Rattle.tpol_digest.proofs.Digests.{same_digest as digest-same}
+use Rattle.tpol_base.proofs.Digests.{same_digest as digest-same}
 use Rattle.tpol_driver.specs.Commands.{command_of_assertion, command_of_move, index_authority, index_handle, key_of, or_null, password_area}
 use Rattle.tpol_driver.specs.Driving.{is_verification}
 use Rattle.tpol_goal.specs.declared.goal.Goal.{Goal}

@@ -25,7 +25,8 @@ use Rattle.tpol_tree.specs.declared.path.Path.{Path}
 use Rattle.tpol_tree.specs.declared.path.PathStep.{PathStep}
 use Rattle.tpol_tree.specs.declared.path.PathStep.TheVariants.{Branch, Document}
 use Rattle.tpol_digest.specs.Digest.{zero_digest, digest_at_element, branch_digests}
-use Rattle.tpol_digest.specs.Paths.{path_of_move, followed_by, product, between, approval_of, approval_by_key, approval_by_index, paths_by_approval, approved_paths, outside_paths, paths_at, paths_at_element, paths_at_branches, document_paths, same_name}
+use Rattle.tpol_base.specs.Name.{is_same_name}
+use Rattle.tpol_digest.specs.Paths.{path_of_move, followed_by, product, between, approval_of, approval_by_key, approval_by_index, paths_by_approval, approved_paths, outside_paths, paths_at, paths_at_element, paths_at_branches, document_paths}
 use Rattle.tpol_digest.specs.Positions.{element_list_ways, element_ways}
 use Rattle.tpol_digest.proofs.Documents.{document_paths-some}
 use Rattle.tpol_lines.specs.declared.pen.Pen.{Pen}
@@ -232,7 +233,7 @@ Closes kind None = ⊤
 Closes kind (Some act) = move_kind act ≡ kind
 
 key_closes : (key : Name) (policy_ref : List ℕ) (digest : Digest32) (by : ApprovedBy) → Closes (codes "Approve") (approval_by_key key policy_ref digest by)
-key_closes key policy_ref digest (Key other under signature) = chosen (same_name key other && bytes_eq policy_ref under)
+key_closes key policy_ref digest (Key other under signature) = chosen (is_same_name key other && bytes_eq policy_ref under)
   where
     chosen : (b : Bool) → Closes (codes "Approve") (if b then Some (Approve key policy_ref digest signature) else None)
     chosen true = refl
@@ -241,7 +242,7 @@ key_closes key policy_ref digest (Index other) = tt
 
 index_closes : (index : Name) (digest : Digest32) (by : ApprovedBy) → Closes (codes "ApproveNv") (approval_by_index index digest by)
 index_closes index digest (Key other under signature) = tt
-index_closes index digest (Index other) = chosen (same_name index other)
+index_closes index digest (Index other) = chosen (is_same_name index other)
   where
     chosen : (b : Bool) → Closes (codes "ApproveNv") (if b then Some (ApproveNv index digest) else None)
     chosen true = refl

@@ -3,7 +3,6 @@
 ghost use Rattle.std.specs.Prelude.{◌≡◌, IfOk};
 ghost use Rattle.tpol_digest.specs.Limits.{AreWithinLimits};
 ghost use Rattle.tpol_digest.specs.Paths.{paths_of};
-ghost use Rattle.tpol_digest.specs.WellFormed.{HaveBranchCounts};
 ghost use Rattle.tpol_lines.specs.OpeningLine.{branch_line, clash_line, events_text, opening_line, zero_line, IsListed};
 
 use crate::path_label::label;
@@ -23,7 +22,6 @@ pub fn opening_line(
     approvals: &Approvals,
     opening: &Opening,
 ) -> Result<Text, NoMemory>
-    requires branches { HaveBranchCounts policy.now approvals.now }
     requires within { AreWithinLimits (paths_of policy.now approvals.now) }
     requires listed { IsListed (paths_of policy.now approvals.now) opening.now }
     ensures { IfOk result (λ line. line ≡ opening_line event (paths_of policy.now approvals.now) opening.now) }

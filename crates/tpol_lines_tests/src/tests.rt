@@ -3,7 +3,6 @@
 
 ghost use Rattle.std.specs.Prelude.{IfOk, List};
 ghost use Rattle.tpol_lines.specs.OpeningLine.{IsListed};
-ghost use Rattle.tpol_tree.specs.Closed.{HasBranchCounts};
 ghost use Rattle.tpol_tree.specs.declared.path.Path.{Path};
 
 use std::alloc::Global;
@@ -43,9 +42,7 @@ fn ends_of_runs(rt: HostRuntime) {
 }
 
 // A policy of a PolicyAuthValue.
-fn value(alloc: Global) -> Result<Closed, NoMemory>
-    ensures { IfOk result (λ policy. HasBranchCounts policy.elements) }
-{
+fn value(alloc: Global) -> Result<Closed, NoMemory> {
     let element = ClosedElement::Assert(Assertion::AuthValue);
     Ok(Closed {
         elements: ClosedElements::More(
@@ -57,7 +54,6 @@ fn value(alloc: Global) -> Result<Closed, NoMemory>
 
 // Whether the opening of this policy behind this event, which names no path, has this line.
 fn opens(alloc: Global, event: u32, policy: &Closed, opening: &Opening, wanted: &str) -> bool
-    requires branches { HasBranchCounts policy.now.elements }
     requires listed { (paths : List Path) → IsListed paths opening.now }
 {
     let none = Approvals::new(alloc);

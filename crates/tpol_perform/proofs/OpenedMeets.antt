@@ -11,7 +11,7 @@ use Rattle.tpol_base.specs.declared.digest.Digest32.{Digest32}
 use Rattle.tpol_base.specs.declared.handle.HandleKind.{HandleKind}
 use Rattle.tpol_base.specs.declared.handle.HandleKind.TheVariants as kinds
 use Rattle.tpol_base.specs.Handle.{kind_of_handle, rh_endorsement, rh_lockout, rh_owner}
-use Rattle.tpol_digest.proofs.Digests.{same_digest}
+use Rattle.tpol_base.proofs.Digests.{same_digest}
 use Rattle.tpol_digest.specs.Digest.{digest_of_moves, policy_digest}
 use Rattle.tpol_digest.specs.Sound.{IsSound, moves_of_facts}
 use Rattle.tpol_name.specs.declared.entries.IndexEntry.{IndexEntry}

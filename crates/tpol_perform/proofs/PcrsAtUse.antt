@@ -15,7 +15,7 @@ use Rattle.tpm_pcr.specs.Bank.{Bank}
 use Rattle.tpm_pcr.specs.Pcrs.{extended_value, selected, selection_digest, value_of}
 use Rattle.tpol_base.specs.Pcr.{pcr_selection}
 use Rattle.tpol_base.specs.declared.digest.Digest32.{Digest32}
-use Rattle.tpol_digest.proofs.Digests.{same_digest}
+use Rattle.tpol_base.proofs.Digests.{same_digest}
 use Rattle.tpol_digest.specs.Paths.{paths_of}
 use Rattle.tpol_digest.specs.Sound.{moves_of_facts}
 use Rattle.tpol_digest.specs.Update.{Update, joined, update_of}

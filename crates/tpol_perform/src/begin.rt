@@ -95,7 +95,7 @@ impl Performance {
     }
 
     // A run of a document begins, with what the machine shows now.
-    #[tactic(auto, using(crate::proofs::Chosen::chosen_within, crate::proofs::Chosen::path_is_short), unfolding(crate::specs::Begin::begun_on))]
+    #[tactic(auto, using(tpol_choose::proofs::Few::few_branches, crate::proofs::Chosen::chosen_within, crate::proofs::Chosen::path_is_short), unfolding(crate::specs::Begin::begun_on))]
     fn begin_on(
         &mut self,
         alloc: Global,

@@ -8,6 +8,7 @@ use Rattle.std.proofs.lemmas.List.Elements.{All-cons, All-nil, recursion_from_Al
 use Rattle.tpol_digest.specs.Limits.{AreWithinLimits}
 use Rattle.tpol_digest.specs.Paths.{paths_of}
 use Rattle.tpol_digest.specs.WellFormed.{IsWellFormedDocument}
+use Rattle.tpol_fill.specs.Forms.{IsFilledApproval}
 use Rattle.tpol_scene.specs.Conditions.{AreEventsBehind, IsEventBehind}
 use Rattle.tpol_scene.specs.Scripts.{begun_run}
 use Rattle.tpol_scene.specs.declared.script.ScriptEvent.{ScriptEvent}
@@ -20,17 +21,21 @@ use Rattle.tpol_tree.specs.Closed.{HasBranchCounts}
 use Rattle.tpol_tree.specs.declared.closed.Closed.{Closed}
 use Rattle.tpol_tree.specs.declared.path.ApprovedDoc.{ApprovedDoc}
 
-pub documents_have_counts : (approvals : List ApprovedDoc) → All IsWellFormedDocument approvals → All (λ document. HasBranchCounts document.closed.elements) approvals
+documents_have_counts : (approvals : List ApprovedDoc) → All IsFilledApproval approvals → All (λ document. HasBranchCounts document.closed.elements) approvals
 documents_have_counts approvals all i d within = (all i d within).policy.branch_counts
 
-pub walkable : (approvals : List ApprovedDoc) (closed : Closed) → IsReady closed → All IsWellFormedDocument approvals → AreWithinLimits (paths_of closed approvals) → IsWalkable approvals closed
+documents_are_well_formed : (approvals : List ApprovedDoc) → All IsFilledApproval approvals → All IsWellFormedDocument approvals
+documents_are_well_formed approvals all i d within =
+    let is = all i d within in record { policy = is.policy.well_formed; digest = is.digest }
+
+pub walkable : (approvals : List ApprovedDoc) (closed : Closed) → IsReady closed → All IsFilledApproval approvals → AreWithinLimits (paths_of closed approvals) → IsWalkable approvals closed
 walkable approvals closed ready all within = record {
-  branches = record { policy_itself = ready.well_formed.branch_counts; documents = documents_have_counts approvals all };
-  well_formed = record { policy_itself = ready.well_formed; documents = all };
+  branches = record { policy_itself = ready.form.branch_counts; documents = documents_have_counts approvals all };
+  well_formed = record { policy_itself = ready.form.well_formed; documents = documents_are_well_formed approvals all };
   within = within;
 }
 
-pub all_walkable : (approvals : List ApprovedDoc) (documents : List FilledDocument) → All IsReadyDocument documents → All IsWellFormedDocument approvals → All (λ document. AreWithinLimits (paths_of document.closed approvals)) documents → All (λ document. IsWalkable approvals document.closed) documents
+pub all_walkable : (approvals : List ApprovedDoc) (documents : List FilledDocument) → All IsReadyDocument documents → All IsFilledApproval approvals → All (λ document. AreWithinLimits (paths_of document.closed approvals)) documents → All (λ document. IsWalkable approvals document.closed) documents
 all_walkable approvals documents ready all within i d there =
     walkable approvals (get_or documents i d).closed (ready i d there) all (within i d there)
 

@@ -7,7 +7,7 @@ ghost use Rattle.tpol_name.specs.Setups.{IsSetup};
 ghost use Rattle.tpol_scene.specs.Conditions.{HasClients, HasScript};
 ghost use Rattle.tpol_store.specs.Approvals.{HasApprovedBounds, approved_documents};
 ghost use Rattle.tpol_store.specs.Stores.{IsReadable, policies_of, stored};
-ghost use Rattle.tpol_digest.specs.WellFormed.{IsWellFormedDocument};
+ghost use Rattle.tpol_fill.specs.Forms.{IsFilledApproval};
 ghost use Rattle.tpol_prepare.specs.Entities.{IsReadyEntity, erased_entity};
 ghost use Rattle.tpol_prepare.specs.Prepared.{erased_prepared};
 ghost use Rattle.tpol_prepare.specs.Scenario.{CanHappen, IsScenarioOf, IsWalkable, entity_document, erased_staged, grants_of, is_client, is_document, is_entity, limited_step, policy_of_entity, scenario_with, staged_from, staged_of, staged_step, staged_with};
@@ -175,7 +175,7 @@ fn approve_scene(
 
 // The directory of a scene's machine, or the end of the run at the first policy of the scene that has too many
 // paths, or one that is too long.
-#[tactic(auto, using(crate::proofs::Walkable::all_walkable, crate::proofs::Walkable::documents_have_counts), unfolding(crate::specs::Scenario::limited_step))]
+#[tactic(auto, using(crate::proofs::Walkable::all_walkable), unfolding(crate::specs::Scenario::limited_step))]
 fn check_scene(
     alloc: Global,
     prepared: &PreparedScene,
@@ -183,7 +183,7 @@ fn check_scene(
 ) -> Result<Directory, Halt>
     requires entities { All IsReadyEntity prepared.now.entities }
     requires begun { All IsReadyDocument prepared.now.begun }
-    requires approvals { All IsWellFormedDocument approvals.now }
+    requires approvals { All IsFilledApproval approvals.now }
     ensures answer { Answers (λ _. tt) (limited_step (erased_prepared prepared.now) (map erased_document approvals.now)) result }
     ensures inside { IsInside result }
     ensures directory { IfOk result (λ directory. directory ≡ directory_of prepared.now.setup) }
@@ -203,7 +203,7 @@ fn check_entities(
     approvals: &Approvals,
 ) -> Result<(), Halt>
     requires policies { All IsReadyEntity entities.now }
-    requires approvals { All IsWellFormedDocument approvals.now }
+    requires approvals { All IsFilledApproval approvals.now }
     ensures answer { Answers (λ _. tt)
         (limits_step (map erased_document approvals.now) (map entity_document (map erased_entity entities.now))) result }
     ensures inside { IsInside result }

@@ -1,6 +1,6 @@
 -- The step that fills a document, and documents that are filled.
 use Rattle.std.specs.Prelude.{ℕ, List, [], ◌∷◌, Option, Ok, Err}
-use Rattle.tpol_digest.specs.WellFormed.{IsWellFormedPolicy}
+use Rattle.tpol_fill.specs.Forms.{IsFilledPolicy}
 use Rattle.tpol_fill.specs.Filling.{filled, fill_faults}
 use Rattle.tpol_fill.specs.Outcome.{Fault}
 use Rattle.tpol_name.specs.declared.sight.Sight.{Sight}
@@ -28,9 +28,9 @@ erased_filled document = record document { closed = erased document.closed }
 
 -- ---- policies that a run can go through
 
--- a policy is well formed, and each field is within the bounds of the wire
+-- a policy is well formed with 2 to 8 branches at each OR, and each field is within the bounds of the wire
 pub record IsReady (closed : Closed) : Type 0 where
-  pub well_formed : IsWellFormedPolicy closed
+  pub form : IsFilledPolicy closed
   pub bounded : HasClosedBounds closed
 
 abbrev pub IsReadyDocument : FilledDocument → Type 0

@@ -1,6 +1,6 @@
 ghost use Rattle.std.specs.Option.{option_copied};
 ghost use Rattle.std.specs.Prelude.{IfOk};
-ghost use Rattle.tpol_digest.specs.WellFormed.{IsWellFormedPolicy};
+ghost use Rattle.tpol_fill.specs.Forms.{IsFilledPolicy};
 ghost use Rattle.tpol_steps.specs.Filled.{filled_step};
 ghost use Rattle.tpol_steps.specs.Steps.{Answers, IsInside};
 ghost use Rattle.tpol_tree.specs.Bounds.{HasBounds, HasClosedBounds};
@@ -37,7 +37,7 @@ pub fn fill_document(
     ensures answer { Answers erased
         (filled_step (option_copied document.entry) (erased_policy policy.now) (option_copied sight.entry)) result }
     ensures inside { IsInside result }
-    ensures well_formed { written.HasBranchCounts policy.now.elements → IfOk result IsWellFormedPolicy }
+    ensures form { written.HasBranchCounts policy.now.elements → IfOk result IsFilledPolicy }
     ensures bounded { HasBounds policy.now → IfOk result HasClosedBounds }
 {
     fill_as_it_lies(alloc, document, policy, sight)
@@ -53,7 +53,7 @@ fn fill_as_it_lies(
     ensures answer { Answers erased
         (filled_step (option_copied document.entry) policy.now (option_copied sight.entry)) result }
     ensures inside { IsInside result }
-    ensures well_formed { written.HasBranchCounts policy.now.elements → IfOk result IsWellFormedPolicy }
+    ensures form { written.HasBranchCounts policy.now.elements → IfOk result IsFilledPolicy }
     ensures bounded { HasBounds policy.now → IfOk result HasClosedBounds }
 {
     match fill(alloc, policy, sight) {

@@ -2,11 +2,9 @@ ghost use Rattle.std.specs.Prelude.{All, IfOk, map};
 ghost use Rattle.std.specs.Option.{option_copied};
 ghost use Rattle.tpol_digest.specs.Limits.{AreWithinLimits};
 ghost use Rattle.tpol_digest.specs.Paths.{paths_of};
-ghost use Rattle.tpol_digest.specs.WellFormed.{HaveBranchCounts};
-ghost use Rattle.tpol_steps.specs.Filled.{IsReadyDocument, erased_filled};
+ghost use Rattle.tpol_steps.specs.Filled.{erased_filled};
 ghost use Rattle.tpol_steps.specs.Limits.{limit_step, limits_step};
 ghost use Rattle.tpol_steps.specs.Steps.{Answers, IsInside};
-ghost use Rattle.tpol_tree.specs.Closed.{HasBranchCounts};
 ghost use Rattle.tpol_tree.specs.ClosedErased.{erased, erased_document};
 
 use crate::filled::FilledDocument;
@@ -29,7 +27,6 @@ pub fn check_limits(
     closed: &Closed,
     approvals: &Approvals,
 ) -> Result<(), Halt>
-    requires { HaveBranchCounts closed.now approvals.now }
     ensures answer { Answers (λ _. tt)
         (limit_step (option_copied document.entry) (erased closed.now) (map erased_document approvals.now)) result }
     ensures inside { IsInside result }
@@ -54,8 +51,6 @@ pub fn check_documents(
     documents: &[FilledDocument],
     approvals: &Approvals,
 ) -> Result<(), Halt>
-    requires policies { All IsReadyDocument documents.now }
-    requires approvals { All (λ document. HasBranchCounts document.closed.elements) approvals.now }
     ensures answer { Answers (λ _. tt)
         (limits_step (map erased_document approvals.now) (map erased_filled documents.now)) result }
     ensures inside { IsInside result }

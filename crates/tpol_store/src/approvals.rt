@@ -2,7 +2,7 @@
 
 ghost use Rattle.std.specs.Prelude.{◌≡◌, ◌++◌, All, IfOk, IfSome, OnOk, map};
 ghost use Rattle.std.specs.Option.{option_copied, option_to_list};
-ghost use Rattle.tpol_digest.specs.WellFormed.{IsWellFormedDocument};
+ghost use Rattle.tpol_fill.specs.Forms.{IsFilledApproval};
 ghost use Rattle.tpol_store.specs.Approvals.{HasApprovedBounds, approved_by, approved_documents, approved_in, approver};
 ghost use Rattle.tpol_store.specs.Stores.{IsReadable, policies_of, stored};
 ghost use Rattle.tpol_tree.specs.ClosedErased.{erased_document};
@@ -24,7 +24,7 @@ impl Store {
     pub fn approvals(&self, alloc: Global, sight: Option<&Sight>) -> Result<Approvals, NoMemory>
         ensures documents { IfOk result (λ approvals.
             map erased_document approvals ≡ approved_documents (policies_of self.now) (option_copied sight.entry)) }
-        ensures well_formed { All IsReadable (stored self.now) → IfOk result (All IsWellFormedDocument) }
+        ensures form { All IsReadable (stored self.now) → IfOk result (All IsFilledApproval) }
         ensures bounded { All IsReadable (stored self.now) → IfOk result (All HasApprovedBounds) }
     {
         let mut approvals = Approvals::new(alloc);
@@ -44,8 +44,8 @@ fn push_approved(
 ) -> Result<(), NoMemory>
     ensures documents { OnOk result (map erased_document approvals.new
         ≡ map erased_document approvals.old ++ approved_in document.now.name (erased_policy document.now.policy) (option_copied sight.entry)) }
-    ensures well_formed { IsReadable document.now → All IsWellFormedDocument approvals.old
-        → OnOk result (All IsWellFormedDocument approvals.new) }
+    ensures form { IsReadable document.now → All IsFilledApproval approvals.old
+        → OnOk result (All IsFilledApproval approvals.new) }
     ensures bounded { IsReadable document.now → All HasApprovedBounds approvals.old
         → OnOk result (All HasApprovedBounds approvals.new) }
 {
@@ -59,8 +59,8 @@ fn push_approved(
 fn push_found(approvals: &mut Approvals, found: Option<ApprovedDoc>) -> Result<(), NoMemory>
     ensures documents { OnOk result (map erased_document approvals.new
         ≡ map erased_document approvals.old ++ map erased_document (option_to_list found)) }
-    ensures well_formed { IfSome found IsWellFormedDocument → All IsWellFormedDocument approvals.old
-        → OnOk result (All IsWellFormedDocument approvals.new) }
+    ensures form { IfSome found IsFilledApproval → All IsFilledApproval approvals.old
+        → OnOk result (All IsFilledApproval approvals.new) }
     ensures bounded { IfSome found HasApprovedBounds → All HasApprovedBounds approvals.old
         → OnOk result (All HasApprovedBounds approvals.new) }
 {
@@ -80,7 +80,7 @@ fn approved_by(
 ) -> Result<Option<ApprovedDoc>, NoMemory>
     ensures documents { IfOk result (λ found. map erased_document (option_to_list found)
         ≡ approved_by document.now.name (erased_policy document.now.policy) (option_copied sight.entry) wish.now) }
-    ensures well_formed { IsReadable document.now → IfOk result (λ found. IfSome found IsWellFormedDocument) }
+    ensures form { IsReadable document.now → IfOk result (λ found. IfSome found IsFilledApproval) }
     ensures bounded { IsReadable document.now → IfOk result (λ found. IfSome found HasApprovedBounds) }
 {
     approved_as_it_lies(alloc, document, wish, sight)
@@ -96,7 +96,7 @@ fn approved_as_it_lies(
 ) -> Result<Option<ApprovedDoc>, NoMemory>
     ensures documents { IfOk result (λ found. map erased_document (option_to_list found)
         ≡ approved_by document.now.name document.now.policy (option_copied sight.entry) wish.now) }
-    ensures well_formed { IsReadable document.now → IfOk result (λ found. IfSome found IsWellFormedDocument) }
+    ensures form { IsReadable document.now → IfOk result (λ found. IfSome found IsFilledApproval) }
     ensures bounded { IsReadable document.now → IfOk result (λ found. IfSome found HasApprovedBounds) }
 {
     let Some(by) = approver(wish, sight)? else {

@@ -1,14 +1,12 @@
 // The command `paths`.
 
-ghost use Rattle.std.specs.Prelude.{◌≡◌, true, All, IfSome, IfOk, IsOk, map, ⊤};
+ghost use Rattle.std.specs.Prelude.{◌≡◌, true, IfSome, IfOk, IsOk, map, ⊤};
 ghost use Rattle.tpol_digest.specs.Paths.{paths_of};
-ghost use Rattle.tpol_digest.specs.WellFormed.{HaveBranchCounts};
 ghost use Rattle.tpol_steps.specs.ReadStep.{read_step};
 ghost use Rattle.tpol_steps.specs.Steps.{Answers, AsksShelf, IsInside};
-ghost use Rattle.tpol_store.specs.Stores.{IsReadable, policies_of, stored};
+ghost use Rattle.tpol_store.specs.Stores.{policies_of};
 ghost use Rattle.tpol_top.specs.Paths.{listed, listed_in, listed_with, path_answer, paths_step};
 ghost use Rattle.tpol_tree.specs.ClosedErased.{erased, erased_document};
-ghost use Rattle.tpol_tree.specs.Elements as written;
 ghost use Rattle.tpol_tree.specs.Erased.{erased_policy};
 
 use std::alloc::Global;
@@ -55,7 +53,6 @@ fn list_read<H: Shelf>(
     policy: &Policy,
     shelf: &mut H,
 ) -> Result<Answer, Halt>
-    requires { written.HasBranchCounts policy.now.elements }
     ensures answer { IfSome (H.documents shelf.old) (λ all.
         Answers (λ answer. answer) (listed_with scene.now (erased_policy policy.now) all) result) }
     ensures keeps { H.documents shelf.new ≡ H.documents shelf.old }
@@ -74,8 +71,6 @@ fn list_policy(
     scene: &Option<Scene>,
     policy: &Policy,
 ) -> Result<Answer, Halt>
-    requires readable { All IsReadable (stored store.now) }
-    requires branches { written.HasBranchCounts policy.now.elements }
     ensures answer { Answers (λ answer. answer)
         (listed_in (policies_of store.now) scene.now (erased_policy policy.now)) result }
     ensures inside { IsInside result }
@@ -89,7 +84,6 @@ fn list_policy(
 // A line for each path, and the digest, or why the paths are not listed.
 #[tactic(auto, unfolding(crate::specs::Paths::listed))]
 fn list(alloc: Global, closed: &Closed, approvals: &Approvals) -> Result<Answer, Halt>
-    requires { HaveBranchCounts closed.now approvals.now }
     ensures answer { Answers (λ answer. answer)
         (listed (erased closed.now) (map erased_document approvals.now)) result }
     ensures inside { IsInside result }

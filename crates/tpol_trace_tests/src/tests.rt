@@ -7,7 +7,7 @@ ghost use Rattle.tpol_digest.specs.Digest.{digest_of_moves, policy_digest, zero_
 ghost use Rattle.tpol_digest.specs.Update.{joined};
 ghost use Rattle.tpol_digest.specs.WellFormed.{HasPcrDigest, IsWellFormed, IsWellFormedDocument, IsWellFormedPolicy};
 ghost use Rattle.tpol_hash.specs.Sha256.{sha256_digest};
-ghost use Rattle.tpol_tree.specs.Closed.{ApprovalsLead, ApprovalsLeadBranches, ApprovalsLeadElement, BranchesHaveBranchCounts, EachAssertion, EachAssertionOfBranches, EachAssertionOfElement, ElementHasBranchCounts, HasBranchCounts, branch_count};
+ghost use Rattle.tpol_tree.specs.Closed.{ApprovalsLead, ApprovalsLeadBranches, ApprovalsLeadElement, EachAssertion, EachAssertionOfBranches, EachAssertionOfElement};
 
 use std::alloc::Global;
 use std::test::Fail;
@@ -93,7 +93,6 @@ fn before(
     ensures lead { IfOk result (λ all. ApprovalsLeadElement true element → ApprovalsLead false rest → ApprovalsLead true all) }
     ensures behind { IfOk result (λ all. ApprovalsLeadElement false element → ApprovalsLead false rest → ApprovalsLead false all) }
     ensures digests { IfOk result (λ all. EachAssertionOfElement HasPcrDigest element → EachAssertion HasPcrDigest rest → EachAssertion HasPcrDigest all) }
-    ensures counts { IfOk result (λ all. ElementHasBranchCounts element → HasBranchCounts rest → HasBranchCounts all) }
 {
     Ok(ClosedElements::More(Box::new(alloc, element)?, Box::new(alloc, rest)?))
 }
@@ -107,8 +106,6 @@ fn branch_before(
 ) -> Result<ClosedBranches, NoMemory>
     ensures lead { IfOk result (λ all. ApprovalsLead true elements → ApprovalsLeadBranches true rest → ApprovalsLeadBranches true all) }
     ensures digests { IfOk result (λ all. EachAssertion HasPcrDigest elements → EachAssertionOfBranches HasPcrDigest rest → EachAssertionOfBranches HasPcrDigest all) }
-    ensures counts { IfOk result (λ all. HasBranchCounts elements → BranchesHaveBranchCounts rest → BranchesHaveBranchCounts all) }
-    ensures count { IfOk result (λ all. branch_count all ≡ branch_count rest + 1) }
 {
     let branch = ClosedBranch {
         name: Text::from_str(alloc, name)?,
@@ -126,7 +123,6 @@ fn either(
 ) -> Result<ClosedElement, NoMemory>
     ensures lead { IfOk result (λ element. ApprovalsLead true first → ApprovalsLead true second → ApprovalsLeadElement true element) }
     ensures digests { IfOk result (λ element. EachAssertion HasPcrDigest first → EachAssertion HasPcrDigest second → EachAssertionOfElement HasPcrDigest element) }
-    ensures counts { IfOk result (λ element. HasBranchCounts first → HasBranchCounts second → ElementHasBranchCounts element) }
 {
     let last = branch_before(alloc, names[1], second, ClosedBranches::End)?;
     Ok(ClosedElement::Or(branch_before(alloc, names[0], first, last)?))
@@ -252,7 +248,6 @@ fn policy_of_two(
 ) -> Result<Closed, NoMemory>
     ensures lead { IfOk result (λ policy. ApprovalsLead true first → ApprovalsLead true second → ApprovalsLead true policy.elements) }
     ensures digests { IfOk result (λ policy. EachAssertion HasPcrDigest first → EachAssertion HasPcrDigest second → EachAssertion HasPcrDigest policy.elements) }
-    ensures counts { IfOk result (λ policy. HasBranchCounts first → HasBranchCounts second → HasBranchCounts policy.elements) }
 {
     let or = either(alloc, names, first, second)?;
     Ok(Closed {
@@ -264,7 +259,6 @@ fn policy_of_two(
 fn one(alloc: Global, assertion: Assertion) -> Result<ClosedElements, NoMemory>
     ensures lead { IfOk result (λ all. ApprovalsLead true all) }
     ensures digests { IfOk result (λ all. HasPcrDigest assertion → EachAssertion HasPcrDigest all) }
-    ensures counts { IfOk result (λ all. HasBranchCounts all) }
 {
     before(alloc, ClosedElement::Assert(assertion), ClosedElements::End)
 }
@@ -273,7 +267,6 @@ fn one(alloc: Global, assertion: Assertion) -> Result<ClosedElements, NoMemory>
 fn two(alloc: Global, first: Assertion, second: Assertion) -> Result<ClosedElements, NoMemory>
     ensures lead { IfOk result (λ all. ApprovalsLead true all) }
     ensures digests { IfOk result (λ all. HasPcrDigest first → HasPcrDigest second → EachAssertion HasPcrDigest all) }
-    ensures counts { IfOk result (λ all. HasBranchCounts all) }
 {
     let rest = before(alloc, ClosedElement::Assert(second), ClosedElements::End)?;
     before(alloc, ClosedElement::Assert(first), rest)

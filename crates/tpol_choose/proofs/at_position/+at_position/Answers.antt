@@ -4,7 +4,7 @@ use Rattle.std.proofs.lemmas.List.{length-map}
 use Rattle.tpol_tree.specs.declared.closed.ClosedBranch.{ClosedBranch}
 use Rattle.tpol_tree.specs.declared.path.Move.TheVariants.{Assert, Or}
 use Rattle.tpol_tree.specs.declared.path.PathStep.TheVariants.{Branch, Document}
-use Rattle.tpol_tree.specs.Closed.{HasBranchCounts, ElementHasBranchCounts, BranchesHaveBranchCounts}
+use Rattle.tpol_choose.specs.Few.{HasFewBranches, ElementHasFewBranches, BranchesHaveFewBranches}
 use Rattle.tpol_digest.specs.Digest.{branch_digests, digest_at_element, or_digest}
 use Rattle.tpol_digest.specs.Paths.{empty_path, followed_by, path_of_move, paths_by_approval, approved_paths, outside_paths, document_paths}
 use Rattle.tpol_digest.specs.Positions.{path_of_step, element_list_ways, element_ways, branch_ways, approval_ways}
@@ -23,21 +23,18 @@ use Rattle.tpol_choose.proofs.at_position.+at_position.Goals.{go_approval-in-Som
 
 pub go_elements-nonzero_div-behind : goal.go_elements-nonzero_div-behind
 go_elements-nonzero_div-behind t c =
-    let counts = rw c.in-More.is at c.requires.branches in
     let counted = rw c.in-More.is at c.requires.counted in
-    (parts c.args.walk.now.approvals.now c.requires.approved c.args.walk.now.levels c.count_element-choices.result c.in-More.element.value c.deref.result.now c.in-More.rest.value c.args.before c.args.count c.args.index c.deref.ensures counts.0 counts.1 counted c.requires.few c.requires.inside c.count_element-choices.ensures).divides
+    (parts c.args.walk.now.approvals.now c.args.walk.now.levels c.count_element-choices.result c.in-More.element.value c.deref.result.now c.in-More.rest.value c.args.before c.args.count c.args.index c.deref.ensures counted c.requires.few c.requires.inside c.count_element-choices.ensures).divides
 
 pub go_elements-nonzero_div-index : goal.go_elements-nonzero_div-index
 go_elements-nonzero_div-index t c =
-    let counts = rw c.in-More.is at c.requires.branches in
     let counted = rw c.in-More.is at c.requires.counted in
-    (parts c.args.walk.now.approvals.now c.requires.approved c.args.walk.now.levels c.count_element-choices.result c.in-More.element.value c.deref.result.now c.in-More.rest.value c.args.before c.args.count c.args.index c.deref.ensures counts.0 counts.1 counted c.requires.few c.requires.inside c.count_element-choices.ensures).behind_divides
+    (parts c.args.walk.now.approvals.now c.args.walk.now.levels c.count_element-choices.result c.in-More.element.value c.deref.result.now c.in-More.rest.value c.args.before c.args.count c.args.index c.deref.ensures counted c.requires.few c.requires.inside c.count_element-choices.ensures).behind_divides
 
 pub go_elements-nonzero_rem-index : goal.go_elements-nonzero_rem-index
 go_elements-nonzero_rem-index t c =
-    let counts = rw c.in-More.is at c.requires.branches in
     let counted = rw c.in-More.is at c.requires.counted in
-    (parts c.args.walk.now.approvals.now c.requires.approved c.args.walk.now.levels c.count_element-choices.result c.in-More.element.value c.deref.result.now c.in-More.rest.value c.args.before c.args.count c.args.index c.deref.ensures counts.0 counts.1 counted c.requires.few c.requires.inside c.count_element-choices.ensures).behind_divides
+    (parts c.args.walk.now.approvals.now c.args.walk.now.levels c.count_element-choices.result c.in-More.element.value c.deref.result.now c.in-More.rest.value c.args.before c.args.count c.args.index c.deref.ensures counted c.requires.few c.requires.inside c.count_element-choices.ensures).behind_divides
 
 pub go_elements-go_element-middle-requires : goal.go_elements-go_element-middle-requires
 go_elements-go_element-middle-requires t c =
@@ -45,10 +42,10 @@ go_elements-go_element-middle-requires t c =
     let levels = c.args.walk.now.levels in
     let counts = rw c.in-More.is at c.requires.branches in
     let counted = rw c.in-More.is at c.requires.counted in
-    let p = parts documents c.requires.approved levels c.count_element-choices.result c.in-More.element.value c.deref.result.now c.in-More.rest.value c.args.before c.args.count c.args.index c.deref.ensures counts.0 counts.1 counted c.requires.few c.requires.inside c.count_element-choices.ensures in (
+    let p = parts documents levels c.count_element-choices.result c.in-More.element.value c.deref.result.now c.in-More.rest.value c.args.before c.args.count c.args.index c.deref.ensures counted c.requires.few c.requires.inside c.count_element-choices.ensures in (
       omega (arith, rw c.in-More.is at c.decreases, ap weight_of_element c.deref-in-More.ensures),
       (
-        subst ElementHasBranchCounts (sym c.deref-in-More.ensures) counts.0,
+        subst ElementHasFewBranches (sym c.deref-in-More.ensures) counts.0,
         (
           c.requires.approved,
           (
@@ -68,11 +65,11 @@ go_elements-go_elements-requires t c =
     let levels = c.args.walk.now.levels in
     let counts = rw c.in-More.is at c.requires.branches in
     let counted = rw c.in-More.is at c.requires.counted in
-    let p = parts documents c.requires.approved levels c.count_element-choices.result c.in-More.element.value c.deref.result.now c.in-More.rest.value c.args.before c.args.count c.args.index c.deref.ensures counts.0 counts.1 counted c.requires.few c.requires.inside c.count_element-choices.ensures in
+    let p = parts documents levels c.count_element-choices.result c.in-More.element.value c.deref.result.now c.in-More.rest.value c.args.before c.args.count c.args.index c.deref.ensures counted c.requires.few c.requires.inside c.count_element-choices.ensures in
     let after_is = c.go_element-middle.ensures.digest ∙ ap (λ e. digest_at_element e c.args.before) c.deref-in-More.ensures in (
       omega (arith, rw c.in-More.is at c.decreases, ap weight c.deref-in-More-2.ensures),
       (
-        subst HasBranchCounts (sym c.deref-in-More-2.ensures) counts.1,
+        subst HasFewBranches (sym c.deref-in-More-2.ensures) counts.1,
         (
           c.requires.approved,
           (
@@ -100,9 +97,8 @@ go_elements-returns-in-More t c =
     let d = c.args.before in
     let element = c.in-More.element.value in
     let rest = c.in-More.rest.value in
-    let counts = rw c.in-More.is at c.requires.branches in
     let counted = rw c.in-More.is at c.requires.counted in
-    let p = parts documents c.requires.approved levels c.count_element-choices.result element c.deref.result.now rest d c.args.count c.args.index c.deref.ensures counts.0 counts.1 counted c.requires.few c.requires.inside c.count_element-choices.ensures in
+    let p = parts documents levels c.count_element-choices.result element c.deref.result.now rest d c.args.count c.args.index c.deref.ensures counted c.requires.few c.requires.inside c.count_element-choices.ensures in
     let behind = c.args.count / c.count_element-choices.result in
     let middle = c.go_element-middle.result.track in
     let end = c.go_elements.result in
@@ -167,11 +163,11 @@ go_branches-go_elements-requires t c =
     let branch = c.in-More.branch.value in
     let d = c.args.before in
     let counts = rw c.in-More.is at c.requires.branches in
-    let counted = first_counted documents c.requires.approved levels c.count_elements-count.result branch c.deref.result.now c.in-More.rest.value d c.deref.ensures counts.0 (rw c.in-More.is at c.requires.few) c.count_elements-count.ensures in
+    let counted = first_counted documents levels c.count_elements-count.result branch c.deref.result.now c.in-More.rest.value d c.deref.ensures (rw c.in-More.is at c.requires.few) c.count_elements-count.ensures in
     let ways = ap (λ (b : ClosedBranch). length (element_list_ways documents levels b.policy.elements d)) (sym c.deref.ensures) in (
       omega (arith, rw c.in-More.is at c.decreases, ap (λ (b : ClosedBranch). weight b.policy.elements) c.deref.ensures),
       (
-        subst (λ (b : ClosedBranch). HasBranchCounts b.policy.elements) (sym c.deref.ensures) counts.0,
+        subst (λ (b : ClosedBranch). HasFewBranches b.policy.elements) (sym c.deref.ensures) counts.0,
         (
           c.requires.approved,
           (
@@ -190,11 +186,11 @@ go_branches-go_branches-requires t c =
     let rest = c.in-More.rest.value in
     let d = c.args.before in
     let counts = rw c.in-More.is at c.requires.branches in
-    let counted = first_counted documents c.requires.approved levels c.count_elements-count.result branch c.deref.result.now rest d c.deref.ensures counts.0 (rw c.in-More.is at c.requires.few) c.count_elements-count.ensures in
+    let counted = first_counted documents levels c.count_elements-count.result branch c.deref.result.now rest d c.deref.ensures (rw c.in-More.is at c.requires.few) c.count_elements-count.ensures in
     let ways = ap (λ r. length (branch_ways documents levels r 1 d)) c.deref-else-index-count.ensures ∙ branch_ways-count documents levels rest 1 2 d in (
       omega (arith, rw c.in-More.is at c.decreases, ap weight_of_branches c.deref-else-index-count.ensures),
       (
-        subst BranchesHaveBranchCounts (sym c.deref-else-index-count.ensures) counts.1,
+        subst BranchesHaveFewBranches (sym c.deref-else-index-count.ensures) counts.1,
         (
           c.requires.approved,
           (
@@ -231,8 +227,7 @@ go_branches-returns-else-index-count t c =
     let d = c.args.before in
     let end = c.go_branches.result in
     let left = c.args.index - c.count_elements-count.result in
-    let counts = rw c.in-More.is at c.requires.branches in
-    let counted = first_counted documents c.requires.approved levels c.count_elements-count.result branch c.deref.result.now rest d c.deref.ensures counts.0 (rw c.in-More.is at c.requires.few) c.count_elements-count.ensures in
+    let counted = first_counted documents levels c.count_elements-count.result branch c.deref.result.now rest d c.deref.ensures (rw c.in-More.is at c.requires.few) c.count_elements-count.ensures in
     rw c.in-More.is (λ state position h.
     let step = followed_by (path_of_step (Branch position branch.name)) in
     let ways = element_list_ways documents levels branch.policy.elements d in
@@ -248,7 +243,7 @@ go_approval-go_elements-behind-requires t c =
     let document = c.document-item.result in
     let index = c.loop-document.document-index in
     let level : levels ≢ 0 = omega (arith, c.if-walk-gt0.true) in
-    let counted = document_ways documents c.requires.approved levels c.args.element.now c.count_elements-count.result index document c.loop-document-test.true c.document-item.is level (ap is_some (sym c.in-Some.ensures)) c.requires.few c.count_elements-count.ensures in
+    let counted = document_ways documents levels c.args.element.now c.count_elements-count.result index document c.loop-document-test.true c.document-item.is level (ap is_some (sym c.in-Some.ensures)) c.requires.few c.count_elements-count.ensures in
     let inside = part_inside documents levels c.args.element.now index document c.loop-document-test.true c.document-item.is in
     let total = length-append (approved_paths (document_paths documents levels) documents c.args.element.now) (outside_paths c.args.element.now) in
     let light = weight-lt-greatest documents index document c.loop-document-test.true in
@@ -256,13 +251,13 @@ go_approval-go_elements-behind-requires t c =
     let less = level_less levels (greatest documents) (weight document.closed.elements) (omega (arith, c.if-walk-gt0.true)) lighter in (
       omega (arith, less, c.decreases),
       (
-        subst (λ x. HasBranchCounts x.closed.elements) (sym c.document-item.is) (c.requires.approved index document c.loop-document-test.true),
+        subst (λ x. HasFewBranches x.closed.elements) (sym c.document-item.is) (c.requires.approved index document c.loop-document-test.true),
         (
           c.requires.approved,
           (
             c.requires.sight,
             (
-              counted.1 ∙ ap (λ d. length (element_list_ways documents (levels - 1) document.closed.elements d)) (sym c.zero.ensures),
+              counted.1 ∙ ap (λ d. length (element_list_ways documents (levels - 1) document.closed.elements d)) (sym c.zero_digest.ensures),
               (omega (arith, counted.0, inside, total, c.requires.few), c.if-left-count.true),
             ),
           ),
@@ -284,7 +279,7 @@ go_approval-returns-then-left-count t c =
     let end = c.after.result in
     let level : levels ≢ 0 = omega (arith, c.if-walk-gt0.true) in
     λ state h.
-    let inner = subst (λ d. Goes client state (element_list_ways documents (levels - 1) document.closed.elements d) left behind) c.zero.ensures (c.go_elements-behind.ensures state h) in
+    let inner = subst (λ d. Goes client state (element_list_ways documents (levels - 1) document.closed.elements d) left behind) c.zero_digest.ensures (c.go_elements-behind.ensures state h) in
     let all = subst (λ l. Goes client state l left behind) (sym (document_paths-some documents levels document level)) inner in
     let used = go_between client state behind end (Document document.document) act (document_paths documents levels document) left all c.after.ensures in
     let there = subst (λ o. Goes client state (paths_by_approval o document (document_paths documents levels document)) left end) c.in-Some.ensures used in
@@ -300,7 +295,7 @@ go_approval-loop-document-preserved t c =
     let more = parts_more documents levels c.args.element.now index document c.loop-document-test.true c.document-item.is in
     elim c.match-approval.branch [
       | go_approval-in-Some+else-left-count w ↦
-          let counted = document_ways documents c.requires.approved levels c.args.element.now w.count_elements-count.result index document c.loop-document-test.true c.document-item.is level (ap is_some (sym w.in-Some.ensures)) c.requires.few w.count_elements-count.ensures in
+          let counted = document_ways documents levels c.args.element.now w.count_elements-count.result index document c.loop-document-test.true c.document-item.is level (ap is_some (sym w.in-Some.ensures)) c.requires.few w.count_elements-count.ensures in
           omega (arith, more, counted.0, w.left-is, w.if-left-count.false, c.loop-document.invariant)
       | go_approval-in_default w ↦
           let none = part_passed documents levels c.args.element.now document (ap is_some (sym w.in_default.ensures)) in

@@ -14,20 +14,20 @@ use Rattle.tpol_choose.proofs.at_position.block_at_index.Goals as goal
 
 pub go_elements-track-requires-clause-counted : goal.go_elements-track-requires-clause-counted
 go_elements-track-requires-clause-counted c =
-    whole_counted c.args.walk.now.approvals.now c.requires.approved c.args.walk.now.levels c.args.policy.now c.count_elements-count.result c.zero.result c.requires.levels c.zero.ensures c.requires.branches c.requires.within c.count_elements-count.ensures
+    whole_counted c.args.walk.now.approvals.now c.args.walk.now.levels c.args.policy.now c.count_elements-count.result c.zero_digest.result c.requires.levels c.zero_digest.ensures c.requires.within c.count_elements-count.ensures
 
 pub go_elements-track-requires-clause-few : goal.go_elements-track-requires-clause-few
 go_elements-track-requires-clause-few c =
     let documents = c.args.walk.now.approvals.now in
-    let counted = whole_counted documents c.requires.approved c.args.walk.now.levels c.args.policy.now c.count_elements-count.result c.zero.result c.requires.levels c.zero.ensures c.requires.branches c.requires.within c.count_elements-count.ensures in
-    let same = ap length (whole_ways documents c.requires.approved c.args.walk.now.levels c.args.policy.now c.zero.result c.requires.levels c.zero.ensures) in
+    let counted = whole_counted documents c.args.walk.now.levels c.args.policy.now c.count_elements-count.result c.zero_digest.result c.requires.levels c.zero_digest.ensures c.requires.within c.count_elements-count.ensures in
+    let same = ap length (whole_ways documents c.args.walk.now.levels c.args.policy.now c.zero_digest.result c.requires.levels c.zero_digest.ensures) in
     omega (arith, counted, same, c.requires.within.few)
 
 pub go_elements-track-requires-clause-inside : goal.go_elements-track-requires-clause-inside
 go_elements-track-requires-clause-inside c =
     let documents = c.args.walk.now.approvals.now in
-    let counted = whole_counted documents c.requires.approved c.args.walk.now.levels c.args.policy.now c.count_elements-count.result c.zero.result c.requires.levels c.zero.ensures c.requires.branches c.requires.within c.count_elements-count.ensures in
-    let same = ap length (whole_ways documents c.requires.approved c.args.walk.now.levels c.args.policy.now c.zero.result c.requires.levels c.zero.ensures) in
+    let counted = whole_counted documents c.args.walk.now.levels c.args.policy.now c.count_elements-count.result c.zero_digest.result c.requires.levels c.zero_digest.ensures c.requires.within c.count_elements-count.ensures in
+    let same = ap length (whole_ways documents c.args.walk.now.levels c.args.policy.now c.zero_digest.result c.requires.levels c.zero_digest.ensures) in
     omega (arith, counted, same, c.requires.inside)
 
 pub returns : goal.returns
@@ -38,6 +38,6 @@ returns c =
     let paths = paths_of c.args.policy.now documents in
     let index = c.args.index in
     let gone = c.go_elements-track.ensures (fresh_track client) c.new-track.ensures in
-    let there : slice_get paths index ≡ Some gone.way = ap (λ l. slice_get l index) (sym (whole_ways documents c.requires.approved c.args.walk.now.levels c.args.policy.now c.zero.result c.requires.levels c.zero.ensures)) ∙ gone.is_there in
+    let there : slice_get paths index ≡ Some gone.way = ap (λ l. slice_get l index) (sym (whole_ways documents c.args.walk.now.levels c.args.policy.now c.zero_digest.result c.requires.levels c.zero_digest.ensures)) ∙ gone.is_there in
     let short = found_has (λ (path : Path). length path.moves ≤ 512) paths index gone.way c.requires.within.short there in
     subst (λ found. IfSome found (λ path. Breaks c.end.result (first_block path client.sight client.grants client.goal client.locality))) (sym there) (subst (Breaks c.end.result) (path_ends client gone.way short) (c.end.ensures (track_along client (fresh_track client) gone.way) gone.follows))

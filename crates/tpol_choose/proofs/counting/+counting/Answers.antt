@@ -1,6 +1,5 @@
 use Rattle.std.proofs.Common.{◌+◌, ◌<◌, ◌≤◌, ◌≡◌, take, refl, min, subst, sym, ◌∙◌, arith}
 use Rattle.std.proofs.lemmas.List.{take_all}
-use Rattle.tpol_tree.specs.Closed.{HasBranchCounts}
 use Rattle.tpol_digest.specs.Extent.{extent_by_approval, document_extent}
 use Rattle.tpol_digest.proofs.Weights.{weight, greatest, weight-lt-greatest, level_less}
 use Rattle.tpol_digest.proofs.Extents.{document_extent-none}
@@ -15,13 +14,8 @@ count_documents-count_elements-more-requires t c =
     let light = weight-lt-greatest c.args.approvals.now c.loop-document.document-index document c.loop-document-test.true in
     let lighter : weight document.closed.elements < greatest c.args.approvals.now = subst (λ x. weight x.closed.elements < greatest c.args.approvals.now) (sym c.document-item.is) light in
     let some : 1 ≤ c.args.levels = omega (arith, c.if-levels-eq0.false) in
-    let less = level_less c.args.levels (greatest c.args.approvals.now) (weight document.closed.elements) some lighter in (
-      omega (arith, less, c.decreases),
-      (
-        subst (λ x. HasBranchCounts x.closed.elements) (sym c.document-item.is) (c.requires.approved c.loop-document.document-index document c.loop-document-test.true),
-        c.requires.approved,
-      ),
-    )
+    let less = level_less c.args.levels (greatest c.args.approvals.now) (weight document.closed.elements) some lighter in
+    omega (arith, less, c.decreases)
 
 pub count_documents-returns-then-levels-eq0 : goal.count_documents-returns-then-levels-eq0
 count_documents-returns-then-levels-eq0 t c =

@@ -3,7 +3,7 @@ use Rattle.tpol_tree.specs.declared.closed.ClosedBranch.{ClosedBranch}
 use Rattle.tpol_tree.specs.declared.closed.ClosedElement.TheVariants as closed
 use Rattle.tpol_tree.specs.declared.path.Move.TheVariants.{Assert, Or}
 use Rattle.tpol_tree.specs.declared.path.PathStep.TheVariants.{Branch}
-use Rattle.tpol_tree.specs.Closed.{HasBranchCounts, ElementHasBranchCounts, BranchesHaveBranchCounts}
+use Rattle.tpol_choose.specs.Few.{HasFewBranches, ElementHasFewBranches, BranchesHaveFewBranches}
 use Rattle.tpol_digest.specs.Digest.{branch_digests, digest_at_element, or_digest}
 use Rattle.tpol_digest.specs.Extent.{document_extent, extent_at}
 use Rattle.tpol_digest.specs.Paths.{approved_paths, document_paths, empty_path, followed_by, outside_paths, paths_by_approval}
@@ -30,7 +30,7 @@ search_elements-returns-then-is_hopeless t c = λ state h.
     let documents = c.args.walk.now.approvals.now in
     let ahead = c.args.ahead.now in
     c.pass_over.ensures
-    ∙ sym (elements_hopeless client documents c.requires.approved (search_ahead client documents ahead) (ways_ahead documents ahead) (ahead_hopeless client documents c.requires.approved ahead c.requires.ahead) c.args.walk.now.levels c.args.elements.now c.args.before state c.args.passed c.requires.branches (sym (c.is_hopeless.ensures state h) ∙ c.if-is_hopeless.true))
+    ∙ sym (elements_hopeless client documents (search_ahead client documents ahead) (ways_ahead documents ahead) (ahead_hopeless client documents ahead) c.args.walk.now.levels c.args.elements.now c.args.before state c.args.passed (sym (c.is_hopeless.ensures state h) ∙ c.if-is_hopeless.true))
 
 pub search_elements-returns-in-End : goal.search_elements-returns-in-End
 search_elements-returns-in-End t c =
@@ -169,7 +169,7 @@ search_approvals-returns-in-Passed t c = λ state h.
     let left_out = (extent_at (document_extent documents levels) documents rest).paths * ways_ahead documents ahead in
     c.pass_over.ensures
     ∙ sym (passed_first client behind state c.args.passed c.in-Passed.more (approved_paths (document_paths documents levels) documents element) (outside_paths element) (sym (c.search_documents.ensures state h) ∙ c.in-Passed.is)
-    ∙ outside_hopeless client documents c.requires.approved behind left_out (λ s m lost. elements_hopeless client documents c.requires.approved (search_ahead client documents ahead) (ways_ahead documents ahead) (ahead_hopeless client documents c.requires.approved ahead c.requires.ahead) levels rest c.args.after s m c.requires.rest lost) element state c.in-Passed.more c.requires.asks)
+    ∙ outside_hopeless client documents behind left_out (λ s m lost. elements_hopeless client documents (search_ahead client documents ahead) (ways_ahead documents ahead) (ahead_hopeless client documents ahead) levels rest c.args.after s m lost) element state c.in-Passed.more c.requires.asks)
 
 -- ---- documents
 
@@ -195,7 +195,7 @@ search_documents-returns-in-Found t c = λ state h.
     let i = c.loop-document.document-index in
     let so_far = c.loop-document.so_far in
     let level : levels ≢ 0 = c.if-walk-eq0.false in
-    let inner = entered client behind documents levels element document (move_of c.in-Some.act) c.zero.result state so_far c.search_elements.result level c.in-Some.ensures c.zero.ensures (c.search_elements.ensures state h) in
+    let inner = entered client behind documents levels element document (move_of c.in-Some.act) c.zero_digest.result state so_far c.search_elements.result level c.in-Some.ensures c.zero_digest.ensures (c.search_elements.ensures state h) in
     sym (c.loop-document.invariant state h
     ∙ ap (search_ways client behind state so_far) (next_left documents levels element i document c.loop-document-test.true c.document-item.is)
     ∙ found_first client behind state so_far c.in-Found.index (part documents levels element document) (left documents levels element (i + 1)) (inner ∙ c.in-Found.is))
@@ -214,7 +214,7 @@ search_documents-loop-document-preserved t c =
     let next = next_left documents levels element i document c.loop-document-test.true c.document-item.is in
     elim c.match-approval.branch [
       | search_documents-in-Some+in-Passed w ↦ λ state h.
-          let inner = entered client behind documents levels element document (move_of w.in-Some.act) w.zero.result state so_far w.search_elements.result level w.in-Some.ensures w.zero.ensures (w.search_elements.ensures state h) in
+          let inner = entered client behind documents levels element document (move_of w.in-Some.act) w.zero_digest.result state so_far w.search_elements.result level w.in-Some.ensures w.zero_digest.ensures (w.search_elements.ensures state h) in
           c.loop-document.invariant state h
           ∙ ap (search_ways client behind state so_far) next
           ∙ passed_first client behind state so_far w.in-Passed.more (part documents levels element document) (left documents levels element (i + 1)) (inner ∙ w.in-Passed.is)
@@ -261,9 +261,9 @@ search_elements-search_element-requires t c =
     let counts = rw c.in-More.is at c.requires.branches in (
       omega (arith, rw c.in-More.is at c.decreases, first, rest, some),
       (
-        subst ElementHasBranchCounts (sym c.deref.ensures) counts.0,
+        subst ElementHasFewBranches (sym c.deref.ensures) counts.0,
         (
-          subst HasBranchCounts (sym c.deref-in-More.ensures) counts.1,
+          subst HasFewBranches (sym c.deref-in-More.ensures) counts.1,
           (c.requires.approved, (c.requires.sight, c.requires.ahead)),
         ),
       ),
@@ -308,7 +308,7 @@ search_branches-search_elements-requires t c =
     let counts = rw c.in-More.is at c.requires.branches in (
       omega (arith, rw c.in-More.is at c.decreases, same, some),
       (
-        subst (λ (b : ClosedBranch). HasBranchCounts b.policy.elements) (sym c.deref.ensures) counts.0,
+        subst (λ (b : ClosedBranch). HasFewBranches b.policy.elements) (sym c.deref.ensures) counts.0,
         (c.requires.approved, (c.requires.sight, c.requires.ahead)),
       ),
     )
@@ -321,7 +321,7 @@ search_branches-search_branches-requires t c =
     let counts = rw c.in-More.is at c.requires.branches in (
       omega (arith, rw c.in-More.is at c.decreases, same, some),
       (
-        subst BranchesHaveBranchCounts (sym c.deref-in-Passed.ensures) counts.1,
+        subst BranchesHaveFewBranches (sym c.deref-in-Passed.ensures) counts.1,
         (c.requires.approved, (c.requires.sight, c.requires.ahead)),
       ),
     )
@@ -342,7 +342,7 @@ search_documents-search_elements-requires t c =
     let less = entered_lighter documents levels (weight document.closed.elements) (omega (arith, c.if-walk-eq0.false)) lighter in (
       omega (arith, less, c.decreases),
       (
-        subst (λ x. HasBranchCounts x.closed.elements) (sym c.document-item.is) (c.requires.approved i document c.loop-document-test.true),
+        subst (λ x. HasFewBranches x.closed.elements) (sym c.document-item.is) (c.requires.approved i document c.loop-document-test.true),
         (c.requires.approved, (c.requires.sight, (c.requires.rest, c.requires.ahead))),
       ),
     )

@@ -1,10 +1,26 @@
-use Rattle.std.proofs.Common.{ap, arith}
+use Rattle.std.proofs.Common.{◌≡◌, ◌*◌, ◌≤◌, ap, sym, arith}
+use Rattle.tpol_digest.specs.Extent.{document_extent, extent_at}
 use Rattle.tpol_choose.specs.declared.searching.Search.TheVariants.{Passed}
+use Rattle.tpol_choose.specs.Ahead.{ways_ahead}
 use Rattle.tpol_choose.specs.Lent.{client_of_lent}
-use Rattle.tpol_choose.proofs.SearchLaws.{counted_both}
+use Rattle.tpol_choose.proofs.SearchLaws.{counted_both, passed_none, passed_some}
 use Rattle.tpol_choose.proofs.searching.pass_over.Goals as goal
+
+pub returns-then-ways-eq0 : goal.returns-then-ways-eq0
+returns-then-ways-eq0 c =
+    let documents = c.args.walk.now.approvals.now in
+    let levels = c.args.walk.now.levels in
+    let ways = (extent_at (document_extent documents levels) documents c.args.elements.now).paths * ways_ahead documents c.args.ahead.now in
+    let counted = counted_both (client_of_lent c.args.walk.now.client) documents c.count_elements-first.result c.count_ahead-behind.result levels c.args.elements.now c.args.ahead.now c.count_elements-first.ensures c.count_ahead-behind.ensures in
+    let none : ways ≡ 0 = omega (arith, counted, c.if-ways-eq0.true) in
+    ap Passed (sym (passed_none c.args.passed ways none))
 
 pub returns : goal.returns
 returns c =
-    let counted = counted_both (client_of_lent c.args.walk.now.client) c.args.walk.now.approvals.now c.requires.approved c.count_elements-first.result c.count_ahead-behind.result c.args.walk.now.levels c.args.elements.now c.args.ahead.now c.requires.branches c.requires.ahead c.count_elements-first.ensures c.count_ahead-behind.ensures in
-    ap Passed (omega (arith, counted))
+    let documents = c.args.walk.now.approvals.now in
+    let levels = c.args.walk.now.levels in
+    let ways = (extent_at (document_extent documents levels) documents c.args.elements.now).paths * ways_ahead documents c.args.ahead.now in
+    let counted = counted_both (client_of_lent c.args.walk.now.client) documents c.count_elements-first.result c.count_ahead-behind.result levels c.args.elements.now c.args.ahead.now c.count_elements-first.ensures c.count_ahead-behind.ensures in
+    let some : 1 ≤ ways = omega (arith, counted, c.if-ways-eq0.false) in
+    let more = passed_some c.args.passed ways some in
+    ap Passed (omega (arith, counted, more))

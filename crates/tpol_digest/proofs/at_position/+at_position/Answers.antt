@@ -6,7 +6,6 @@ use Rattle.tpol_tree.specs.declared.closed.ClosedBranch.{ClosedBranch}
 use Rattle.tpol_tree.specs.declared.path.Move.TheVariants.{Assert, Or}
 use Rattle.tpol_tree.specs.declared.path.Path.{Path}
 use Rattle.tpol_tree.specs.declared.path.PathStep.TheVariants.{Branch, Document}
-use Rattle.tpol_tree.specs.Closed.{HasBranchCounts, ElementHasBranchCounts, BranchesHaveBranchCounts, branch_count}
 use Rattle.tpol_digest.specs.Digest.{zero_digest, branch_digests, digest_at_element}
 use Rattle.tpol_digest.specs.Extent.{IsCapped, extent_at, extent_at_element, document_extent}
 use Rattle.tpol_digest.specs.Paths.{followed_by, path_of_move, product, approved_paths, outside_paths, document_paths}
@@ -20,50 +19,43 @@ pub push_unbranched-nonzero_div-behind : goal.push_unbranched-nonzero_div-behind
 push_unbranched-nonzero_div-behind t c =
     let documents = c.args.walk.now.approvals.now in
     let levels = c.args.walk.now.levels in
-    let counts = rw c.in-More.is at c.requires.branches in
     let counted = rw c.in-More.is at c.requires.counted in
     let none = or_parts (is_or c.in-More.element.value) (has_or c.in-More.rest.value) (rw c.in-More.is at c.requires.unbranched) in
     let capped = subst (λ e. IsCapped c.extent_of_element-choices.result (extent_at_element (document_extent documents levels) documents e)) c.deref.ensures c.extent_of_element-choices.ensures in
-    (parted_unbranched documents c.requires.approved levels c.extent_of_element-choices.result c.in-More.element.value c.in-More.rest.value c.args.count c.args.index counts.0 counts.1 none.1 counted c.requires.few c.requires.inside capped).divides
+    (parted_unbranched documents levels c.extent_of_element-choices.result c.in-More.element.value c.in-More.rest.value c.args.count c.args.index none.1 counted c.requires.few c.requires.inside capped).divides
 
 pub push_unbranched-nonzero_div-index : goal.push_unbranched-nonzero_div-index
 push_unbranched-nonzero_div-index t c =
     let documents = c.args.walk.now.approvals.now in
     let levels = c.args.walk.now.levels in
-    let counts = rw c.in-More.is at c.requires.branches in
     let counted = rw c.in-More.is at c.requires.counted in
     let none = or_parts (is_or c.in-More.element.value) (has_or c.in-More.rest.value) (rw c.in-More.is at c.requires.unbranched) in
     let capped = subst (λ e. IsCapped c.extent_of_element-choices.result (extent_at_element (document_extent documents levels) documents e)) c.deref.ensures c.extent_of_element-choices.ensures in
-    (parted_unbranched documents c.requires.approved levels c.extent_of_element-choices.result c.in-More.element.value c.in-More.rest.value c.args.count c.args.index counts.0 counts.1 none.1 counted c.requires.few c.requires.inside capped).behind_divides
+    (parted_unbranched documents levels c.extent_of_element-choices.result c.in-More.element.value c.in-More.rest.value c.args.count c.args.index none.1 counted c.requires.few c.requires.inside capped).behind_divides
 
 pub push_unbranched-nonzero_rem-index : goal.push_unbranched-nonzero_rem-index
 push_unbranched-nonzero_rem-index t c =
     let documents = c.args.walk.now.approvals.now in
     let levels = c.args.walk.now.levels in
-    let counts = rw c.in-More.is at c.requires.branches in
     let counted = rw c.in-More.is at c.requires.counted in
     let none = or_parts (is_or c.in-More.element.value) (has_or c.in-More.rest.value) (rw c.in-More.is at c.requires.unbranched) in
     let capped = subst (λ e. IsCapped c.extent_of_element-choices.result (extent_at_element (document_extent documents levels) documents e)) c.deref.ensures c.extent_of_element-choices.ensures in
-    (parted_unbranched documents c.requires.approved levels c.extent_of_element-choices.result c.in-More.element.value c.in-More.rest.value c.args.count c.args.index counts.0 counts.1 none.1 counted c.requires.few c.requires.inside capped).behind_divides
+    (parted_unbranched documents levels c.extent_of_element-choices.result c.in-More.element.value c.in-More.rest.value c.args.count c.args.index none.1 counted c.requires.few c.requires.inside capped).behind_divides
 
 pub push_unbranched-push_unbranched_element-requires : goal.push_unbranched-push_unbranched_element-requires
 push_unbranched-push_unbranched_element-requires t c =
     let documents = c.args.walk.now.approvals.now in
     let levels = c.args.walk.now.levels in
-    let counts = rw c.in-More.is at c.requires.branches in
     let counted = rw c.in-More.is at c.requires.counted in
     let none = or_parts (is_or c.in-More.element.value) (has_or c.in-More.rest.value) (rw c.in-More.is at c.requires.unbranched) in
     let capped = subst (λ e. IsCapped c.extent_of_element-choices.result (extent_at_element (document_extent documents levels) documents e)) c.deref.ensures c.extent_of_element-choices.ensures in
-    let p = parted_unbranched documents c.requires.approved levels c.extent_of_element-choices.result c.in-More.element.value c.in-More.rest.value c.args.count c.args.index counts.0 counts.1 none.1 counted c.requires.few c.requires.inside capped in (
+    let p = parted_unbranched documents levels c.extent_of_element-choices.result c.in-More.element.value c.in-More.rest.value c.args.count c.args.index none.1 counted c.requires.few c.requires.inside capped in (
       omega (arith, rw c.in-More.is at c.decreases, ap weight_of_element c.deref-in-More.ensures),
       (
         subst (λ e. is_or e ≡ false) (sym c.deref-in-More.ensures) none.0,
         (
-          c.requires.approved,
-          (
-            subst (λ e. length (element_ways documents levels e zero_digest) ≤ 65536) (sym c.deref-in-More.ensures) p.first_few,
-            subst (λ e. c.args.index / (c.args.count / c.extent_of_element-choices.result.paths) < length (element_ways documents levels e zero_digest)) (sym c.deref-in-More.ensures) p.first_inside,
-          ),
+          subst (λ e. length (element_ways documents levels e zero_digest) ≤ 65536) (sym c.deref-in-More.ensures) p.first_few,
+          subst (λ e. c.args.index / (c.args.count / c.extent_of_element-choices.result.paths) < length (element_ways documents levels e zero_digest)) (sym c.deref-in-More.ensures) p.first_inside,
         ),
       ),
     )
@@ -72,23 +64,16 @@ pub push_unbranched-push_unbranched-requires : goal.push_unbranched-push_unbranc
 push_unbranched-push_unbranched-requires t c =
     let documents = c.args.walk.now.approvals.now in
     let levels = c.args.walk.now.levels in
-    let counts = rw c.in-More.is at c.requires.branches in
     let counted = rw c.in-More.is at c.requires.counted in
     let none = or_parts (is_or c.in-More.element.value) (has_or c.in-More.rest.value) (rw c.in-More.is at c.requires.unbranched) in
     let capped = subst (λ e. IsCapped c.extent_of_element-choices.result (extent_at_element (document_extent documents levels) documents e)) c.deref.ensures c.extent_of_element-choices.ensures in
-    let p = parted_unbranched documents c.requires.approved levels c.extent_of_element-choices.result c.in-More.element.value c.in-More.rest.value c.args.count c.args.index counts.0 counts.1 none.1 counted c.requires.few c.requires.inside capped in (
+    let p = parted_unbranched documents levels c.extent_of_element-choices.result c.in-More.element.value c.in-More.rest.value c.args.count c.args.index none.1 counted c.requires.few c.requires.inside capped in (
       omega (arith, rw c.in-More.is at c.decreases, ap weight c.deref-in-More-2.ensures),
       (
-        subst HasBranchCounts (sym c.deref-in-More-2.ensures) counts.1,
+        subst (λ e. has_or e ≡ false) (sym c.deref-in-More-2.ensures) none.1,
         (
-          subst (λ e. has_or e ≡ false) (sym c.deref-in-More-2.ensures) none.1,
-          (
-            c.requires.approved,
-            (
-              p.behind ∙ ap (λ e. length (element_list_ways documents levels e zero_digest)) (sym c.deref-in-More-2.ensures),
-              (p.rest_few, p.rest_inside),
-            ),
-          ),
+          p.behind ∙ ap (λ e. length (element_list_ways documents levels e zero_digest)) (sym c.deref-in-More-2.ensures),
+          (p.rest_few, p.rest_inside),
         ),
       ),
     )
@@ -104,11 +89,10 @@ push_unbranched-returns-in_ok-push_unbranched_element-in-More t c =
     let rest = c.in-More.rest.value in
     let documents = c.args.walk.now.approvals.now in
     let levels = c.args.walk.now.levels in
-    let counts = rw c.in-More.is at c.requires.branches in
     let counted = rw c.in-More.is at c.requires.counted in
     let none = or_parts (is_or c.in-More.element.value) (has_or c.in-More.rest.value) (rw c.in-More.is at c.requires.unbranched) in
     let capped = subst (λ e. IsCapped c.extent_of_element-choices.result (extent_at_element (document_extent documents levels) documents e)) c.deref.ensures c.extent_of_element-choices.ensures in
-    let p = parted_unbranched documents c.requires.approved levels c.extent_of_element-choices.result c.in-More.element.value c.in-More.rest.value c.args.count c.args.index counts.0 counts.1 none.1 counted c.requires.few c.requires.inside capped in
+    let p = parted_unbranched documents levels c.extent_of_element-choices.result c.in-More.element.value c.in-More.rest.value c.args.count c.args.index none.1 counted c.requires.few c.requires.inside capped in
     let behind = c.args.count / c.extent_of_element-choices.result.paths in
     let middle = c.push_unbranched_element.new.path in
     let firsts = element_ways documents levels element zero_digest in
@@ -130,47 +114,37 @@ pub push_elements-nonzero_div-behind : goal.push_elements-nonzero_div-behind
 push_elements-nonzero_div-behind t c =
     let documents = c.args.walk.now.approvals.now in
     let levels = c.args.walk.now.levels in
-    let counts = rw c.in-More.is at c.requires.branches in
     let counted = rw c.in-More.is at c.requires.counted in
     let capped = subst (λ e. IsCapped c.extent_of_element-choices.result (extent_at_element (document_extent documents levels) documents e)) c.deref.ensures c.extent_of_element-choices.ensures in
-    (parted_ways documents c.requires.approved levels c.extent_of_element-choices.result c.in-More.element.value c.in-More.rest.value c.args.before c.args.count c.args.index counts.0 counts.1 counted c.requires.few c.requires.inside capped).divides
+    (parted_ways documents levels c.extent_of_element-choices.result c.in-More.element.value c.in-More.rest.value c.args.before c.args.count c.args.index counted c.requires.few c.requires.inside capped).divides
 
 pub push_elements-nonzero_div-index : goal.push_elements-nonzero_div-index
 push_elements-nonzero_div-index t c =
     let documents = c.args.walk.now.approvals.now in
     let levels = c.args.walk.now.levels in
-    let counts = rw c.in-More.is at c.requires.branches in
     let counted = rw c.in-More.is at c.requires.counted in
     let capped = subst (λ e. IsCapped c.extent_of_element-choices.result (extent_at_element (document_extent documents levels) documents e)) c.deref.ensures c.extent_of_element-choices.ensures in
-    (parted_ways documents c.requires.approved levels c.extent_of_element-choices.result c.in-More.element.value c.in-More.rest.value c.args.before c.args.count c.args.index counts.0 counts.1 counted c.requires.few c.requires.inside capped).behind_divides
+    (parted_ways documents levels c.extent_of_element-choices.result c.in-More.element.value c.in-More.rest.value c.args.before c.args.count c.args.index counted c.requires.few c.requires.inside capped).behind_divides
 
 pub push_elements-nonzero_rem-index : goal.push_elements-nonzero_rem-index
 push_elements-nonzero_rem-index t c =
     let documents = c.args.walk.now.approvals.now in
     let levels = c.args.walk.now.levels in
-    let counts = rw c.in-More.is at c.requires.branches in
     let counted = rw c.in-More.is at c.requires.counted in
     let capped = subst (λ e. IsCapped c.extent_of_element-choices.result (extent_at_element (document_extent documents levels) documents e)) c.deref.ensures c.extent_of_element-choices.ensures in
-    (parted_ways documents c.requires.approved levels c.extent_of_element-choices.result c.in-More.element.value c.in-More.rest.value c.args.before c.args.count c.args.index counts.0 counts.1 counted c.requires.few c.requires.inside capped).behind_divides
+    (parted_ways documents levels c.extent_of_element-choices.result c.in-More.element.value c.in-More.rest.value c.args.before c.args.count c.args.index counted c.requires.few c.requires.inside capped).behind_divides
 
 pub push_elements-push_element-requires : goal.push_elements-push_element-requires
 push_elements-push_element-requires t c =
     let documents = c.args.walk.now.approvals.now in
     let levels = c.args.walk.now.levels in
-    let counts = rw c.in-More.is at c.requires.branches in
     let counted = rw c.in-More.is at c.requires.counted in
     let capped = subst (λ e. IsCapped c.extent_of_element-choices.result (extent_at_element (document_extent documents levels) documents e)) c.deref.ensures c.extent_of_element-choices.ensures in
-    let p = parted_ways documents c.requires.approved levels c.extent_of_element-choices.result c.in-More.element.value c.in-More.rest.value c.args.before c.args.count c.args.index counts.0 counts.1 counted c.requires.few c.requires.inside capped in (
+    let p = parted_ways documents levels c.extent_of_element-choices.result c.in-More.element.value c.in-More.rest.value c.args.before c.args.count c.args.index counted c.requires.few c.requires.inside capped in (
       omega (arith, rw c.in-More.is at c.decreases, ap weight_of_element c.deref-in-More.ensures),
       (
-        subst ElementHasBranchCounts (sym c.deref-in-More.ensures) counts.0,
-        (
-          c.requires.approved,
-          (
-            subst (λ e. length (element_ways documents levels e c.args.before) ≤ 65536) (sym c.deref-in-More.ensures) p.first_few,
-            subst (λ e. c.args.index / (c.args.count / c.extent_of_element-choices.result.paths) < length (element_ways documents levels e c.args.before)) (sym c.deref-in-More.ensures) p.first_inside,
-          ),
-        ),
+        subst (λ e. length (element_ways documents levels e c.args.before) ≤ 65536) (sym c.deref-in-More.ensures) p.first_few,
+        subst (λ e. c.args.index / (c.args.count / c.extent_of_element-choices.result.paths) < length (element_ways documents levels e c.args.before)) (sym c.deref-in-More.ensures) p.first_inside,
       ),
     )
 
@@ -178,21 +152,14 @@ pub push_elements-push_elements-requires : goal.push_elements-push_elements-requ
 push_elements-push_elements-requires t c =
     let documents = c.args.walk.now.approvals.now in
     let levels = c.args.walk.now.levels in
-    let counts = rw c.in-More.is at c.requires.branches in
     let counted = rw c.in-More.is at c.requires.counted in
     let capped = subst (λ e. IsCapped c.extent_of_element-choices.result (extent_at_element (document_extent documents levels) documents e)) c.deref.ensures c.extent_of_element-choices.ensures in
-    let p = parted_ways documents c.requires.approved levels c.extent_of_element-choices.result c.in-More.element.value c.in-More.rest.value c.args.before c.args.count c.args.index counts.0 counts.1 counted c.requires.few c.requires.inside capped in
+    let p = parted_ways documents levels c.extent_of_element-choices.result c.in-More.element.value c.in-More.rest.value c.args.before c.args.count c.args.index counted c.requires.few c.requires.inside capped in
     let after_is = c.in_ok-after-in-More.ensures.digest ∙ ap (λ e. digest_at_element e c.args.before) c.deref-in-More.ensures in (
       omega (arith, rw c.in-More.is at c.decreases, ap weight c.deref-in-More-2.ensures),
       (
-        subst HasBranchCounts (sym c.deref-in-More-2.ensures) counts.1,
-        (
-          c.requires.approved,
-          (
-            p.behind ∙ ap (λ d. length (element_list_ways documents levels c.in-More.rest.value d)) (sym after_is) ∙ ap (λ e. length (element_list_ways documents levels e c.in_ok-after-in-More.after)) (sym c.deref-in-More-2.ensures),
-            (p.rest_few, p.rest_inside),
-          ),
-        ),
+        p.behind ∙ ap (λ d. length (element_list_ways documents levels c.in-More.rest.value d)) (sym after_is) ∙ ap (λ e. length (element_list_ways documents levels e c.in_ok-after-in-More.after)) (sym c.deref-in-More-2.ensures),
+        (p.rest_few, p.rest_inside),
       ),
     )
 
@@ -208,10 +175,9 @@ push_elements-returns-in_ok-after-in-More-clause-path t c =
     let d = c.args.before in
     let element = c.in-More.element.value in
     let rest = c.in-More.rest.value in
-    let counts = rw c.in-More.is at c.requires.branches in
     let counted = rw c.in-More.is at c.requires.counted in
     let capped = subst (λ e. IsCapped c.extent_of_element-choices.result (extent_at_element (document_extent documents levels) documents e)) c.deref.ensures c.extent_of_element-choices.ensures in
-    let p = parted_ways documents c.requires.approved levels c.extent_of_element-choices.result element rest d c.args.count c.args.index counts.0 counts.1 counted c.requires.few c.requires.inside capped in
+    let p = parted_ways documents levels c.extent_of_element-choices.result element rest d c.args.count c.args.index counted c.requires.few c.requires.inside capped in
     let behind = c.args.count / c.extent_of_element-choices.result.paths in
     let middle = c.push_element.new.path in
     let first = subst (λ e. GoesOn c.args.path.now (element_ways documents levels e d) (c.args.index / behind) middle) c.deref-in-More.ensures c.in_ok-after-in-More.ensures.path in
@@ -225,21 +191,11 @@ push_element-push_branch-requires t c =
     let levels = c.args.walk.now.levels in
     let branches = c.in-Or.branches in
     let d = c.args.before in
-    let counts = rw c.in-Or.is at c.requires.branches in
     let same = length-branch_ways documents levels branches 1 (Or (branch_digests branches d)) d in (
       omega (arith, rw c.in-Or.is at c.decreases),
       (
-        counts.1,
-        (
-          c.requires.approved,
-          (
-            omega (arith, counts.0.1),
-            (
-              omega (arith, same, rw c.in-Or.is at c.requires.few),
-              omega (arith, same, rw c.in-Or.is at c.requires.inside),
-            ),
-          ),
-        ),
+        omega (arith, same, rw c.in-Or.is at c.requires.few),
+        omega (arith, same, rw c.in-Or.is at c.requires.inside),
       ),
     )
 
@@ -263,19 +219,15 @@ push_branch-push_elements-requires t c =
     let branch = c.in-More.branch.value in
     let rest = c.in-More.rest.value in
     let d = c.args.before in
-    let counts = rw c.in-More.is at c.requires.branches in
     let others = branch_ways documents levels rest (c.args.position + 1) d in
     let step = followed_by (path_of_step (Branch c.args.position branch.name)) in
     let capped = subst (λ (b : ClosedBranch). IsCapped c.extent_of_elements-count.result (extent_at (document_extent documents levels) documents b.policy.elements)) c.deref.ensures c.extent_of_elements-count.ensures in
-    let counted = counted_first documents c.requires.approved levels c.extent_of_elements-count.result branch.policy.elements d step others counts.0 (rw c.in-More.is at c.requires.few) capped in
+    let counted = counted_first documents levels c.extent_of_elements-count.result branch.policy.elements d step others (rw c.in-More.is at c.requires.few) capped in
     let ways = ap (λ (b : ClosedBranch). length (element_list_ways documents levels b.policy.elements d)) (sym c.deref.ensures) in (
       omega (arith, rw c.in-More.is at c.decreases, ap (λ (b : ClosedBranch). weight b.policy.elements) c.deref.ensures),
       (
-        subst (λ (b : ClosedBranch). HasBranchCounts b.policy.elements) (sym c.deref.ensures) counts.0,
-        (
-          c.requires.approved,
-          (counted.0 ∙ ways, (omega (arith, counted.1, rw c.in-More.is at c.requires.few), c.if-index-count.true)),
-        ),
+        counted.0 ∙ ways,
+        (omega (arith, counted.1, rw c.in-More.is at c.requires.few), c.if-index-count.true),
       ),
     )
 
@@ -286,25 +238,16 @@ push_branch-push_branch-requires t c =
     let branch = c.in-More.branch.value in
     let rest = c.in-More.rest.value in
     let d = c.args.before in
-    let counts = rw c.in-More.is at c.requires.branches in
     let others = branch_ways documents levels rest (c.args.position + 1) d in
     let step = followed_by (path_of_step (Branch c.args.position branch.name)) in
     let capped = subst (λ (b : ClosedBranch). IsCapped c.extent_of_elements-count.result (extent_at (document_extent documents levels) documents b.policy.elements)) c.deref.ensures c.extent_of_elements-count.ensures in
-    let counted = counted_first documents c.requires.approved levels c.extent_of_elements-count.result branch.policy.elements d step others counts.0 (rw c.in-More.is at c.requires.few) capped in
-    let ways = ap (λ r. length (branch_ways documents levels r (c.args.position + 1) d)) c.deref-else-index-count.ensures in (
+    let counted = counted_first documents levels c.extent_of_elements-count.result branch.policy.elements d step others (rw c.in-More.is at c.requires.few) capped in
+    let next = ap (λ n. length (branch_ways documents levels c.deref-else-index-count.result.now n d)) c.in_ok-next-in-More.ensures in
+    let ways = next ∙ ap (λ r. length (branch_ways documents levels r (c.args.position + 1) d)) c.deref-else-index-count.ensures in (
       omega (arith, rw c.in-More.is at c.decreases, ap weight_of_branches c.deref-else-index-count.ensures),
       (
-        subst BranchesHaveBranchCounts (sym c.deref-else-index-count.ensures) counts.1,
-        (
-          c.requires.approved,
-          (
-            omega (arith, rw c.in-More.is at c.requires.positions, ap branch_count c.deref-else-index-count.ensures),
-            (
-              omega (arith, counted.1, ways, rw c.in-More.is at c.requires.few),
-              omega (arith, counted.1, ways, rw c.in-More.is at c.requires.inside, c.if-index-count.false),
-            ),
-          ),
-        ),
+        omega (arith, counted.1, ways, rw c.in-More.is at c.requires.few),
+        omega (arith, counted.1, ways, rw c.in-More.is at c.requires.inside, c.if-index-count.false),
       ),
     )
 
@@ -325,21 +268,20 @@ push_branch-returns-in_ok-push-in-More-2-clause-path t c =
     let found = goes_first before c.push_elements.new.path (map (followed_by (path_of_step step)) (element_list_ways documents levels branch.policy.elements d)) others c.args.index (goes_by_step before behind c.push_elements.new.path step (element_list_ways documents levels branch.policy.elements d) c.args.index (step_pushed before step c.push.new.self pushed) inner) in
     rw c.in-More.is (on_ok_weaker c.push_branch_digests.result (λ e. found) c.push_branch_digests.ensures)
 
-pub push_branch-returns-in_ok-push-in-More-3-clause-path : goal.push_branch-returns-in_ok-push-in-More-3-clause-path
-push_branch-returns-in_ok-push-in-More-3-clause-path t c =
+pub push_branch-returns-in_ok-next-in-More-clause-path : goal.push_branch-returns-in_ok-next-in-More-clause-path
+push_branch-returns-in_ok-next-in-More-clause-path t c =
     let documents = c.args.walk.now.approvals.now in
     let levels = c.args.walk.now.levels in
     let branch = c.in-More.branch.value in
     let rest = c.in-More.rest.value in
     let d = c.args.before in
-    let counts = rw c.in-More.is at c.requires.branches in
     let others = branch_ways documents levels rest (c.args.position + 1) d in
     let step = followed_by (path_of_step (Branch c.args.position branch.name)) in
     let firsts = map step (element_list_ways documents levels branch.policy.elements d) in
     let capped = subst (λ (b : ClosedBranch). IsCapped c.extent_of_elements-count.result (extent_at (document_extent documents levels) documents b.policy.elements)) c.deref.ensures c.extent_of_elements-count.ensures in
-    let counted = counted_first documents c.requires.approved levels c.extent_of_elements-count.result branch.policy.elements d step others counts.0 (rw c.in-More.is at c.requires.few) capped in
+    let counted = counted_first documents levels c.extent_of_elements-count.result branch.policy.elements d step others (rw c.in-More.is at c.requires.few) capped in
     let split : c.args.index ≡ length firsts + (c.args.index - c.extent_of_elements-count.result.paths) = omega (arith, counted.0, counted.1, c.if-index-count.false, length-map (element_list_ways documents levels branch.policy.elements d) step) in
-    rw c.in-More.is (on_ok_weaker c.push_branch.result (λ g. goes_later c.args.path.now c.push_branch.new.path firsts others (c.args.index - c.extent_of_elements-count.result.paths) c.args.index split (subst (λ r. GoesOn c.args.path.now (branch_ways documents levels r (c.args.position + 1) d) (c.args.index - c.extent_of_elements-count.result.paths) c.push_branch.new.path) c.deref-else-index-count.ensures g)) c.push_branch.ensures.path)
+    rw c.in-More.is (on_ok_weaker c.push_branch.result (λ g. goes_later c.args.path.now c.push_branch.new.path firsts others (c.args.index - c.extent_of_elements-count.result.paths) c.args.index split (subst (λ r. GoesOn c.args.path.now (branch_ways documents levels r (c.args.position + 1) d) (c.args.index - c.extent_of_elements-count.result.paths) c.push_branch.new.path) c.deref-else-index-count.ensures (subst (λ n. GoesOn c.args.path.now (branch_ways documents levels c.deref-else-index-count.result.now n d) (c.args.index - c.extent_of_elements-count.result.paths) c.push_branch.new.path) c.in_ok-next-in-More.ensures g))) c.push_branch.ensures.path)
 
 pub push_approval-push_from_zero-requires : goal.push_approval-push_from_zero-requires
 push_approval-push_from_zero-requires t c =
@@ -348,7 +290,7 @@ push_approval-push_from_zero-requires t c =
     let document = c.document-item.result in
     let index = c.loop-document.document-index in
     let level : levels ≢ 0 = omega (arith, c.if-walk-gt0.true) in
-    let counted = document_counted documents levels c.args.element.now c.requires.approved c.extent_of_elements-count.result index document c.loop-document-test.true c.document-item.is level (sym c.accepts.ensures ∙ c.if-accepts.true) c.requires.few c.extent_of_elements-count.ensures in
+    let counted = document_counted documents levels c.args.element.now c.extent_of_elements-count.result index document c.loop-document-test.true c.document-item.is level (sym c.accepts.ensures ∙ c.if-accepts.true) c.requires.few c.extent_of_elements-count.ensures in
     let inside = part_inside documents levels c.args.element.now index document c.loop-document-test.true c.document-item.is in
     let total = length-append (approved_paths (document_paths documents levels) documents c.args.element.now) (outside_paths c.args.element.now) in
     let light = weight-lt-greatest documents index document c.loop-document-test.true in
@@ -356,14 +298,8 @@ push_approval-push_from_zero-requires t c =
     let less = level_less levels (greatest documents) (weight document.closed.elements) (omega (arith, c.if-walk-gt0.true)) lighter in (
       omega (arith, less, c.decreases),
       (
-        subst (λ x. HasBranchCounts x.closed.elements) (sym c.document-item.is) (c.requires.approved index document c.loop-document-test.true),
-        (
-          c.requires.approved,
-          (
-            counted.1,
-            (omega (arith, counted.0, inside, total, c.requires.few), c.if-left-count.true),
-          ),
-        ),
+        counted.1,
+        (omega (arith, counted.0, inside, total, c.requires.few), c.if-left-count.true),
       ),
     )
 
@@ -395,7 +331,7 @@ push_approval-loop-document-preserved t c =
       | push_approval-then-accepts+else-left-count w ↦ record {
         same = c.loop-document.invariant.same;
         counted =
-            let counted = document_counted documents levels c.args.element.now c.requires.approved w.extent_of_elements-count.result index document c.loop-document-test.true c.document-item.is level (sym c.accepts.ensures ∙ w.if-accepts.true) c.requires.few w.extent_of_elements-count.ensures in
+            let counted = document_counted documents levels c.args.element.now w.extent_of_elements-count.result index document c.loop-document-test.true c.document-item.is level (sym c.accepts.ensures ∙ w.if-accepts.true) c.requires.few w.extent_of_elements-count.ensures in
             omega (arith, more, counted.0, w.left-is, w.if-left-count.false, c.loop-document.invariant.counted);
       }
       | push_approval-else-accepts w ↦ record {

@@ -1,9 +1,8 @@
 use Rattle.std.proofs.Common.{◌+◌, ◌<◌, ◌≤◌, take, subst, sym, ◌∙◌, arith}
 use Rattle.std.proofs.lemmas.List.{take_all}
-use Rattle.tpol_tree.specs.Closed.{HasBranchCounts}
 use Rattle.tpol_digest.specs.Extent.{IsCapped, extent_by_approval, extent_at_element, extent_at, document_extent}
 use Rattle.tpol_digest.proofs.Weights.{weight, greatest, weight-lt-greatest, level_less}
-use Rattle.tpol_digest.proofs.Extents.{capped_both, capped_start, capped_past, capped_entered, capped_passed, document_extent-none, extent_at-positive, extent_at_element-positive}
+use Rattle.tpol_digest.proofs.Extents.{capped_both, capped_start, capped_past, capped_entered, capped_passed, document_extent-none}
 use Rattle.tpol_digest.proofs.counting.+counting.Goals as goal
 use Rattle.tpol_digest.proofs.counting.+counting.Goals.{extent_of_documents-then-accepts, extent_of_documents-else-accepts}
 
@@ -15,10 +14,9 @@ pub extent_of_elements-returns-in-More : goal.extent_of_elements-returns-in-More
 extent_of_elements-returns-in-More t c =
     let within = document_extent c.args.approvals.now c.args.levels in
     let documents = c.args.approvals.now in
-    let counts = rw c.in-More.is at c.requires.counts in
     let first = subst (λ e. IsCapped c.extent_of_element.result (extent_at_element within documents e)) c.deref.ensures c.extent_of_element.ensures in
     let others = subst (λ e. IsCapped c.extent_of_elements.result (extent_at within documents e)) c.deref-in-More.ensures c.extent_of_elements.ensures in
-    rw c.in-More.is (capped_both c.extent_of_element.result c.extent_of_elements.result c.then.result (extent_at_element within documents c.in-More.element.value) (extent_at within documents c.in-More.rest.value) first others (extent_at_element-positive within documents c.in-More.element.value counts.0) (extent_at-positive within documents c.in-More.rest.value counts.1) c.then.ensures.paths c.then.ensures.moves)
+    rw c.in-More.is (capped_both c.extent_of_element.result c.extent_of_elements.result c.then.result (extent_at_element within documents c.in-More.element.value) (extent_at within documents c.in-More.rest.value) first others c.then.ensures.paths c.then.ensures.moves)
 
 pub extent_of_documents-loop-document-init : goal.extent_of_documents-loop-document-init
 extent_of_documents-loop-document-init t c =
@@ -34,13 +32,8 @@ extent_of_documents-extent_of_elements-requires t c =
     let light = weight-lt-greatest c.args.approvals.now c.loop-document.document-index document c.loop-document-test.true in
     let lighter : weight document.closed.elements < greatest c.args.approvals.now = subst (λ x. weight x.closed.elements < greatest c.args.approvals.now) (sym c.document-item.is) light in
     let some : 1 ≤ c.args.levels = omega (arith, c.if-levels-eq0.false) in
-    let less = level_less c.args.levels (greatest c.args.approvals.now) (weight document.closed.elements) some lighter in (
-      omega (arith, less, c.decreases),
-      (
-        subst (λ x. HasBranchCounts x.closed.elements) (sym c.document-item.is) (c.requires.approved c.loop-document.document-index document c.loop-document-test.true),
-        c.requires.approved,
-      ),
-    )
+    let less = level_less c.args.levels (greatest c.args.approvals.now) (weight document.closed.elements) some lighter in
+    omega (arith, less, c.decreases)
 
 pub extent_of_documents-loop-document-preserved : goal.extent_of_documents-loop-document-preserved
 extent_of_documents-loop-document-preserved t c =

@@ -7,4 +7,5 @@ returns c = record {
   paths = erasures.paths_ignore_boxes;
   inputs = erasures.inputs_ignore_boxes;
   well_formed = erasures.well_formed_ignores_boxes;
+  branch_counts = erasures.branch_counts_ignore_boxes;
 }

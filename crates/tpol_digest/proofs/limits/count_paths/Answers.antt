@@ -3,4 +3,4 @@ use Rattle.tpol_digest.proofs.limits.count_paths.Goals as goal
 
 pub returns : goal.returns
 returns c =
-    counted_paths c.args.policy.now c.args.approvals.now c.as_slice.result.now c.as_slice.ensures c.requires.branches c.extent_of_elements.result c.extent_of_elements.ensures
+    counted_paths c.args.policy.now c.args.approvals.now c.as_slice.result.now c.as_slice.ensures c.extent_of_elements.result c.extent_of_elements.ensures

@@ -3,13 +3,17 @@ use Rattle.std.specs.Option.{option_copied}
 use Rattle.tpol_digest.specs.Digest.{digest_at, zero_digest}
 use Rattle.tpol_digest.specs.Paths.{paths_of}
 use Rattle.tpol_digest.proofs.Erasures.{digest_at-erased, paths_of-erased}
-use Rattle.tpol_fill.proofs.WellFormedLemmas.{approvals_lead-filled, branches-filled, pcr_digests-filled, well_formed-filled}
+use Rattle.tpol_fill.proofs.WellFormedLemmas.{approvals_lead-filled, branches-filled, form-filled, pcr_digests-filled, well_formed-filled}
 use Rattle.tpol_fill.proofs.BoundLemmas.{bounded-filled}
 use Rattle.tpol_fill.proofs.elements.fill.Goals as goal
 
 pub returns-clause-well_formed : goal.returns-clause-well_formed
-returns-clause-well_formed c = λ counts.
-    well_formed-filled _ c.args.policy.now.elements (option_copied c.args.sight) _ counts c.in_ok-elements.ensures.0 c.in_ok-elements.ensures.1
+returns-clause-well_formed c =
+    well_formed-filled _ c.args.policy.now.elements (option_copied c.args.sight) _ c.in_ok-elements.ensures.0 c.in_ok-elements.ensures.1
+
+pub returns-clause-form : goal.returns-clause-form
+returns-clause-form c = λ counts.
+    form-filled _ c.args.policy.now.elements (option_copied c.args.sight) _ counts c.in_ok-elements.ensures.0 c.in_ok-elements.ensures.1
 
 pub returns-clause-approvals_lead : goal.returns-clause-approvals_lead
 returns-clause-approvals_lead c =

@@ -6,6 +6,6 @@ use Rattle.tpol_store.proofs.approvals.push_approved.Goals as goal
 pub loop-wish-preserved : goal.loop-wish-preserved
 loop-wish-preserved c = record {
   documents = grind (arith, common_steps, flat_map-append);
-  well_formed = λ readable before. c.in_ok-push_found.ensures.well_formed (c.in_ok-found.ensures.well_formed readable) (c.loop-wish.invariant.well_formed readable before);
+  form = λ readable before. c.in_ok-push_found.ensures.form (c.in_ok-found.ensures.form readable) (c.loop-wish.invariant.form readable before);
   bounded = λ readable before. c.in_ok-push_found.ensures.bounded (c.in_ok-found.ensures.bounded readable) (c.loop-wish.invariant.bounded readable before);
 }

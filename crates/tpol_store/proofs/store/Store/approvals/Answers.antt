@@ -10,6 +10,6 @@ one_of P xs ys i x same within is all = subst P (sym is) (subst (All P) (sym sam
 pub loop-document-preserved : goal.loop-document-preserved
 loop-document-preserved c = record {
   documents = grind (arith, common_steps, flat_map-append);
-  well_formed = λ readable. c.in_ok-push_approved.ensures.well_formed (one_of IsReadable _ _ _ _ c.documents-document-items.ensures.documents c.loop-document-test.true c.document-item.is readable) (c.loop-document.invariant.well_formed readable);
+  form = λ readable. c.in_ok-push_approved.ensures.form (one_of IsReadable _ _ _ _ c.documents-document-items.ensures.documents c.loop-document-test.true c.document-item.is readable) (c.loop-document.invariant.form readable);
   bounded = λ readable. c.in_ok-push_approved.ensures.bounded (one_of IsReadable _ _ _ _ c.documents-document-items.ensures.documents c.loop-document-test.true c.document-item.is readable) (c.loop-document.invariant.bounded readable);
 }
