@@ -2,6 +2,7 @@ pub mod Digests
 pub mod Documents
 pub mod Erasures
 pub mod Extents
+pub mod Images
 pub mod Joined
 pub mod Measures
 pub mod Meeting
