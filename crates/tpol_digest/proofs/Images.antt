@@ -24,14 +24,14 @@ use Rattle.tpol_tree.specs.declared.path.PathStep.{PathStep}
 use Rattle.tpol_tree.specs.declared.path.PathStep.TheVariants.{Branch, Document, Outside}
 use Rattle.tpol_digest.specs.Digest.{zero_digest, digest_at_element, branch_digests}
 use Rattle.tpol_digest.specs.Images.{IsImage, both, element_list_images, element_images, branch_images, document_images, documents_images, approval_images}
-use Rattle.tpol_digest.specs.Paths.{followed_by, product, between, approval_of, approval_by_key, approval_by_index, paths_by_approval, approved_paths, outside_paths, paths_at, paths_at_element, paths_at_branches, document_paths, same_name}
+use Rattle.tpol_digest.specs.Paths.{followed_by, is_outside, product, between, approval_of, approval_by_key, approval_by_index, paths_by_approval, approved_paths, outside_paths, paths_at, paths_at_element, paths_at_branches, document_paths, same_name}
 use Rattle.tpol_digest.specs.Positions.{element_list_ways, element_ways}
 use Rattle.tpol_digest.proofs.Documents.{document_paths-some}
 
 module _ {M : Type 0} {image : Path → M} {none : M} {join : M → M → M} {of_step : PathStep → M} {of_move : Move → M} (laws : IsImage image none join of_step of_move) where
   -- ---- one after the other
 
-  none_join : (xs : List M) → map (join none) xs ≡ xs
+  pub none_join : (xs : List M) → map (join none) xs ≡ xs
   none_join [] = refl
   none_join (x ∷ xs) = ap (λ y. y ∷ map (join none) xs) (laws.first_none x) ∙ ap (λ l. x ∷ l) (none_join xs)
 
@@ -88,16 +88,16 @@ module _ {M : Type 0} {image : Path → M} {none : M} {join : M → M → M} {of
       ∙ ap (λ l. map (join (image p)) (map image qs) ++ l) (of_product ps qs)
 
   -- behind a choice and before a move
-  map-between : (step : PathStep) (act : Move) (ps : List Path) → map image (map (between step act) ps) ≡ map (λ x. join x (of_move act)) (map (join (of_step step)) (map image ps))
-  map-between step act [] = refl
-  map-between step act (p ∷ ps) =
-      ap (λ x. x ∷ map image (map (between step act) ps)) (laws.closed step act p)
-      ∙ ap (λ l. join (join (of_step step) (image p)) (of_move act) ∷ l) (map-between step act ps)
+  map-between : (step : PathStep) (act : Move) (ps : List Path) → is_outside step ≡ false → map image (map (between step act) ps) ≡ map (λ x. join x (of_move act)) (map (join (of_step step)) (map image ps))
+  map-between step act [] inside = refl
+  map-between step act (p ∷ ps) inside =
+      ap (λ x. x ∷ map image (map (between step act) ps)) (laws.closed step act p inside)
+      ∙ ap (λ l. join (join (of_step step) (image p)) (of_move act) ∷ l) (map-between step act ps inside)
 
   -- behind a branch and before its OR
   map-branch : (position : ℕ) (name : List ℕ) (digests : List Digest32) (ps : List Path) → map image (map (between (Branch position name) (OrMove digests)) ps) ≡ map (λ x. join x (of_move (OrMove []))) (map (join (of_step (Branch 1 name))) (map image ps))
   map-branch position name digests ps =
-      map-between (Branch position name) (OrMove digests) ps
+      map-between (Branch position name) (OrMove digests) ps refl
       ∙ ap (λ m. map (λ x. join x m) (map (join (of_step (Branch position name))) (map image ps))) (laws.or digests)
       ∙ ap (λ s. map (λ x. join x (of_move (OrMove []))) (map (join s) (map image ps))) (laws.branch position name)
 
@@ -182,7 +182,7 @@ module _ {M : Type 0} {image : Path → M} {none : M} {join : M → M → M} {of
         of_one : (found : Option Move) → Shows closing found → map image (paths_by_approval found document (document_paths documents levels document)) ≡ map (λ x. join x closing) (if is_some found then map (join (of_step (Document document.document))) (map image (document_paths documents levels document)) else [])
         of_one None h = refl
         of_one (Some act) h =
-            map-between (Document document.document) act (document_paths documents levels document)
+            map-between (Document document.document) act (document_paths documents levels document) refl
             ∙ ap (λ m. map (λ x. join x m) (map (join (of_step (Document document.document))) (map image (document_paths documents levels document)))) h
 
     pub of_key : (key : Name) (policy_ref : List ℕ) → element_images image documents levels (Authorize key policy_ref) ≡ map (λ x. join x (of_move (Approve key policy_ref zero_digest zero_digest))) (approval_images image join of_step documents levels (Authorize key policy_ref))

@@ -12,6 +12,7 @@ pub mod PathMoves
 pub mod Positions
 pub mod Products
 pub mod Refusals
+pub mod Shares
 pub mod Soundness
 pub mod TermLaws
 pub mod Walks

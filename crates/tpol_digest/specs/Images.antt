@@ -1,6 +1,6 @@
 -- What the ways through a policy show where the digests in them are not looked at: an image of each way, put together
 -- as the way is of its choices and moves.
-use Rattle.std.specs.Prelude.{◌≡◌, ℕ, List, [], ◌∷◌, ◌++◌, map, is_some, if◌then◌else◌}
+use Rattle.std.specs.Prelude.{◌≡◌, ℕ, false, List, [], ◌∷◌, ◌++◌, map, is_some, if◌then◌else◌}
 use Rattle.std.specs.List.{flat_map}
 use Rattle.tpol_base.specs.declared.digest.Digest32.{Digest32}
 use Rattle.tpol_base.specs.declared.name.Name.{Name}
@@ -15,7 +15,7 @@ use Rattle.tpol_tree.specs.declared.path.Path.{Path}
 use Rattle.tpol_tree.specs.declared.path.PathStep.{PathStep}
 use Rattle.tpol_tree.specs.declared.path.PathStep.TheVariants.{Branch, Document, Outside}
 use Rattle.tpol_digest.specs.Digest.{zero_digest}
-use Rattle.tpol_digest.specs.Paths.{approval_of, between, document_paths, followed_by, outside_path, path_of_move}
+use Rattle.tpol_digest.specs.Paths.{approval_of, between, document_paths, followed_by, is_outside, outside_path, path_of_move}
 use Rattle.tpol_digest.specs.Positions.{element_list_ways, element_ways}
 
 -- An image of ways, over one of nothing and one of a way and then another: it is put together of those of choices and of
@@ -25,7 +25,7 @@ pub record IsImage {M : Type 0} (image : Path → M) (none : M) (join : M → M 
   pub first_none : (a : M) → join none a ≡ a
   pub second_none : (a : M) → join a none ≡ a
   pub followed : (p q : Path) → image (followed_by p q) ≡ join (image p) (image q)
-  pub closed : (step : PathStep) (act : Move) (p : Path) → image (between step act p) ≡ join (join (of_step step) (image p)) (of_move act)
+  pub closed : (step : PathStep) (act : Move) (p : Path) → is_outside step ≡ false → image (between step act p) ≡ join (join (of_step step) (image p)) (of_move act)
   pub one : (act : Move) → image (path_of_move act) ≡ of_move act
   pub outside : (act : Move) → image (outside_path act) ≡ join (of_step Outside) (of_move act)
   pub branch : (number : ℕ) (name : List ℕ) → of_step (Branch number name) ≡ of_step (Branch 1 name)

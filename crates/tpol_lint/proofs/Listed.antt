@@ -20,11 +20,11 @@ use Rattle.tpm_bindings.specs.Facts.{moves_of}
 use Rattle.tpm_bindings.specs.Held.{listed}
 use Rattle.tpol_trace.specs.Matching.{Matches, MatchesBy}
 use Rattle.tpol_lint.specs.declared.dead.Dead.{Dead}
-use Rattle.tpol_lint.specs.Dead.{Break, HasEachDead, IsDead, dead_of, dead_paths, first_break}
-use Rattle.tpol_lint.specs.Opened.{HaveClosedBounds, MatchesNoFacts}
+use Rattle.tpol_lint.specs.Dead.{Break, HasEachDead, IsDead, dead_by, dead_of, dead_paths, first_break}
+use Rattle.tpol_lint.specs.Opened.{HaveClosedBounds, MatchesNoFacts, NeverOpen, OpensNothing}
 use Rattle.tpol_lint.proofs.Never.{agree_too}
 use Rattle.tpol_lint.proofs.Means.{AnyOf, IsBreak, each_reported, first_break_means}
-use Rattle.tpol_lint.proofs.Prefixes.{later_break}
+use Rattle.tpol_lint.proofs.Breaks.{later_break}
 
 -- where it stands among paths, the first of which has this position
 record IsFound (position : ℕ) (paths : List Path) (dead : Dead) : Type 0 where
@@ -47,7 +47,7 @@ found_here : (position : ℕ) (path : Path) (rest : List Path) → AllByRecursio
 found_here position path rest = by path.outside refl (first_break path.moves) refl
   where
     by : (outside : Bool) → path.outside ≡ outside → (broken : Option Break) → first_break path.moves ≡ broken
-        → AllByRecursion (IsFound position (path ∷ rest)) (listed (if outside then None else option_map (λ (b : Break). record { path = position; rule = b.1; at = b.0 }) broken))
+        → AllByRecursion (IsFound position (path ∷ rest)) (listed (dead_by position outside broken))
     by true o broken e = tt
     by false o None e = tt
     by false o (Some b) e = (
@@ -88,15 +88,20 @@ matches_nothing policy approvals counts bounds dead found path facts there agree
     (each_bounded (paths_of policy approvals) (path_moves.paths_have_bounds policy approvals counts bounds.policy_itself bounds.documents)) found.is_there in
     found.apart (agree_too found.path.moves (moves_of facts) bounded moves agree)
 
-pub never_match : (policy : Closed) (approvals : List ApprovedDoc) → HaveBranchCounts policy approvals → HaveClosedBounds policy approvals
-    → All (λ dead. MatchesNoFacts policy approvals dead.path) (dead_paths 1 (paths_of policy approvals))
-never_match policy approvals counts bounds =
-    All-from_recursion (λ dead. MatchesNoFacts policy approvals dead.path) (dead_paths 1 (paths_of policy approvals))
+opens_nothing : (policy : Closed) (approvals : List ApprovedDoc) (position : ℕ) → MatchesNoFacts policy approvals position → OpensNothing policy approvals position
+opens_nothing policy approvals position never facts events agree opening =
+    never opening.0.path facts opening.0.listed agree opening.0.matching
+
+pub never_open : (policy : Closed) (approvals : List ApprovedDoc) → HaveBranchCounts policy approvals → NeverOpen policy approvals (dead_paths 1 (paths_of policy approvals))
+never_open policy approvals counts bounds =
+    All-from_recursion (λ dead. MatchesNoFacts policy approvals dead.path × OpensNothing policy approvals dead.path) (dead_paths 1 (paths_of policy approvals))
     (by (dead_paths 1 (paths_of policy approvals)) (found 1 (paths_of policy approvals)))
   where
-    by : (some : List Dead) → AllByRecursion (IsFound 1 (paths_of policy approvals)) some → AllByRecursion (λ dead. MatchesNoFacts policy approvals dead.path) some
+    by : (some : List Dead) → AllByRecursion (IsFound 1 (paths_of policy approvals)) some → AllByRecursion (λ dead. MatchesNoFacts policy approvals dead.path × OpensNothing policy approvals dead.path) some
     by [] h = tt
-    by (dead ∷ some) h = (matches_nothing policy approvals counts bounds dead h.0, by some h.1)
+    by (dead ∷ some) h =
+        let never = matches_nothing policy approvals counts bounds dead h.0 in
+        ((never, opens_nothing policy approvals dead.path never), by some h.1)
 
 -- ---- what is reported, in words
 

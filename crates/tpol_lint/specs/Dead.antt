@@ -1,5 +1,5 @@
 -- Paths whose moves no command can meet together.
-use Rattle.std.specs.Prelude.{◌≡◌, ℕ, ◌+◌, ◌-◌, ◌<◌, ◌≤◌, false, List, [], ◌∷◌, ◌++◌, Any, length, take, slice_get, Option, Some, None, if◌then◌else◌}
+use Rattle.std.specs.Prelude.{◌≡◌, ℕ, ◌+◌, ◌-◌, ◌<◌, ◌≤◌, Bool, false, List, [], ◌∷◌, ◌++◌, Any, length, take, slice_get, Option, Some, None, if◌then◌else◌}
 use Rattle.std.specs.Option.{option_map}
 use Rattle.tpol_tree.specs.declared.path.Move.{Move}
 use Rattle.tpol_tree.specs.declared.path.Path.{Path}
@@ -26,11 +26,13 @@ first_break_behind before (act ∷ rest) =
 abbrev pub first_break : List Move → Option Break
 first_break moves = first_break_behind [] moves
 
--- what is reported of the path at a position: nothing of one that is outside
+-- what is reported of a path at a position: nothing of one that is outside
+abbrev pub dead_by : ℕ → Bool → Option Break → Option Dead
+dead_by position outside broken =
+    if outside then None else option_map (λ found. record { path = position; rule = found.1; at = found.0 }) broken
+
 abbrev pub dead_of : ℕ → Path → Option Dead
-dead_of position path =
-    if path.outside then None
-    else option_map (λ broken. record { path = position; rule = broken.1; at = broken.0 }) (first_break path.moves)
+dead_of position path = dead_by position path.outside (first_break path.moves)
 
 -- the dead ones of paths, the first of which stands at this position
 abbrev pub dead_paths : ℕ → List Path → List Dead
