@@ -1,8 +1,7 @@
 -- Each dead path is one of the list, is not outside, and does not agree.
-use Rattle.std.proofs.Common.{inl, inr, ◌≡◌, ◌∙◌, ap, sym, refl, subst, ℕ, zero, suc, ◌+◌, ◌-◌, ◌<◌, ◌≤◌, Bool, true, false, List, [], ◌∷◌, ◌++◌, map, Option, Some, None, arith, if◌then◌else◌}
-use Rattle.std.specs.Prelude.{⊤, All, Any, length, slice_get}
+use Rattle.std.proofs.Common.{inl, inr, ◌≡◌, ◌∙◌, ap, sym, refl, subst, ℕ, zero, suc, ◌+◌, ◌-◌, Bool, true, false, List, [], ◌∷◌, Option, Some, None, arith}
+use Rattle.std.specs.Prelude.{All, Any, slice_get}
 use Rattle.std.specs.List.{AllByRecursion}
-use Rattle.std.specs.Option.{option_map}
 use Rattle.std.proofs.lemmas.List.Elements.{All-from_recursion, recursion_from_All}
 use Rattle.tpol_digest.proofs.PathMoves as path_moves
 use Rattle.tpol_digest.proofs.Products.{Each-append}
@@ -10,11 +9,8 @@ use Rattle.tpol_digest.specs.Laws.{MoveHasBounds}
 use Rattle.tpol_digest.specs.Paths.{paths_of}
 use Rattle.tpol_digest.specs.WellFormed.{HaveBranchCounts}
 use Rattle.tpol_tree.specs.declared.closed.Closed.{Closed}
-use Rattle.tpol_tree.specs.declared.facts.Fact.{Fact}
 use Rattle.tpol_tree.specs.declared.path.ApprovedDoc.{ApprovedDoc}
-use Rattle.tpol_tree.specs.declared.path.Move.{Move}
 use Rattle.tpol_tree.specs.declared.path.Path.{Path}
-use Rattle.tpm_bindings.specs.declared.disagreement.Disagreement.{Disagreement}
 use Rattle.tpm_bindings.specs.Agreement.{Agree}
 use Rattle.tpm_bindings.specs.Facts.{moves_of}
 use Rattle.tpm_bindings.specs.Held.{listed}

@@ -13,13 +13,11 @@ use Rattle.tpol_digest.proofs.Images.{both-second_none, none_join}
 use Rattle.tpol_digest.specs.Images.{IsImage, both}
 use Rattle.tpol_digest.specs.Paths.{between, followed_by, is_outside}
 use Rattle.tpol_lint.proofs.Breaks.{bare_breaks, break-push, closing_breaks_nothing, last_break, or_else}
-use Rattle.tpol_lint.specs.Dead.{Break, dead_by, dead_of, dead_paths, first_break}
+use Rattle.tpol_lint.specs.Dead.{Break, dead_by, dead_of, dead_paths}
 use Rattle.tpol_lint.specs.Traces.{Finds, IsTrack, Trace, bare, closing_trace, dead_behind, dead_of_trace, facts_along, join, move_trace, no_trace, step_trace, trace_of}
-use Rattle.tpol_lint.specs.declared.dead.Dead.{Dead}
 use Rattle.tpol_lint.specs.declared.finder.Finder.{Finder}
 use Rattle.tpol_lint.specs.declared.track.Track.{Track}
 use Rattle.tpol_tree.specs.declared.closed.Assertion.{Assertion}
-use Rattle.tpol_tree.specs.declared.facts.Fact.{Fact}
 use Rattle.tpol_tree.specs.declared.path.Move.{Move}
 use Rattle.tpol_tree.specs.declared.path.Move.TheVariants.{Assert, Or}
 use Rattle.tpol_tree.specs.declared.path.Path.{Path}

@@ -1,16 +1,16 @@
-use Rattle.std.proofs.Common.{◌≡◌, ◌≢◌, ◌+◌, ◌-◌, ◌*◌, ◌<◌, ◌++◌, [], ◌∷◌, map, length, take, subst, refl, sym, ap, ◌∙◌, arith}
+use Rattle.std.proofs.Common.{◌≡◌, ◌≢◌, ◌+◌, ◌-◌, ◌*◌, ◌<◌, ◌++◌, [], ◌∷◌, map, take, subst, sym, ap, ◌∙◌, arith}
 use Rattle.std.proofs.lemmas.List.{append-nil, take_all}
 use Rattle.std.proofs.lemmas.Result.{on_ok_weaker}
 use Rattle.tpol_tree.specs.declared.closed.ClosedBranch.{ClosedBranch}
 use Rattle.tpol_tree.specs.declared.closed.ClosedElement.TheVariants as elements
 use Rattle.tpol_tree.specs.declared.path.Move.TheVariants.{Assert}
 use Rattle.tpol_tree.specs.declared.path.PathStep.TheVariants.{Branch, Outside}
-use Rattle.tpol_digest.proofs.Images.{both-append, both-one, both-join, both_assoc, both-closed, both-first_none, of_more, of_assertion, of_or, of_key, of_index, documents_more, document_entered, document_passed, no_documents}
+use Rattle.tpol_digest.proofs.Images.{both-append, both-one, both_assoc, both-closed, both-first_none, of_more, of_assertion, of_or, of_key, of_index, documents_more, document_entered, document_passed, no_documents}
 use Rattle.tpol_digest.proofs.Shares.{share, share_some, entered_lighter}
 use Rattle.tpol_digest.proofs.Weights.{weight, weight_of_element, weight_of_branches, greatest, weight-lt-greatest}
 use Rattle.tpol_digest.specs.Images.{both, documents_images, document_images}
 use Rattle.tpol_lint.proofs.TraceLaws.{finds_behind, finds_nothing, finds_then, inside_branch, traces}
-use Rattle.tpol_lint.specs.Traces.{Finds, IsTrack, Trace, approval_traces, branch_traces, closing_trace, element_list_traces, element_traces, join, move_trace, step_trace, trace_of, traces_ahead}
+use Rattle.tpol_lint.specs.Traces.{Finds, approval_traces, branch_traces, closing_trace, element_list_traces, element_traces, join, move_trace, step_trace, trace_of, traces_ahead}
 use Rattle.tpol_lint.proofs.walk.+walk.Goals as goal
 use Rattle.tpol_lint.proofs.walk.+walk.Goals.{find_in_approvals-then-accepts+in_ok-find_in_elements, find_in_approvals-else-accepts, find_in_approvals-then-scope-gt0+else-loop-document-test, find_in_approvals-else-scope-gt0}
 

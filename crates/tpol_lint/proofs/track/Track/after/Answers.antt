@@ -1,5 +1,5 @@
-use Rattle.std.proofs.Common.{◌≡◌, ◌∙◌, ◌+◌, ◌++◌, ◌∷◌, [], ap, sym, refl, Some, None, false, arith}
-use Rattle.std.specs.Option.{is_some, option_map}
+use Rattle.std.proofs.Common.{◌≡◌, ◌∙◌, ◌+◌, ◌++◌, ◌∷◌, [], ap, sym, refl, None}
+use Rattle.std.specs.Option.{option_map}
 use Rattle.tpm_bindings.specs.Merged.{fact_of}
 use Rattle.tpol_lint.proofs.TraceLaws.{asserted_track, broken_track, counted_up, not_some}
 use Rattle.tpol_lint.specs.Traces.{facts_along}

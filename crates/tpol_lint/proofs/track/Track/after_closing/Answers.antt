@@ -1,4 +1,4 @@
-use Rattle.std.proofs.Common.{◌≡◌, ◌+◌, refl, arith}
+use Rattle.std.proofs.Common.{◌≡◌, ◌+◌, refl}
 use Rattle.tpol_lint.proofs.TraceLaws.{closed_track, counted_up}
 use Rattle.tpol_lint.proofs.track.Track.after_closing.Goals as goal
 
