@@ -5,7 +5,7 @@ _fapipol() {
     local word=${COMP_WORDS[COMP_CWORD]} all=''
     case $COMP_CWORD:${COMP_WORDS[COMP_CWORD - 1]} in
         1:*) all=$("$1" --words 2>/dev/null | sed 's/ .*//' | uniq) ;;
-        2:compile | 2:paths) all=--scene ;;
+        2:compile | 2:paths | 2:lint) all=--scene ;;
         2:import) all=$(_fapipol_names json) ;;
         3:--scene) all=$(_fapipol_names scene) ;;
     esac

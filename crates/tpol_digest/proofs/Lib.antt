@@ -1,6 +1,7 @@
 pub mod Documents
 pub mod Erasures
 pub mod Extents
+pub mod Images
 pub mod Joined
 pub mod Measures
 pub mod Meeting
@@ -10,6 +11,7 @@ pub mod PathMoves
 pub mod Positions
 pub mod Products
 pub mod Refusals
+pub mod Shares
 pub mod Soundness
 pub mod TermLaws
 pub mod Walks

@@ -1,5 +1,6 @@
 pub mod Digest
 pub mod Extent
+pub mod Images
 pub mod Inputs
 pub mod Laws
 pub mod Limits

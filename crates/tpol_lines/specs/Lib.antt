@@ -3,6 +3,7 @@ pub mod Events
 pub mod Generated
 pub mod Hex
 pub mod Lines
+pub mod LintLine
 pub mod OpeningLine
 pub mod PathLine
 pub mod Pen

@@ -1,16 +1,14 @@
 -- The choices and the kinds of paths, as text.
-use Rattle.std.specs.Prelude.{◌≡◌, ℕ, ◌+◌, List, [], ◌∷◌, ◌++◌, codes, length, map, is_some, if◌then◌else◌}
+use Rattle.std.specs.Prelude.{◌≡◌, ℕ, ◌+◌, List, [], ◌∷◌, ◌++◌, length, map}
 use Rattle.std.specs.List.{flat_map}
-use Rattle.json.specs.Print.{quoted}
 use Rattle.tpol_tree.specs.declared.closed.ClosedElements.{ClosedElements}
 use Rattle.tpol_tree.specs.declared.closed.ClosedElement.{ClosedElement}
 use Rattle.tpol_tree.specs.declared.closed.ClosedBranches.{ClosedBranches}
-use Rattle.tpol_tree.specs.declared.closed.ClosedBranches.TheVariants.{More' as MoreBranches', End as EndBranches}
 use Rattle.tpol_tree.specs.declared.path.ApprovedDoc.{ApprovedDoc}
+use Rattle.tpol_tree.specs.declared.path.Move.{Move}
 use Rattle.tpol_tree.specs.declared.path.Path.{Path}
-use Rattle.tpol_digest.specs.Digest.{zero_digest}
-use Rattle.tpol_digest.specs.Paths.{approval_of, document_paths}
-use Rattle.tpol_digest.specs.Positions.{element_list_ways, element_ways}
+use Rattle.tpol_tree.specs.declared.path.PathStep.{PathStep}
+use Rattle.tpol_digest.specs.Images as images
 use Rattle.tpol_lines.specs.declared.path_lines.Ahead.{Ahead}
 use Rattle.tpol_lines.specs.declared.path_lines.Ahead.TheVariants.{Nothing, After'}
 use Rattle.tpol_lines.specs.declared.pen.Pen.{Pen}
@@ -38,35 +36,36 @@ abbrev pub join : Texts → Texts → Texts
 join a b = record { choices = a.choices ++ b.choices; kinds = a.kinds ++ b.kinds }
 
 abbrev pub both : List Texts → List Texts → List Texts
-both firsts rests = flat_map (λ first. map (join first) rests) firsts
+both firsts rests = images.both join firsts rests
 
 -- of a path
 abbrev pub texts_of : Path → Texts
 texts_of path = record { choices = flat_map (λ step. 47 ∷ step_text step) path.steps; kinds = flat_map (λ act. 44 ∷ move_kind act) path.moves }
 
--- of the paths of elements and of one element, where documents may be entered so many levels deep; which
--- digest stands before them is not seen
+-- of one choice and of one move
+abbrev pub step_texts : PathStep → Texts
+step_texts step = of_choice (step_text step)
+
+abbrev pub move_texts : Move → Texts
+move_texts act = of_kind (move_kind act)
+
+-- of the paths of elements, of one element, of branches without the move of their OR, of documents that an element's approver
+-- approved and of all ways by an approval, these without the move of the approval; documents may be entered so many levels
+-- deep
 abbrev pub element_list_texts : List ApprovedDoc → ℕ → ClosedElements → List Texts
-element_list_texts documents levels elements = map texts_of (element_list_ways documents levels elements zero_digest)
+element_list_texts documents levels elements = images.element_list_images texts_of documents levels elements
 
 abbrev pub element_texts : List ApprovedDoc → ℕ → ClosedElement → List Texts
-element_texts documents levels element = map texts_of (element_ways documents levels element zero_digest)
+element_texts documents levels element = images.element_images texts_of documents levels element
 
--- of the paths of branches, without the move of their OR
 abbrev pub branch_texts : List ApprovedDoc → ℕ → ClosedBranches → List Texts
-branch_texts documents levels EndBranches = []
-branch_texts documents levels (MoreBranches' p name elements q rest) =
-    map (join (of_choice (quoted name))) (element_list_texts documents levels elements) ++ branch_texts documents levels rest
+branch_texts documents levels branches = images.branch_images texts_of join step_texts documents levels branches
 
--- of the paths of the documents that an element's approver approved, without the move of the approval
 abbrev pub document_texts : List ApprovedDoc → ℕ → ClosedElement → List ApprovedDoc → List Texts
-document_texts documents levels element some =
-    flat_map (λ document. if is_some (approval_of element document) then map (join (of_choice (64 ∷ quoted document.document))) (map texts_of (document_paths documents levels document)) else []) some
+document_texts documents levels element some = images.documents_images texts_of join step_texts documents levels element some
 
--- the same, and of the way by a policy that no listed document has
 abbrev pub approval_texts : List ApprovedDoc → ℕ → ClosedElement → List Texts
-approval_texts documents levels element =
-    document_texts documents levels element documents ++ of_choice (codes "@*") ∷ []
+approval_texts documents levels element = images.approval_images texts_of join step_texts documents levels element
 
 -- of what comes behind a branch or a document: the move that closes it, and the rest of the list that it
 -- stands in

@@ -7,6 +7,7 @@
 #![tactic(auto)]
 
 mod blocks;
+mod dead_paths;
 mod events;
 mod generated;
 mod hexadecimal;
@@ -19,6 +20,7 @@ mod pen;
 mod runs;
 
 pub use blocks::block_line;
+pub use dead_paths::{dead_line, lint_line};
 pub use events::{command_line, presence_line, reset_line, time_line};
 pub use generated::{command_count_line, generated_line, path_count_line};
 pub use lines::{Lines, push_bytes, push_line};

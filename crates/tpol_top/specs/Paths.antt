@@ -1,10 +1,12 @@
--- The command `paths`.
-use Rattle.std.specs.Prelude.{ℕ, List, [], ◌∷◌, ◌++◌, Option, None, Ok}
+-- The commands `paths` and `lint`, which differ in what they tell of a policy's paths.
+use Rattle.std.specs.Prelude.{ℕ, List, [], ◌∷◌, ◌++◌, length, Option, None, Ok}
 use Rattle.tpol_base.specs.declared.document.Document.{Document}
 use Rattle.tpol_digest.specs.Digest.{policy_digest}
 use Rattle.tpol_digest.specs.Paths.{paths_of}
 use Rattle.tpol_lines.specs.Lines.{line_of}
+use Rattle.tpol_lines.specs.LintLine.{dead_lines, lint_line}
 use Rattle.tpol_lines.specs.PathLine.{path_lines}
+use Rattle.tpol_lint.specs.Dead.{dead_paths}
 use Rattle.tpol_scene.specs.declared.scene.Scene.{Scene}
 use Rattle.tpol_store.specs.Approvals.{approved_documents}
 use Rattle.tpol_store.specs.Stores.{NamedPolicy}
@@ -22,6 +24,8 @@ use Rattle.tpol_tree.specs.declared.closed.Closed.{Closed}
 use Rattle.tpol_tree.specs.declared.path.ApprovedDoc.{ApprovedDoc}
 use Rattle.tpol_tree.specs.declared.path.Path.{Path}
 use Rattle.tpol_tree.specs.declared.policy.Policy.{Policy}
+use Rattle.tpol_top.specs.declared.paths.PathView.{PathView}
+use Rattle.tpol_top.specs.declared.paths.PathView.TheVariants as views
 
 -- a line for each path, and the digest
 abbrev pub path_answer : Closed → List Path → Answer
@@ -30,26 +34,38 @@ path_answer closed paths = record {
   verdict = Done;
 }
 
--- the policy's paths, where these documents are approved
-unfoldable pub listed : Closed → List ApprovedDoc → Step Answer
-listed closed approvals =
-    limit_step None closed approvals >>= λ within. Ok (path_answer closed (paths_of closed approvals))
+-- a line for each path that can never open, and how many of all they are
+abbrev pub dead_answer : List Path → Answer
+dead_answer paths = record {
+  lines = dead_lines paths (dead_paths 1 paths) ++ line_of (lint_line (length (dead_paths 1 paths)) (length paths)) ∷ [];
+  verdict = Done;
+}
+
+-- what is told of a policy's paths
+abbrev pub view_answer : PathView → Closed → List Path → Answer
+view_answer views.All closed paths = path_answer closed paths
+view_answer views.Dead closed paths = dead_answer paths
+
+-- of the policy's paths, where these documents are approved
+unfoldable pub listed : PathView → Closed → List ApprovedDoc → Step Answer
+listed view closed approvals =
+    limit_step None closed approvals >>= λ within. Ok (view_answer view closed (paths_of closed approvals))
 
 -- the same of a document that is filled with what the machine of a scene shows, and whose approvals are those of
 -- the store
-unfoldable pub listed_in : List NamedPolicy → Option Scene → Policy → Step Answer
-listed_in store scene policy = do
+unfoldable pub listed_in : PathView → List NamedPolicy → Option Scene → Policy → Step Answer
+listed_in view store scene policy = do
   sight ← opening_step store scene
   closed ← filled_step None policy sight
-  listed closed (approved_documents store sight)
+  listed view closed (approved_documents store sight)
 
 -- the same with the scene of the shelf, if one is named, and the documents of the shelf
-unfoldable pub listed_with : Option (List ℕ) → Policy → List Document → Step Answer
-listed_with name policy all = do
+unfoldable pub listed_with : PathView → Option (List ℕ) → Policy → List Document → Step Answer
+listed_with view name policy all = do
   scene ← named_scene_step name all
   store ← store_step all
-  listed_in store scene policy
+  listed_in view store scene policy
 
 -- the same of the document in the source
-unfoldable pub paths_step : Option (List ℕ) → List ℕ → List Document → Step Answer
-paths_step name input all = read_step input >>= λ read. listed_with name read.0 all
+unfoldable pub paths_step : PathView → Option (List ℕ) → List ℕ → List Document → Step Answer
+paths_step view name input all = read_step input >>= λ read. listed_with view name read.0 all

@@ -5,16 +5,17 @@ use Rattle.std.specs.Str.{bytes_eq}
 use Rattle.tpol_base.specs.PolicyName.{is_policy_name, without_folder}
 use Rattle.tpol_top.specs.Numbers.{number_of_word}
 use Rattle.tpol_top.specs.declared.request.Request.{Request}
-use Rattle.tpol_top.specs.declared.request.Request.TheVariants.{Compile, Paths, Canon, Import, Run, Explain, Generate}
+use Rattle.tpol_top.specs.declared.request.Request.TheVariants.{Compile, Paths, Lint, Canon, Import, Run, Explain, Generate}
 
 -- the command of one word
 abbrev pub one_word_request : List ℕ → Option Request
 one_word_request word =
     if bytes_eq word (codes "compile") then Some (Compile None)
     else (if bytes_eq word (codes "paths") then Some (Paths None)
+    else (if bytes_eq word (codes "lint") then Some (Lint None)
     else (if bytes_eq word (codes "canon") then Some Canon
     else (if bytes_eq word (codes "run") then Some Run
-    else (if bytes_eq word (codes "explain") then Some Explain else None))))
+    else (if bytes_eq word (codes "explain") then Some Explain else None)))))
 
 -- the name of a policy or of a scene, where it is one
 abbrev pub policy_stem : List ℕ → Option (List ℕ)
@@ -34,7 +35,8 @@ abbrev pub request_with_scene : List ℕ → Option (List ℕ) → Option Reques
 request_with_scene word None = None
 request_with_scene word (Some scene) =
     if bytes_eq word (codes "compile") then Some (Compile (Some scene))
-    else (if bytes_eq word (codes "paths") then Some (Paths (Some scene)) else None)
+    else (if bytes_eq word (codes "paths") then Some (Paths (Some scene))
+    else (if bytes_eq word (codes "lint") then Some (Lint (Some scene)) else None))
 
 -- the command of three words: a word, `--scene` and a name
 abbrev pub scene_request : List ℕ → List ℕ → List ℕ → Option Request
@@ -74,6 +76,7 @@ reads_source words = option_map_or reads_source_for (request_of words) false
 abbrev pub uses_shelf_for : Request → Bool
 uses_shelf_for (Compile scene) = is_some scene
 uses_shelf_for (Paths scene) = true
+uses_shelf_for (Lint scene) = true
 uses_shelf_for Canon = false
 uses_shelf_for (Import name) = true
 uses_shelf_for Run = true

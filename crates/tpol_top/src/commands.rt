@@ -9,7 +9,7 @@ ghost use Rattle.tpol_top.specs.Words.{uses_shelf_for};
 use crate::canon::canon;
 use crate::compile::compile;
 use crate::import::import;
-use crate::paths::list_paths;
+use crate::paths::{PathView, list_paths};
 use crate::request::Request;
 use std::alloc::Global;
 use tpol_base::Shelf;
@@ -39,7 +39,8 @@ pub fn carry_out<H: Shelf>(
 {
     match request {
         Request::Compile { scene } => compile(alloc, scene, input, shelf),
-        Request::Paths { scene } => list_paths(alloc, scene, input, shelf),
+        Request::Paths { scene } => list_paths(alloc, PathView::All, scene, input, shelf),
+        Request::Lint { scene } => list_paths(alloc, PathView::Dead, scene, input, shelf),
         Request::Canon => canon(alloc, input),
         Request::Import { name } => import(alloc, name, input, shelf),
         Request::Run => perform_scene(alloc, false, input, shelf),

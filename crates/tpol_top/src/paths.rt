@@ -1,18 +1,22 @@
-// The command `paths`.
+// The commands `paths` and `lint`.
 
-ghost use Rattle.std.specs.Prelude.{◌≡◌, true, IfSome, IfOk, IsOk, map, ⊤};
+ghost use Rattle.std.specs.Prelude.{◌≡◌, ◌∷◌, ◌++◌, [], true, All, IfSome, IfOk, IsOk, OnOk, map, ⊤};
+ghost use Rattle.tpol_digest.specs.Limits.{AreWithinLimits};
 ghost use Rattle.tpol_digest.specs.Paths.{paths_of};
+ghost use Rattle.tpol_lines.specs.LintLine.{dead_lines};
+ghost use Rattle.tpol_lint.specs.Dead.{IsDead};
 ghost use Rattle.tpol_steps.specs.ReadStep.{read_step};
 ghost use Rattle.tpol_steps.specs.Steps.{Answers, AsksShelf, IsInside};
 ghost use Rattle.tpol_store.specs.Stores.{policies_of};
-ghost use Rattle.tpol_top.specs.Paths.{listed, listed_in, listed_with, path_answer, paths_step};
+ghost use Rattle.tpol_top.specs.Paths.{dead_answer, listed, listed_in, listed_with, path_answer, paths_step};
 ghost use Rattle.tpol_tree.specs.ClosedErased.{erased, erased_document};
 ghost use Rattle.tpol_tree.specs.Erased.{erased_policy};
 
 use std::alloc::Global;
 use tpol_base::{NoMemory, Shelf, Text};
-use tpol_digest::digest_of;
-use tpol_lines::{push_line, write_paths};
+use tpol_digest::{count_paths, digest_of, path_at};
+use tpol_lines::{Lines, dead_line, lint_line, push_line, write_paths};
+use tpol_lint::{Dead, lint};
 use tpol_prepare::opening_of;
 use tpol_scene::Scene;
 use tpol_steps::{
@@ -22,7 +26,16 @@ use tpol_steps::{
 use tpol_store::Store;
 use tpol_tree::{Approvals, Closed, Policy};
 
-/// The command `paths`: a line for each path of the document in the source, and its digest. It is filled with
+/// What is told of a policy's paths.
+#[derive(Clone, Copy)]
+pub enum PathView {
+    /// Each path, and the digest that they give: the command `paths`.
+    All,
+    /// The paths that can never open, and how many of all they are: the command `lint`.
+    Dead,
+}
+
+/// The commands `paths` and `lint`: what is told of the paths of the document in the source. It is filled with
 /// the scene of this name, if one is given, and documents of the shelf are approved.
 ///
 /// `Refused` tells the first refusal: of the document, of the scene, of the shelf's documents, of a policy that
@@ -32,64 +45,75 @@ use tpol_tree::{Approvals, Closed, Policy};
 #[tactic(auto, unfolding(crate::specs::Paths::paths_step))]
 pub fn list_paths<H: Shelf>(
     alloc: Global,
+    view: PathView,
     scene: &Option<Text>,
     input: &[u8],
     shelf: &mut H,
 ) -> Result<Answer, Halt>
     ensures answer { IfSome (H.documents shelf.old) (λ all.
-        Answers (λ answer. answer) (paths_step scene.now input.now all) result) }
+        Answers (λ answer. answer) (paths_step view scene.now input.now all) result) }
     ensures keeps { H.documents shelf.new ≡ H.documents shelf.old }
     ensures asks { AsksShelf true (IsOk (read_step input.now)) shelf.old shelf.new (H.faults shelf.old) (H.faults shelf.new) result }
 {
     let (policy, _notes) = read_document(alloc, input)?;
-    list_read(alloc, scene, &policy, shelf)
+    list_read(alloc, view, scene, &policy, shelf)
 }
 
 // The same of what was read.
 #[tactic(auto, unfolding(crate::specs::Paths::listed_with))]
 fn list_read<H: Shelf>(
     alloc: Global,
+    view: PathView,
     scene: &Option<Text>,
     policy: &Policy,
     shelf: &mut H,
 ) -> Result<Answer, Halt>
     ensures answer { IfSome (H.documents shelf.old) (λ all.
-        Answers (λ answer. answer) (listed_with scene.now (erased_policy policy.now) all) result) }
+        Answers (λ answer. answer) (listed_with view scene.now (erased_policy policy.now) all) result) }
     ensures keeps { H.documents shelf.new ≡ H.documents shelf.old }
     ensures asks { AsksShelf true ⊤ shelf.old shelf.new (H.faults shelf.old) (H.faults shelf.new) result }
 {
     let scene = named_scene(alloc, scene, shelf)?;
     let store = load_store(alloc, shelf)?;
-    list_policy(alloc, &store, &scene, policy)
+    list_policy(alloc, view, &store, &scene, policy)
 }
 
 // What is printed of the document, over a store and a scene.
 #[tactic(auto, unfolding(crate::specs::Paths::listed_in))]
 fn list_policy(
     alloc: Global,
+    view: PathView,
     store: &Store,
     scene: &Option<Scene>,
     policy: &Policy,
 ) -> Result<Answer, Halt>
     ensures answer { Answers (λ answer. answer)
-        (listed_in (policies_of store.now) scene.now (erased_policy policy.now)) result }
+        (listed_in view (policies_of store.now) scene.now (erased_policy policy.now)) result }
     ensures inside { IsInside result }
 {
     let sight = opening_of(alloc, store, scene)?;
     let closed = fill_document(alloc, None, policy, sight.as_ref())?;
     let approvals = store.approvals(alloc, sight.as_ref())?;
-    list(alloc, &closed, &approvals)
+    list(alloc, view, &closed, &approvals)
 }
 
-// A line for each path, and the digest, or why the paths are not listed.
+// What is told of the policy's paths, or why they are not listed.
 #[tactic(auto, unfolding(crate::specs::Paths::listed))]
-fn list(alloc: Global, closed: &Closed, approvals: &Approvals) -> Result<Answer, Halt>
+fn list(
+    alloc: Global,
+    view: PathView,
+    closed: &Closed,
+    approvals: &Approvals,
+) -> Result<Answer, Halt>
     ensures answer { Answers (λ answer. answer)
-        (listed (erased closed.now) (map erased_document approvals.now)) result }
+        (listed view (erased closed.now) (map erased_document approvals.now)) result }
     ensures inside { IsInside result }
 {
     check_limits(alloc, None, closed, approvals)?;
-    Ok(path_answer(alloc, closed, approvals)?)
+    match view {
+        PathView::All => Ok(path_answer(alloc, closed, approvals)?),
+        PathView::Dead => Ok(dead_answer(alloc, closed, approvals)?),
+    }
 }
 
 // A line for each path, and the digest.
@@ -103,4 +127,57 @@ fn path_answer(alloc: Global, closed: &Closed, approvals: &Approvals) -> Result<
     push_line(alloc, &mut lines, digest.as_str())?;
     let verdict = Verdict::Done;
     Ok(Answer { lines, verdict })
+}
+
+// A line for each path that can never open, and how many of all they are.
+#[tactic(auto, using(crate::proofs::PathAnswers::dead_answer_erased))]
+fn dead_answer(alloc: Global, closed: &Closed, approvals: &Approvals) -> Result<Answer, NoMemory>
+    requires within { AreWithinLimits (paths_of closed.now approvals.now) }
+    ensures { IfOk result (λ answer. answer
+        ≡ dead_answer (paths_of (erased closed.now) (map erased_document approvals.now))) }
+{
+    let dead = lint(alloc, closed, approvals)?;
+    let mut lines = Lines::new(alloc);
+    push_dead_lines(alloc, &mut lines, closed, approvals, dead.as_slice())?;
+    let all = count_paths(closed, approvals);
+    let told = lint_line(alloc, dead.len(), all)?;
+    push_line(alloc, &mut lines, told.as_str())?;
+    let verdict = Verdict::Done;
+    Ok(Answer { lines, verdict })
+}
+
+// Adds a line for each of these dead paths.
+fn push_dead_lines(
+    alloc: Global,
+    lines: &mut Lines,
+    closed: &Closed,
+    approvals: &Approvals,
+    dead: &[Dead],
+) -> Result<(), NoMemory>
+    requires within { AreWithinLimits (paths_of closed.now approvals.now) }
+    requires dead { All (IsDead (paths_of closed.now approvals.now)) dead.now }
+    ensures { OnOk result (lines.new ≡ lines.old ++ dead_lines (paths_of closed.now approvals.now) dead.now) }
+{
+    for one in dead {
+        push_dead_line(alloc, lines, closed, approvals, one)?;
+    }
+    Ok(())
+}
+
+// Adds the line of this dead path.
+fn push_dead_line(
+    alloc: Global,
+    lines: &mut Lines,
+    closed: &Closed,
+    approvals: &Approvals,
+    dead: &Dead,
+) -> Result<(), NoMemory>
+    requires within { AreWithinLimits (paths_of closed.now approvals.now) }
+    requires dead { IsDead (paths_of closed.now approvals.now) dead.now }
+    ensures { OnOk result (lines.new ≡ lines.old ++ dead_lines (paths_of closed.now approvals.now) (dead.now ∷ [])) }
+{
+    let path = path_at(alloc, closed, approvals, dead.path)?;
+    let line = dead_line(alloc, dead, path.steps.as_slice());
+    drop(path);
+    push_line(alloc, lines, line?.as_str())
 }

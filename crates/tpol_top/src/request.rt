@@ -14,6 +14,8 @@ pub enum Request {
     Compile { scene: Option<Text> },
     /// `paths`, `paths --scene NAME`: the ways through it, and its digest.
     Paths { scene: Option<Text> },
+    /// `lint`, `lint --scene NAME`: those of its ways that can never open.
+    Lint { scene: Option<Text> },
     /// `canon`: its canonical text.
     Canon,
     /// `import NAME`: puts its canonical text on the shelf, as the document of this name.
@@ -58,6 +60,9 @@ fn one_word_request(word: &str) -> Option<Request>
     }
     if word == "paths" {
         return Some(Request::Paths { scene: None });
+    }
+    if word == "lint" {
+        return Some(Request::Lint { scene: None });
     }
     if word == "canon" {
         return Some(Request::Canon);
@@ -131,6 +136,9 @@ fn scene_request(
     }
     if word == "paths" {
         return Ok(Some(Request::Paths { scene: Some(scene) }));
+    }
+    if word == "lint" {
+        return Ok(Some(Request::Lint { scene: Some(scene) }));
     }
     Ok(None)
 }

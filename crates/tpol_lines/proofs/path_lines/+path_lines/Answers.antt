@@ -6,9 +6,11 @@ use Rattle.tpol_tree.specs.declared.closed.ClosedBranch.{ClosedBranch}
 use Rattle.tpol_digest.proofs.Weights.{weight, weight_of_element, weight_of_branches, greatest, weight-lt-greatest}
 use Rattle.tpol_lines.specs.declared.pen.Pen.{Pen}
 use Rattle.tpol_lines.specs.PathLine.{assertion_kind}
-use Rattle.tpol_lines.specs.Texts.{of_choice, of_kind, join, both, element_list_texts, element_texts, branch_texts, document_texts, approval_texts, texts_ahead, Writes}
-use Rattle.tpol_lines.proofs.Loads.{share, share_some, entered_lighter}
-use Rattle.tpol_lines.proofs.TextLaws.{both-append, both-one, both-join, both_assoc, both-closed, both-none, writes_then, writes_nothing, kind_written, choice_written, line_written, more_texts, assert_texts, or_texts, key_texts, index_texts, documents_more, part, part_entered, part_passed, no_documents}
+use Rattle.tpol_lines.specs.Texts.{of_choice, of_kind, join, both, element_list_texts, element_texts, branch_texts, document_texts, approval_texts, step_texts, texts_of, texts_ahead, Writes}
+use Rattle.tpol_digest.proofs.Shares.{share, share_some, entered_lighter}
+use Rattle.tpol_digest.proofs.Images.{both-append, both-one, both-join, both_assoc, both-closed, both-first_none, of_more, of_assertion, of_or, of_key, of_index, documents_more, document_entered, document_passed, no_documents}
+use Rattle.tpol_digest.specs.Images.{document_images}
+use Rattle.tpol_lines.proofs.TextLaws.{texts, writes_then, writes_nothing, kind_written, choice_written, line_written}
 use Rattle.tpol_lines.proofs.path_lines.+path_lines.Goals as goal
 use Rattle.tpol_lines.proofs.path_lines.+path_lines.Goals.{write_element-in-Authorize, write_element-in-AuthorizeNv, write_approvals-then-accepts+in_ok-push_name+in_ok-write_elements, write_approvals-else-accepts, write_approvals-then-levels-gt0+else-loop-document-test, write_approvals-else-levels-gt0}
 
@@ -97,7 +99,7 @@ write_branches-returns-in_ok-write_elements-in-More t c =
     let first = choice_written c.args.pen.now c.push_name.new.self c.write_elements.new.pen middle (quoted branch.name) (both (element_list_texts documents levels branch.policy.elements) ahead) c.len-kept.result c.in_ok-push_name-in-More.ensures.lines c.in_ok-push_name-in-More.ensures.kinds pushed inner (c.len-kept.ensures ∙ c.args.pen.now.choices.ok.0) refl refl c.truncate.ensures.items in
     let firsts = map (join (of_choice (quoted branch.name))) (element_list_texts documents levels branch.policy.elements) in
     let same : map (join (of_choice (quoted branch.name))) (both (element_list_texts documents levels branch.policy.elements) ahead) ++ both (branch_texts documents levels rest) ahead ≡ both (firsts ++ branch_texts documents levels rest) ahead =
-    ap (λ l. l ++ both (branch_texts documents levels rest) ahead) (sym (both-join (of_choice (quoted branch.name)) (element_list_texts documents levels branch.policy.elements) ahead)) ∙ sym (both-append firsts (branch_texts documents levels rest) ahead) in
+    ap (λ l. l ++ both (branch_texts documents levels rest) ahead) (sym (both-join texts (of_choice (quoted branch.name)) (element_list_texts documents levels branch.policy.elements) ahead)) ∙ sym (both-append texts firsts (branch_texts documents levels rest) ahead) in
     rw c.in-More.is (on_ok_weaker c.write_branches.result (λ h. subst (Writes c.args.pen.now c.write_branches.new.pen) same (writes_then c.args.pen.now middle c.write_branches.new.pen (map (join (of_choice (quoted branch.name))) (both (element_list_texts documents levels branch.policy.elements) ahead)) (both (branch_texts documents levels rest) ahead) first (subst (λ r. Writes middle c.write_branches.new.pen (both (branch_texts documents levels r) ahead)) c.deref-in-More-2.ensures h))) c.write_branches.ensures)
 
 pub write_element-returns-in-Assert : goal.write_element-returns-in-Assert
@@ -109,7 +111,7 @@ write_element-returns-in-Assert t c =
     let after : Pen = record { lines = c.write_elements.new.pen.lines; choices = c.write_elements.new.pen.choices; kinds = c.truncate.new.self } in
     let pushed = c.in_ok-push_kind-in-Assert.ensures.kinds ∙ ap (λ k. c.args.pen.now.kinds.items ++ 44 ∷ k) c.assertion_kind.ensures in
     let same : map (join (of_kind kind)) behind ≡ both (element_texts documents levels c.args.element.now) behind =
-    sym (both-one (of_kind kind) behind) ∙ ap (λ l. both l behind) (sym (assert_texts documents levels c.in-Assert.assertion)) ∙ ap (λ e. both (element_texts documents levels e) behind) (sym c.in-Assert.is) in
+    sym (both-one texts (of_kind kind) behind) ∙ ap (λ l. both l behind) (sym (of_assertion texts documents levels c.in-Assert.assertion)) ∙ ap (λ e. both (element_texts documents levels e) behind) (sym c.in-Assert.is) in
     subst (Writes c.args.pen.now after) same (kind_written c.args.pen.now c.push_kind.new.self c.write_elements.new.pen after kind behind c.len-kept.result c.in_ok-push_kind-in-Assert.ensures.lines c.in_ok-push_kind-in-Assert.ensures.choices pushed c.in_ok-write_elements-in-Assert.ensures (c.len-kept.ensures ∙ c.args.pen.now.kinds.ok.0) refl refl c.truncate.ensures.items)
 
 pub write_element-returns-in-Or : goal.write_element-returns-in-Or
@@ -119,7 +121,7 @@ write_element-returns-in-Or t c =
     let behind = both (element_list_texts documents levels c.args.rest.now) (texts_ahead documents c.args.ahead.now) in
     let inner = branch_texts documents levels c.in-Or.branches in
     let same : both inner (map (join (of_kind (codes "Or"))) behind) ≡ both (element_texts documents levels c.args.element.now) behind =
-    sym (both-closed (of_kind (codes "Or")) inner behind) ∙ ap (λ l. both l behind) (sym (or_texts documents levels c.in-Or.branches)) ∙ ap (λ e. both (element_texts documents levels e) behind) (sym c.in-Or.is) in
+    sym (both-closed texts (of_kind (codes "Or")) inner behind) ∙ ap (λ l. both l behind) (sym (of_or texts documents levels c.in-Or.branches)) ∙ ap (λ e. both (element_texts documents levels e) behind) (sym c.in-Or.is) in
     on_ok_weaker c.write_branches.result (λ g. subst (Writes c.args.pen.now c.write_branches.new.pen) same g) c.write_branches.ensures
 
 pub write_element-returns : goal.write_element-returns
@@ -133,20 +135,20 @@ write_element-returns t c =
       | write_element-in-Authorize w ↦
           let kind = ap (λ k. k.now) w.kind-is in
           ap (λ k. both inner (map (join (of_kind k)) behind)) kind
-          ∙ sym (both-closed (of_kind (codes "Approve")) inner behind)
-          ∙ ap (λ l. both l behind) (ap (λ e. map (λ t. join t (of_kind (codes "Approve"))) (approval_texts documents levels e)) w.in-Authorize.is ∙ sym (key_texts documents levels w.in-Authorize.key w.in-Authorize.policy_ref) ∙ ap (element_texts documents levels) (sym w.in-Authorize.is))
+          ∙ sym (both-closed texts (of_kind (codes "Approve")) inner behind)
+          ∙ ap (λ l. both l behind) (ap (λ e. map (λ t. join t (of_kind (codes "Approve"))) (approval_texts documents levels e)) w.in-Authorize.is ∙ sym (of_key texts documents levels w.in-Authorize.key w.in-Authorize.policy_ref) ∙ ap (element_texts documents levels) (sym w.in-Authorize.is))
       | write_element-in-AuthorizeNv w ↦
           let kind = ap (λ k. k.now) w.kind-is in
           ap (λ k. both inner (map (join (of_kind k)) behind)) kind
-          ∙ sym (both-closed (of_kind (codes "ApproveNv")) inner behind)
-          ∙ ap (λ l. both l behind) (ap (λ e. map (λ t. join t (of_kind (codes "ApproveNv"))) (approval_texts documents levels e)) w.in-AuthorizeNv.is ∙ sym (index_texts documents levels w.in-AuthorizeNv.index) ∙ ap (element_texts documents levels) (sym w.in-AuthorizeNv.is))
+          ∙ sym (both-closed texts (of_kind (codes "ApproveNv")) inner behind)
+          ∙ ap (λ l. both l behind) (ap (λ e. map (λ t. join t (of_kind (codes "ApproveNv"))) (approval_texts documents levels e)) w.in-AuthorizeNv.is ∙ sym (of_index texts documents levels w.in-AuthorizeNv.index) ∙ ap (element_texts documents levels) (sym w.in-AuthorizeNv.is))
     ] in
     on_ok_weaker c.write_approvals.result (λ g. subst (Writes c.args.pen.now c.write_approvals.new.pen) closed g) c.write_approvals.ensures
 
 pub write_elements-returns-in-End : goal.write_elements-returns-in-End
 write_elements-returns-in-End t c =
     let ahead = texts_ahead c.args.shelf.now.approvals.now c.args.ahead.now in
-    rw c.in-End.is (on_ok_weaker c.write_ahead.result (λ g. subst (Writes c.args.pen.now c.write_ahead.new.pen) (sym (both-none ahead)) g) c.write_ahead.ensures)
+    rw c.in-End.is (on_ok_weaker c.write_ahead.result (λ g. subst (Writes c.args.pen.now c.write_ahead.new.pen) (sym (both-first_none texts ahead)) g) c.write_ahead.ensures)
 
 pub write_elements-returns-in-More : goal.write_elements-returns-in-More
 write_elements-returns-in-More t c =
@@ -158,8 +160,8 @@ write_elements-returns-in-More t c =
     let same : both (element_texts documents levels c.deref.result.now) (both (element_list_texts documents levels c.deref-in-More.result.now) ahead) ≡ both (element_list_texts documents levels c.args.elements.now) ahead =
     ap (λ e. both (element_texts documents levels e) (both (element_list_texts documents levels c.deref-in-More.result.now) ahead)) c.deref.ensures
     ∙ ap (λ e. both (element_texts documents levels element) (both (element_list_texts documents levels e) ahead)) c.deref-in-More.ensures
-    ∙ sym (both_assoc (element_texts documents levels element) (element_list_texts documents levels rest) ahead)
-    ∙ ap (λ l. both l ahead) (sym (more_texts documents levels element rest))
+    ∙ sym (both_assoc texts (element_texts documents levels element) (element_list_texts documents levels rest) ahead)
+    ∙ ap (λ l. both l ahead) (sym (of_more texts documents levels element rest))
     ∙ ap (λ e. both (element_list_texts documents levels e) ahead) (sym c.in-More.is) in
     on_ok_weaker c.write_element.result (λ g. subst (Writes c.args.pen.now c.write_element.new.pen) same g) c.write_element.ensures
 
@@ -178,7 +180,7 @@ write_approvals-loop-document-preserved t c =
     let ahead = texts_ahead documents c.args.ahead.now in
     let level : levels ≢ 0 = omega (arith, c.if-levels-gt0.true) in
     let done = document_texts documents levels element (take i documents) in
-    let more = documents_more documents levels element i document c.loop-document-test.true c.document-item.is in
+    let more = documents_more texts documents levels element i document c.loop-document-test.true c.document-item.is in
     elim c.if-accepts.branch [
       | write_approvals-then-accepts+in_ok-push_name+in_ok-write_elements w ↦
           let inner = element_list_texts documents (levels - 1) document.closed.elements in
@@ -187,14 +189,14 @@ write_approvals-loop-document-preserved t c =
           let pushed = w.in_ok-push_name.ensures.choices ∙ ap (λ n. c.loop-document.pen.choices.items ++ 47 ∷ 64 ∷ quoted n) w.as_str.ensures in
           let after : Pen = record { lines = w.write_elements.new.pen.lines; choices = w.truncate.new.self; kinds = w.write_elements.new.pen.kinds } in
           let wrote = choice_written c.loop-document.pen w.push_name.new.self w.write_elements.new.pen after (64 ∷ name) (both inner ahead) c.len-kept.result w.in_ok-push_name.ensures.lines w.in_ok-push_name.ensures.kinds pushed w.in_ok-write_elements.ensures kept refl refl w.truncate.ensures.items in
-          let entered = part_entered documents levels element document level (sym c.accepts.ensures ∙ w.if-accepts.true) in
+          let entered = document_entered texts documents levels element document level (sym c.accepts.ensures ∙ w.if-accepts.true) in
           let same : both done ahead ++ map (join (of_choice (64 ∷ name))) (both inner ahead) ≡ both (document_texts documents levels element (take (i + 1) documents)) ahead =
-          ap (λ l. both done ahead ++ l) (sym (both-join (of_choice (64 ∷ name)) inner ahead) ∙ ap (λ l. both l ahead) (sym entered))
-          ∙ sym (both-append done (part documents levels element document) ahead)
+          ap (λ l. both done ahead ++ l) (sym (both-join texts (of_choice (64 ∷ name)) inner ahead) ∙ ap (λ l. both l ahead) (sym entered))
+          ∙ sym (both-append texts done (document_images texts_of join step_texts documents levels element document) ahead)
           ∙ ap (λ l. both l ahead) (sym more) in
           subst (λ p. Writes c.args.pen.now p (both (document_texts documents levels element (take (i + 1) documents)) ahead)) (sym w.pen-is) (subst (Writes c.args.pen.now after) same (writes_then c.args.pen.now c.loop-document.pen after (both done ahead) (map (join (of_choice (64 ∷ name))) (both inner ahead)) c.loop-document.invariant wrote))
       | write_approvals-else-accepts w ↦
-          let passed = part_passed documents levels element document (sym c.accepts.ensures ∙ w.if-accepts.false) in
+          let passed = document_passed texts documents levels element document (sym c.accepts.ensures ∙ w.if-accepts.false) in
           let same : both done ahead ≡ both (document_texts documents levels element (take (i + 1) documents)) ahead =
           ap (λ l. both l ahead) (sym (append-nil done) ∙ ap (λ l. done ++ l) (sym passed) ∙ sym more) in
           subst (λ p. Writes c.args.pen.now p (both (document_texts documents levels element (take (i + 1) documents)) ahead)) (sym w.pen-is) (subst (Writes c.args.pen.now c.loop-document.pen) same c.loop-document.invariant)
@@ -211,11 +213,11 @@ write_approvals-returns t c =
     let all : Writes c.args.pen.now before (both whole ahead) =
     elim c.if-levels-gt0.branch [
       | write_approvals-then-levels-gt0+else-loop-document-test w ↦ subst (λ p. Writes c.args.pen.now p (both whole ahead)) (sym w.pen-is) (subst (λ l. Writes c.args.pen.now w.loop-document.pen (both (document_texts documents levels element l) ahead)) (take_all w.loop-document.document-index documents w.loop-document-test.false) w.loop-document.invariant)
-      | write_approvals-else-levels-gt0 w ↦ subst (λ p. Writes c.args.pen.now p (both whole ahead)) (sym w.pen-is) (subst (Writes c.args.pen.now c.args.pen.now) (ap (λ l. both l ahead) (sym (no_documents documents levels element w.if-levels-gt0.false))) (writes_nothing c.args.pen.now))
+      | write_approvals-else-levels-gt0 w ↦ subst (λ p. Writes c.args.pen.now p (both whole ahead)) (sym w.pen-is) (subst (Writes c.args.pen.now c.args.pen.now) (ap (λ l. both l ahead) (sym (no_documents texts documents levels element w.if-levels-gt0.false))) (writes_nothing c.args.pen.now))
     ] in
     let kept = c.len-kept.ensures ∙ c.args.pen.now.choices.ok.0 ∙ ap length (sym all.choices) in
     let after : Pen = record { lines = c.write_ahead.new.pen.lines; choices = c.truncate-2.new.self; kinds = c.write_ahead.new.pen.kinds } in
     let outside = choice_written before c.push_outside.new.self c.write_ahead.new.pen after (codes "@*") ahead c.len-kept.result c.in_ok-push_outside.ensures.lines c.in_ok-push_outside.ensures.kinds c.in_ok-push_outside.ensures.choices c.in_ok-write_ahead.ensures kept refl refl c.truncate-2.ensures.items in
     let same : both whole ahead ++ map (join (of_choice (codes "@*"))) ahead ≡ both (approval_texts documents levels element) ahead =
-    ap (λ l. both whole ahead ++ l) (sym (both-one (of_choice (codes "@*")) ahead)) ∙ sym (both-append whole (of_choice (codes "@*") ∷ []) ahead) in
+    ap (λ l. both whole ahead ++ l) (sym (both-one texts (of_choice (codes "@*")) ahead)) ∙ sym (both-append texts whole (of_choice (codes "@*") ∷ []) ahead) in
     subst (Writes c.args.pen.now after) same (writes_then c.args.pen.now before after (both whole ahead) (map (join (of_choice (codes "@*"))) ahead) all outside)

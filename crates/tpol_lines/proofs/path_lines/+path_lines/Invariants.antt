@@ -1,7 +1,8 @@
 use Rattle.std.proofs.Common.{◌+◌, ◌*◌, take}
 use Rattle.tpol_digest.proofs.Weights.{weight, weight_of_element, weight_of_branches}
 use Rattle.tpol_lines.specs.Texts.{both, document_texts, texts_ahead, Writes}
-use Rattle.tpol_lines.proofs.Loads.{share, load}
+use Rattle.tpol_digest.proofs.Shares.{share}
+use Rattle.tpol_lines.proofs.Loads.{load}
 use Rattle.tpol_lines.proofs.path_lines.+path_lines.Given as goal
 
 abbrev pub decreases-write_elements : goal.decreases-write_elements
