@@ -167,7 +167,8 @@ def run_cell(marks, run, way):
         return chosen_cell(marks, run, way)
     if run.way and run.way > way.number and run.begun == run.chosen:
         return f'<td class="out">✘ {statement(run.chosen, f"closed: run {run.number} chose way {run.way}")}</td>'
-    return '<td class="idle">an earlier way was free</td>' if run.way else '<td class="idle">nothing is told</td>'
+    is_later = run.way is not None and run.way < way.number
+    return f'<td class="idle">{"an earlier way was free" if is_later else "nothing is told"}</td>'
 
 
 def chosen_cell(marks, run, way):

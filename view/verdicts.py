@@ -1,5 +1,6 @@
 """Who got in by which way, and who did not, and why: a box for each run, and for each opening that no run made."""
 
+from journal import number_of
 from markup import listed, of_scene, name, statement, way_words, words
 from words import command_name, plural, reason, same_path, why_blocked, why_stopped
 
@@ -40,7 +41,8 @@ class Story:
         if not begin:
             return ""
         goal = begin["goal"]
-        return of_scene(f'{self.client(int(str(begin["client"]), 0))}, {words(goal["command"])} of {name(goal["path"])}')
+        who = self.client(number_of(begin["client"]))
+        return of_scene(f'{who}, {words(goal["command"])} of {name(goal["path"])}')
 
     def policy_of_run(self, run):
         begin = self.journal.entities.goals.get(run.number)
