@@ -10,7 +10,10 @@ UNSEEN = ("Cc", "Cf", "Cs", "Co", "Cn", "Zl", "Zp")
 
 def seen(text):
     """A text in which no character hides, and none turns the order of others: such stand as `\\u202e`."""
-    return "".join(f"\\u{ord(sign):04x}" if unicodedata.category(sign) in UNSEEN else sign for sign in str(text))
+    text = str(text)
+    if text.isprintable():
+        return text
+    return "".join(f"\\u{ord(sign):04x}" if unicodedata.category(sign) in UNSEEN else sign for sign in text)
 
 
 def words(text):

@@ -1,6 +1,6 @@
 """The policies: nested boxes with who got in and what stopped whom, and a table of every way and every run."""
 
-from markup import branch_name, choice_words, folded, name, of_scene, statement, table, way_words, words
+from markup import attribute, branch_name, choice_words, folded, name, of_scene, statement, table, way_words, words
 from verdicts import block_words, end_words, opening_words
 from words import RULES, element_words, plural
 
@@ -92,7 +92,7 @@ class Tree:
 
     def branches(self, element, ways):
         parts = self.parted(ways)
-        boxes = [self.box(branch_name(branch["name"]), branch, parts.get(place, []))
+        boxes = [self.box(f'branch="{attribute(branch["name"])}"', branch_name(branch["name"]), branch, parts.get(place, []))
                  for place, branch in enumerate(element["branches"])]
         return f'<div class="branches">{"".join(boxes)}</div>'
 
@@ -102,7 +102,8 @@ class Tree:
         for step, part in self.parted(ways).items():
             document = self.policy.approved.get(step)
             title = f"approved: {name(step)}" if document else "any other policy that is approved"
-            boxes.append(self.box(title, document, part))
+            choice = f'approved="{attribute(step)}"' if document else "outside"
+            boxes.append(self.box(choice, title, document, part))
         caption = '<p class="caption">one of these, carried out before it</p>'
         return f'<div class="choice">{caption}<div class="branches">{"".join(boxes)}</div></div>'
 
@@ -114,7 +115,7 @@ class Tree:
             self.passed[way.number] += 1
         return parts
 
-    def box(self, title, content, ways):
+    def box(self, choice, title, content, ways):
         """A branch or an approved document; what is said of ways stands where they make their last choice."""
         ends = [way for way in ways if self.passed[way.number] == len(way.steps)]
         look = self.marks.look(ways)
@@ -123,7 +124,8 @@ class Tree:
         inside = self.flow(content["policy"], ways) if content else ""
         marks = self.marks.at(ends) if ends else ""
         width = leaves(content["policy"]) if content else 1
-        return f'<div class="branch {look}" style="--leaves:{width}"><h4>{title}</h4>{text}{inside}{marks}</div>'
+        return (f'<div class="branch {look}" style="--leaves:{width}" data-{choice}><h4>{title}</h4>'
+                f'{text}{inside}{marks}</div>')
 
 
 def leaves(elements):
@@ -165,7 +167,8 @@ def run_cell(marks, run, way):
         return chosen_cell(marks, run, way)
     if run.way and run.way > way.number and run.begun == run.chosen:
         return f'<td class="out">✘ {statement(run.chosen, f"closed: run {run.number} chose way {run.way}")}</td>'
-    return '<td class="idle">an earlier way was free</td>' if run.way else '<td class="idle">nothing is told</td>'
+    is_later = run.way is not None and run.way < way.number
+    return f'<td class="idle">{"an earlier way was free" if is_later else "nothing is told"}</td>'
 
 
 def chosen_cell(marks, run, way):

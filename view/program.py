@@ -30,9 +30,9 @@ class Program:
         self.folder = folder
         self.path = os.environ.get("FAPIPOL") or str(ROOT / "fapipol")
 
-    def run(self, words, source):
-        """What it prints for these words and this standard input."""
-        done = subprocess.run([self.path, *words], input=source, stdout=subprocess.PIPE, cwd=self.folder)
+    def run(self, words, source, errors=None):
+        """What it prints for these words and this standard input. The launcher tells on standard error how it builds."""
+        done = subprocess.run([self.path, *words], input=source, stdout=subprocess.PIPE, stderr=errors, cwd=self.folder)
         text = done.stdout.decode("utf-8")
         if done.returncode != 0:
             raise Refused(done.returncode, text)
@@ -149,7 +149,8 @@ class Store:
     def lint(self, source):
         """The lines of `lint`; none where the program does not know the word."""
         try:
-            return self.plain.run(["lint", "--scene", SCENE], source) if self.knows_lint else ""
+            words = ["lint", "--scene", SCENE]
+            return self.plain.run(words, source, subprocess.DEVNULL) if self.knows_lint else ""
         except Refused:
             self.knows_lint = False
             return ""

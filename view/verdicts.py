@@ -1,5 +1,6 @@
 """Who got in by which way, and who did not, and why: a box for each run, and for each opening that no run made."""
 
+from journal import number_of
 from markup import listed, of_scene, name, statement, way_words, words
 from words import command_name, plural, reason, same_path, why_blocked, why_stopped
 
@@ -15,6 +16,10 @@ class Story:
         self.policies = policies
         self.policy_of_path = {same_path(entity["path"]): entity["policy"].removeprefix("/policy/")
                                for entity in scene.get("entities", []) if isinstance(entity.get("policy"), str)}
+        self.foreign = {}
+        for event in explained.events:
+            if event.is_foreign():
+                self.foreign.setdefault(event.maker.run, []).append(event)
 
     def client(self, number):
         """A client, by its number and its name where the scene has one; HTML."""
@@ -36,7 +41,8 @@ class Story:
         if not begin:
             return ""
         goal = begin["goal"]
-        return of_scene(f'{self.client(int(str(begin["client"]), 0))}, {words(goal["command"])} of {name(goal["path"])}')
+        who = self.client(number_of(begin["client"]))
+        return of_scene(f'{who}, {words(goal["command"])} of {name(goal["path"])}')
 
     def policy_of_run(self, run):
         begin = self.journal.entities.goals.get(run.number)
@@ -109,7 +115,8 @@ def run_verdict(story, run):
     look = "idle" if not run.end else "out" if not run.is_served() else story.look(opening) if opening else "in"
     ended = (statement(run.end, end_words(run, kinds), "b") if run.end
              else of_scene(f"<b>Run {run.number} is not at its end</b>"))
-    pieces.append(f"{ended}<br>{story.goal(run)}")
+    policy_words = of_scene(f", by the policy “{name(policy.name)}”") if policy else ""
+    pieces.append(f"{ended}<br>{story.goal(run)}{policy_words}")
     if run.begun not in (run.end, run.chosen) and run.begun:
         pieces.append(statement(run.begun, f"run {run.number} began without a look at the machine"))
     if run.chosen:
@@ -119,8 +126,7 @@ def run_verdict(story, run):
     pieces += block_pieces(policy, run)
     pieces += foreign_pieces(story, run)
     if run.over:
-        times = of_scene(f", {plural(run.turns_over, 'time')}")
-        pieces.append(statement(run.over, f"run {run.number} had a turn after its end{times}"))
+        pieces.append(statement(run.over, f"run {run.number} had {plural(run.turns_over, 'turn')} after its end"))
     return look, pieces
 
 
@@ -136,8 +142,7 @@ def block_pieces(policy, run):
 
 def foreign_pieces(story, run):
     """What other clients sent to the session of a run, of which the lines tell no session."""
-    events = [event for event in story.explained.events
-              if event.is_foreign() and event.maker.run == run.number]
+    events = story.foreign.get(run.number, [])
     pieces = [f"⚠ {event_statement(event)}{of_scene(', on the session of this run')}" for event in events[:SHOWN_BLOCKS]]
     more = len(events) - SHOWN_BLOCKS
     return pieces + ([of_scene(f"and {plural(more, 'more command')} of others")] if more > 0 else [])

@@ -1,5 +1,5 @@
 -- The status of each verdict, the numbers of statuses, and which of them say that the whole report was written.
-use Rattle.std.specs.Prelude.{ℕ, ⊤, Result, Ok, Err}
+use Rattle.std.specs.Prelude.{◌≡◌, ◌⊎◌, ℕ, ⊤, Result, Ok, Err}
 use Rattle.tpol_steps.specs.declared.answer.Verdict.{Verdict}
 use Rattle.tpol_steps.specs.declared.answer.Verdict.TheVariants as V
 use Rattle.tpol_steps.specs.declared.halt.Halt.{Halt}
@@ -36,6 +36,10 @@ IsWhole WriteFault = ⊥
 IsWhole ShelfFault = ⊥
 IsWhole NoMemory = ⊥
 IsWhole _ = ⊤
+
+-- the run came to its end, or memory ran out
+abbrev pub IsWholeUnlessNoMemory : Status → Type 0
+IsWholeUnlessNoMemory status = (status ≡ NoMemory) ⊎ IsWhole status
 
 -- the source or the shelf failed, or memory ran out, before anything was printed
 abbrev pub IsSilent : Status → Type 0

@@ -6,7 +6,7 @@ ghost use Rattle.tpol_steps.specs.Answer.{text_of};
 ghost use Rattle.tpol_top.specs.Explain.{IfExplain, OfHeld};
 ghost use Rattle.tpol_top.specs.Reached.{IsReadableOf};
 ghost use Rattle.tpol_top.specs.Report.{LosesAtMost, OfReport, most_read, report_of};
-ghost use Rattle.tpol_top.specs.Status.{IsWhole, IsSilent, IsPastReading, status_of};
+ghost use Rattle.tpol_top.specs.Status.{IsWhole, IsWholeUnlessNoMemory, IsSilent, IsPastReading, status_of};
 ghost use Rattle.tpol_top.specs.Words.{reads_source, request_of, uses_shelf};
 
 use crate::Status;
@@ -72,6 +72,13 @@ pub fn policy_main<S: Source, K: Sink, H: Shelf>(
     ensures read_told { (result ≡ Status.ReadFault) ⊎ (S.faults source.new ≡ S.faults source.old) }
     ensures write_told { (result ≡ Status.WriteFault) ⊎ (K.faults out.new ≡ K.faults out.old) }
     ensures shelf_told { (result ≡ Status.ShelfFault) ⊎ (H.faults shelf.new ≡ H.faults shelf.old) }
+
+    // Where no object failed in this call, the run came to its end, and the whole report was written; or memory
+    // ran out.
+    ensures complete { ¬ Rose (S.faults source.old) (S.faults source.new)
+        → ¬ Rose (K.faults out.old) (K.faults out.new)
+        → ¬ Rose (H.faults shelf.old) (H.faults shelf.new)
+        → IsWholeUnlessNoMemory result }
 
     // No count falls.
     ensures source_count { S.faults source.old ≤ S.faults source.new }

@@ -24,78 +24,156 @@ const CURRENT_PCR: &str = r#"{"policy":[{"type":"POLICYPCR","currentPCRs":[23]}]
 // A sink over a list of bytes that fails where a run says so.
 type Printer = Failing<StdSink<Vec<u8>>>;
 
-// A command line with its input, the calls of the source, of the sink and of the shelf that fail, counted from 1,
-// and what the run answers and prints.
+// The policy of a disk key: the measured boot and the key's own value, or the owner and Unseal alone.
+const DISK: &str =
+    r#"{"description":"disk","policy":[{"type":"POLICYOR","branches":[{"name":"boot","description":"","policy":[{"type":"POLICYPCR","currentPCRs":[0,2,4,7]},{"type":"POLICYAUTHVALUE"}]},{"name":"owner","description":"","policy":[{"type":"POLICYSECRET","objectPath":"/HS"},{"type":"POLICYCOMMANDCODE","code":"TPM2_CC_UNSEAL"}]}]}]}"#;
+
+// A client that knows the key's value unseals it.
+const BOOT: &str =
+    r#"{"entities":[{"kind":"seal","path":"/s","handle":"0x80000000","auth":"70696e","secret":"6b6579","policy":"disk"}],"clients":[{"client":1,"secrets":[{"path":"/s","auth":"70696e"}]},{"client":2}],"script":[{"event":"begin","run":1,"client":1,"policy":"disk","goal":{"command":"Unseal","path":"/s"}},{"event":"turn","run":1}]}"#;
+
+// What `explain` prints of this scene, as docs/worked-scenes.md has it.
+static EXPLAINED: [&str; 8] = [
+    "run 1 path 1 \"boot\"\n",
+    "1 client 1 locality 0 code 00000176 rc 00000000 accepted reply 800100000030000000000300000000206c61827e1e31e467f7f1b9a2ac8871178903d6d7c8076f46396f8fb70a053c9f\n",
+    "2 client 1 locality 0 code 0000017f rc 00000000 accepted reply 80010000000a00000000\n",
+    "3 client 1 locality 0 code 0000016b rc 00000000 accepted reply 80010000000a00000000\n",
+    "4 client 1 locality 0 code 00000171 rc 00000000 accepted reply 80010000000a00000000\n",
+    "5 client 1 locality 0 code 0000015e rc 00000000 served reply 800200000058000000000000000500036b65790020651d25737d57d8b1a2d103af4aaee599180f87444b4f20b69d2ca1ec95edf63c000020e028e8531b8f3dd863c9db22c878f5509ab6066ee86d7c6cd9e07af52605ff85\n",
+    "opening 5 path 1 \"boot\" events 2,3,4\n",
+    "run 1 served 6b6579\n",
+];
+
+static STORE: [(&str, &str); 1] = [("disk.json", DISK)];
+
+// A command line with its input, the documents of the shelf by their names, the calls of the source, of the sink
+// and of the shelf that fail, counted from 1, and what the run answers and the lines that it prints.
 #[derive(Clone, Copy)]
-struct Run {
-    words: &'static str,
-    input: &'static str,
-    source: &'static [u64],
-    sink: &'static [u64],
-    shelf: &'static [u64],
+struct Run<'a> {
+    words: &'a str,
+    input: &'a str,
+    documents: &'a [(&'a str, &'a str)],
+    source: &'a [u64],
+    sink: &'a [u64],
+    shelf: &'a [u64],
     status: Status,
-    printed: &'static str,
+    printed: &'a [&'a str],
 }
 
-static RUNS: [Run; 6] = [
+static RUNS: [Run<'static>; 6] = [
     Run {
         words: "compile",
         input: SECRET,
+        documents: &[],
         source: &[2],
         sink: &[],
         shelf: &[],
         status: Status::ReadFault,
-        printed: "",
+        printed: &[],
     },
     // Each line is one write.
     Run {
         words: "paths",
         input: BEFORE_AN_OR,
+        documents: &[],
         source: &[],
         sink: &[3],
         shelf: &[],
         status: Status::WriteFault,
-        printed: "path 1 \"a\" CommandCode,AuthValue,Or\npath 2 \"b\" CommandCode,Locality,Or\n",
+        printed: &[
+            "path 1 \"a\" CommandCode,AuthValue,Or\n",
+            "path 2 \"b\" CommandCode,Locality,Or\n",
+        ],
     },
     Run {
         words: "compile --scene m",
         input: SECRET,
+        documents: &[("m.scene", "{}")],
         source: &[],
         sink: &[],
         shelf: &[1],
         status: Status::ShelfFault,
-        printed: "",
+        printed: &[],
     },
     // The shelf hands out the scene, and then does not list its names.
     Run {
         words: "compile --scene m",
         input: CURRENT_PCR,
+        documents: &[("m.scene", "{}")],
         source: &[],
         sink: &[],
         shelf: &[2],
         status: Status::ShelfFault,
-        printed: "",
+        printed: &[],
     },
     // The source is called until it answers that it is at its end, and the shelf for the scene and for the names of
     // its documents alone.
     Run {
         words: "compile --scene m",
         input: CURRENT_PCR,
+        documents: &[("m.scene", "{}")],
         source: &[3],
         sink: &[],
         shelf: &[3],
         status: Status::Done,
-        printed: PCR_23_DIGEST,
+        printed: &[PCR_23_DIGEST],
     },
     // `import` makes one call of the shelf, which puts the document: every other one fails here.
     Run {
         words: "import /policy/disk",
         input: SECRET,
+        documents: &[],
         source: &[],
         sink: &[],
         shelf: &[2, 3, 4],
         status: Status::Done,
-        printed: "imported disk\n",
+        printed: &["imported disk\n"],
+    },
+];
+
+// Runs that have what they need, over objects that fail at every call that they are not to get.
+static WHOLE_RUNS: [Run<'static>; 3] = [
+    Run {
+        words: "run",
+        input: r#"{"script":[{"event":"presence","on":true},{"event":"time","ms":5},{"event":"command","client":1,"bytes":"8001"}]}"#,
+        documents: &[],
+        source: &[3],
+        sink: &[4],
+        shelf: &[2],
+        status: Status::Done,
+        printed: &[
+            "1 presence on\n",
+            "2 time 5\n",
+            "3 client 1 locality 0 code -------- rc 00000142 refused reply 80010000000a00000142\n",
+        ],
+    },
+    Run {
+        words: "gen 3 0",
+        input: "",
+        documents: &[],
+        source: &[1],
+        sink: &[8],
+        shelf: &[1],
+        status: Status::Done,
+        printed: &[
+            "gen 3 0\n",
+            "paths 8\n",
+            "digest 60f0a4e2ec76d5be632d3f19557d65ca0e1fc30532d8fb5d600361a02640e151\n",
+            "run 1 path 8 \"b\"/\"b\"/\"b\"\n",
+            "commands 9\n",
+            "9 client 1 locality 0 code 0000015e rc 00000000 served reply 8002000000580000000000000005000367656e0020f82428c464b1e3f6e2f567b1458c513cdec93c6f112dffad5af08524862b1cb800002021ec3ce202f4ca71cfdb4b573bd2ce5881ad5339f8b954bf8914795a00123807\n",
+            "run 1 served 67656e\n",
+        ],
+    },
+    Run {
+        words: "canon",
+        input: r#"{"policy":[{"type":"authvalue","x":1}]}"#,
+        documents: &[],
+        source: &[3],
+        sink: &[2],
+        shelf: &[1],
+        status: Status::Done,
+        printed: &["{\"description\":\"\",\"policy\":[{\"type\":\"POLICYAUTHVALUE\"}]}\n"],
     },
 ];
 
@@ -113,10 +191,18 @@ fn words_of(alloc: Global, words: &str) -> Result<Vec<String>, NoMemory> {
     Ok(list)
 }
 
-// A shelf with one scene.
-fn scenes(alloc: Global) -> Result<MemoryShelf, Lapse> {
+// Puts documents on a shelf, each under its name.
+fn put_documents(shelf: &mut MemoryShelf, documents: &[(&str, &str)]) -> Result<(), Lapse> {
+    for (name, text) in documents {
+        shelf.put(name, text.as_bytes())?;
+    }
+    Ok(())
+}
+
+// A shelf with these documents.
+fn shelf_of(alloc: Global, documents: &[(&str, &str)]) -> Result<MemoryShelf, Lapse> {
     let mut shelf = MemoryShelf::new(alloc);
-    shelf.put("m.scene", b"{}")?;
+    put_documents(&mut shelf, documents)?;
     Ok(shelf)
 }
 
@@ -134,9 +220,9 @@ fn sink(alloc: Global, failing: &[u64]) -> Result<Printer, NoMemory> {
     Ok(Failing::new(StdSink::new(Vec::new(alloc)), failing))
 }
 
-fn shelf(alloc: Global, failing: &[u64]) -> Result<Failing<MemoryShelf>, Lapse> {
-    let failing = calls(alloc, failing)?;
-    Ok(Failing::new(scenes(alloc)?, failing))
+fn shelf(alloc: Global, run: &Run) -> Result<Failing<MemoryShelf>, Lapse> {
+    let failing = calls(alloc, run.shelf)?;
+    Ok(Failing::new(shelf_of(alloc, run.documents)?, failing))
 }
 
 // What a run over these objects answers.
@@ -154,11 +240,11 @@ fn answer_over(
 fn answer_from(
     alloc: Global,
     words: &Vec<String>,
+    run: &Run,
     source: &mut Failing<MemorySource>,
     sink: &mut Printer,
-    failing: &[u64],
 ) -> Result<Status, Lapse> {
-    let mut shelf = shelf(alloc, failing)?;
+    let mut shelf = shelf(alloc, run)?;
     Ok(answer_over(alloc, words, source, sink, &mut shelf))
 }
 
@@ -170,7 +256,7 @@ fn answer_to(
     sink: &mut Printer,
 ) -> Result<Status, Lapse> {
     let mut source = source(alloc, run.input.as_bytes(), run.source)?;
-    answer_from(alloc, words, &mut source, sink, run.shelf)
+    answer_from(alloc, words, run, &mut source, sink)
 }
 
 // What a run answers that prints to this sink.
@@ -179,8 +265,20 @@ fn answer(alloc: Global, run: &Run, sink: &mut Printer) -> Result<Status, Lapse>
     answer_to(alloc, &words, run, sink)
 }
 
-fn has_printed(sink: &Printer, text: &str) -> bool {
-    sink.inner().writer().as_slice() == text.as_bytes()
+// Whether a text is these lines.
+fn has_lines(text: &[u8], lines: &[&str]) -> bool {
+    let mut rest = text;
+    for line in lines {
+        match rest.strip_prefix(line.as_bytes()) {
+            Some(behind) => rest = behind,
+            None => return false,
+        }
+    }
+    rest.is_empty()
+}
+
+fn has_printed(sink: &Printer, lines: &[&str]) -> bool {
+    has_lines(sink.inner().writer().as_slice(), lines)
 }
 
 // Whether a run answers and prints what the table says.
@@ -196,6 +294,55 @@ fn ends_as_told(alloc: Global, run: &Run) -> bool {
 #[test]
 fn failures_are_told_and_nothing_is_called_again(rt: HostRuntime) {
     for run in &RUNS {
-        assert!(rt; ends_as_told(rt.alloc(), run));
+        assert!(rt; ends_as_told(rt.alloc(), run), "{}", run.words);
     }
+}
+
+#[test]
+fn runs_that_have_what_they_need(rt: HostRuntime) {
+    for run in &WHOLE_RUNS {
+        assert!(rt; ends_as_told(rt.alloc(), run), "{}", run.words);
+    }
+}
+
+// `explain` of the disk's scene, where these calls fail, if there are so many: it answers this, and prints so many
+// of its lines.
+fn explains(
+    alloc: Global,
+    failing: (&[u64], &[u64], &[u64]),
+    status: Status,
+    lines: usize,
+) -> bool {
+    let (source, sink, shelf) = failing;
+    let run = Run {
+        words: "explain",
+        input: BOOT,
+        documents: &STORE,
+        source,
+        sink,
+        shelf,
+        status,
+        printed: &EXPLAINED[..lines.min(EXPLAINED.len())],
+    };
+    ends_as_told(alloc, &run)
+}
+
+#[test]
+fn a_scene_is_explained_up_to_a_failure(rt: HostRuntime) {
+    for line in 1..=EXPLAINED.len() {
+        let sink = [line as u64];
+        assert!(rt; explains(rt.alloc(), (&[], &sink, &[]), Status::WriteFault, line - 1));
+    }
+    for call in 1..=2 {
+        assert!(rt; explains(rt.alloc(), (&[call], &[], &[]), Status::ReadFault, 0));
+        assert!(rt; explains(rt.alloc(), (&[], &[], &[call]), Status::ShelfFault, 0));
+    }
+    assert!(rt;
+        explains(
+            rt.alloc(),
+            (&[3], &[9], &[3]),
+            Status::Done,
+            EXPLAINED.len()
+        )
+    );
 }
