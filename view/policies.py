@@ -152,10 +152,10 @@ def ways_table(marks):
 
 
 def way_cells(marks, way):
-    kinds = words(" → ".join(way.kinds))
+    kinds = statement(way.line, words(" → ".join(way.kinds)), source="way")
     dead = dead_mark(marks.policy.dead[way.number], "div") if way.number in marks.policy.dead else ""
     first = statement(way.line, f'way {way.number}<br>{of_scene(choice_words(way.label))}', "div", source="way")
-    return f'<th scope="row">{first}</th><td>{of_scene(kinds)}{dead}</td>'
+    return f'<th scope="row">{first}</th><td>{kinds}{dead}</td>'
 
 
 def run_cell(marks, run, way):

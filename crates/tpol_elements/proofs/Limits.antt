@@ -9,7 +9,7 @@ use Rattle.tpol_json.specs.Places.{at_member}
 use Rattle.tpol_json.specs.declared.place.Place.{Place}
 use Rattle.tpol_members.proofs.Limits.{all_still, full_name-bounded, name-bounded}
 use Rattle.tpol_members.proofs.OneOf.{all_of}
-use Rattle.tpol_members.specs.Faults.{bad}
+use Rattle.tpol_json.specs.Reading.{bad}
 use Rattle.tpol_members.specs.Values.{text_in, full_name_in, is_empty_name, name_in}
 use Rattle.tpol_members.specs.declared.fault.PolicyKind.TheVariants.{Missing}
 use Rattle.tpol_members.specs.declared.walk.Walk.{Walk}

@@ -12,7 +12,8 @@ use Rattle.tpol_tree.specs.declared.wishes.NvPublicText.{NvPublicText}
 use Rattle.tpol_members.specs.Algorithms.{hash_in, key_type_in, scheme_in}
 use Rattle.tpol_base.specs.Answers.{◌>>=◌}
 use Rattle.tpol_members.specs.Faults.{Found}
-use Rattle.tpol_members.specs.Members.{object_in, needed, optional, noted}
+use Rattle.tpol_json.specs.Members.{optional}
+use Rattle.tpol_members.specs.Members.{object_in, needed, noted}
 use Rattle.tpol_members.specs.Values.{empty_or_32, unsigned_in, u32_in}
 use Rattle.tpol_members.specs.Walks.{Reading}
 

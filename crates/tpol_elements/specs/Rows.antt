@@ -14,9 +14,11 @@ use Rattle.tpol_elements.specs.declared.types.LeafType.TheVariants as types
 use Rattle.tpol_members.specs.Localities.{locality_in}
 use Rattle.tpol_members.specs.Operations.{code_in}
 use Rattle.tpol_base.specs.Answers.{◌>>=◌}
-use Rattle.tpol_members.specs.Faults.{Found, bad}
+use Rattle.tpol_members.specs.Faults.{Found}
+use Rattle.tpol_json.specs.Reading.{bad}
 use Rattle.tpol_members.specs.Fields.{policy_ref_in, cp_hash_in, expiration_in, operand_in, offset_in, operation_member_in}
-use Rattle.tpol_members.specs.Members.{needed, optional}
+use Rattle.tpol_json.specs.Members.{optional}
+use Rattle.tpol_members.specs.Members.{needed}
 use Rattle.tpol_members.specs.Values.{digest_in, name_in, is_empty_name, truth_in}
 use Rattle.tpol_members.specs.Pcrs.{pcrs_in}
 use Rattle.tpol_members.specs.Walks.{Reading, still}

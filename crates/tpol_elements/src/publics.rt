@@ -1,7 +1,7 @@
 //! Public areas of keys and of indices.
 
 ghost use Rattle.serde_json.specs.View.{view};
-ghost use Rattle.tpol_members.specs.Faults.{Gives};
+ghost use Rattle.tpol_json.specs.Reading.{Gives};
 ghost use Rattle.tpol_elements.specs.Publics.{key_type_member, name_hash_member, attributes_member, auth_policy_member, scheme_member, unique_member, nv_index_member, data_size_member, object_public, index_public, object_public_in, index_public_in, through};
 ghost use Rattle.tpol_members.specs.Values.{unsigned_in};
 ghost use Rattle.tpol_members.specs.Walks.{Leaves};

@@ -1,7 +1,7 @@
 //! What the members of each element say that holds no other elements.
 
 ghost use Rattle.serde_json.specs.View.{view};
-ghost use Rattle.tpol_members.specs.Faults.{Gives};
+ghost use Rattle.tpol_json.specs.Reading.{Gives};
 ghost use Rattle.tpol_elements.specs.Rows.{authorize_nv_row, authorize_row, command_code_row, counter_timer_row, cp_hash_row, duplication_row, include_member, included_object, leaf_row, locality_member, locality_row, name_hash_row, nv_row, nv_written_row, object_member, pcr_row, secret_row, signed_row, without_pem, written_member};
 ghost use Rattle.tpol_members.specs.Walks.{Leaves};
 
@@ -10,10 +10,10 @@ use crate::wishes::{entity_wish, index_wish, key_wish, names_wish, parent_wish};
 use serde_json::Value;
 use std::alloc::Global;
 use tpol_base::Name;
-use tpol_json::{PlaceRef, digest, member, name, needed, truth};
+use tpol_json::{PlaceRef, digest, member, name, needed, refuse, truth};
 use tpol_members::{
     ElementFault, PolicyKind, Walk, code, cp_hash, expiration, localities, offset, operand,
-    operation_member, pcr_wish, policy_ref, refuse,
+    operation_member, pcr_wish, policy_ref,
 };
 use tpol_tree::Element;
 

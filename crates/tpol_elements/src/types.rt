@@ -2,7 +2,7 @@
 
 ghost use Rattle.std.specs.Prelude.{◌≡◌, map, OnOk};
 ghost use Rattle.serde_json.specs.View.{view};
-ghost use Rattle.tpol_members.specs.Faults.{Gives};
+ghost use Rattle.tpol_json.specs.Reading.{Gives};
 ghost use Rattle.tpol_members.specs.Members.{noted};
 ghost use Rattle.tpol_elements.specs.Types.{leaf_members, type_in};
 

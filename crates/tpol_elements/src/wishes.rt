@@ -2,7 +2,7 @@
 
 ghost use Rattle.std.specs.Prelude.{[]};
 ghost use Rattle.serde_json.specs.View.{view, items_view};
-ghost use Rattle.tpol_members.specs.Faults.{Gives, cause};
+ghost use Rattle.tpol_json.specs.Reading.{Gives, cause};
 ghost use Rattle.tpol_base.specs.Answers as answers;
 ghost use Rattle.tpol_members.specs.Values.{full_name_in, name_in, one_to_three, text_in};
 ghost use Rattle.tpol_members.specs.Walks.{Leaves};
@@ -13,8 +13,8 @@ use crate::publics::{index_public_area, object_public_area};
 use serde_json::Value;
 use std::alloc::Global;
 use tpol_base::{Name, Sequence, Texts};
-use tpol_json::{PlaceRef, digest, items, name, text};
-use tpol_members::{ElementFault, PolicyKind, Walk, alone, first_of, refuse};
+use tpol_json::{PlaceRef, digest, items, name, refuse, text};
+use tpol_members::{ElementFault, PolicyKind, Walk, alone, first_of};
 use tpol_tree::{EntityWish, IndexWish, KeyWish, Names, NamesWish, ParentWish};
 
 #[tactic(auto, unfolding(crate::specs::Wishes::key_at))]

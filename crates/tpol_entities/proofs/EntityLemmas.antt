@@ -7,7 +7,6 @@ use Rattle.std.proofs.lemmas.List.{length-replicate}
 use Rattle.std.proofs.lemmas.List.Elements.{All-nil}
 use Rattle.serde_json.specs.Data.{Data}
 use Rattle.serde_json.specs.Find.{get}
-use Rattle.tpol_json.specs.Bytes.{bytes_in}
 use Rattle.tpol_json.proofs.AllFound.{AllFound, all_then}
 use Rattle.tpol_json.specs.Places.{at_member}
 use Rattle.tpol_json.specs.declared.place.Place.{Place}
@@ -19,12 +18,11 @@ use Rattle.tpol_name.specs.declared.entries.IndexEntry.{IndexEntry}
 use Rattle.tpol_name.specs.declared.entries.ObjectEntry.{ObjectEntry}
 use Rattle.tpol_entities.specs.Entities.{no_entities, has_path, new_path_in, has_handle, new_handle_in, bytes_or_name, policy_name_in, some_policy_in, policy_source_in, heading_in, object_entry_in, index_attributes_in, index_size_in, content_in, content_or_zeros, index_entry_in, object_behind, index_behind, entity_by, entity_in, entities_in}
 use Rattle.tpol_base.specs.Attributes.{index_type, is_index_type, is_size_of_type, object_sign, object_user_with_auth}
-use Rattle.tpol_json.specs.Faults as members
-use Rattle.tpol_json.specs.Reading as json
-use Rattle.tpol_json.specs.Values.{is_within_limit}
+use Rattle.tpol_json.specs.Values.{any_bytes, is_within_limit}
 use Rattle.tpol_entities.specs.Faults.{read_as}
 use Rattle.tpol_entities.specs.Kinds.{kind_in, least_handle, greatest_handle}
-use Rattle.tpol_entities.specs.Members.{needed, optional}
+use Rattle.tpol_json.specs.Members.{optional}
+use Rattle.tpol_entities.specs.Members.{needed}
 use Rattle.tpol_entities.specs.Values.{object_in, text_in, unsigned_in, u32_in, bytes_up_to, empty_or_32, auth_in}
 use Rattle.tpol_entities.specs.declared.entities.Entities.{Entities}
 use Rattle.tpol_entities.specs.declared.fault.SceneKind.TheVariants.{Twice, BadState}
@@ -175,7 +173,7 @@ ContentFits size content = IfSome content (λ bytes. length bytes ≡ size)
 
 content_ok : (size : ℕ) (d : Data) (place : Place) → AllFound (ContentFits size) (content_in size d place)
 content_ok size d place =
-    all_then (λ _. ⊤) (ContentFits size) (read_as (json.read_as members.kind_of (bytes_in d place))) _ (any_ok _)
+    all_then (λ _. ⊤) (ContentFits size) (read_as (any_bytes d place)) _ (any_ok _)
     (λ bytes _. tested (ContentFits size) (length bytes == size) (Some bytes) BadState place (eqb-true _ _))
 
 content_length : (content : Option (List ℕ)) (size : ℕ) → ContentFits size content → length (content_or_zeros content size) ≡ size

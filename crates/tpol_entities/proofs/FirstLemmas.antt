@@ -6,10 +6,9 @@ use Rattle.serde_json.specs.Find.{get}
 use Rattle.tpol_json.specs.Places.{at_item, at_member}
 use Rattle.tpol_json.specs.declared.place.Place.{Place}
 use Rattle.tpol_base.specs.Answers.{◌>>=◌}
-use Rattle.tpol_json.specs.Members.{items_from}
+use Rattle.tpol_json.specs.Members.{items_from, optional, read_optional}
 use Rattle.tpol_entities.specs.Faults.{Fault, Found}
 use Rattle.tpol_entities.specs.Lists.{ItemReading, list_in, item_faults, items_kept, found_or, kept_if_there, kept_within, list_faults, list_kept, faults_of, faults_behind, faults_if_there, faults_within, optional_faults, optional_kept}
-use Rattle.tpol_entities.specs.Members.{optional, read_optional}
 use Rattle.tpol_entities.specs.Values.{items_in}
 
 -- the fault of a reading

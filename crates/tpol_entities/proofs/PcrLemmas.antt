@@ -5,7 +5,8 @@ use Rattle.std.proofs.lemmas.List.{length-set}
 use Rattle.serde_json.specs.Data.{Data}
 use Rattle.tpol_json.proofs.AllFound.{AllFound, all_then}
 use Rattle.tpol_json.specs.declared.place.Place.{Place}
-use Rattle.tpol_entities.specs.Members.{needed, optional}
+use Rattle.tpol_json.specs.Members.{optional}
+use Rattle.tpol_entities.specs.Members.{needed}
 use Rattle.tpol_entities.specs.Pcrs.{new_pcr_in, pcr_in, pcrs_in, zero_bank}
 use Rattle.tpol_entities.specs.Values.{object_in, digest_in}
 use Rattle.tpol_entities.specs.declared.pcrs.PcrBank.{PcrBank}

@@ -16,7 +16,7 @@ use Rattle.tpol_name.specs.declared.entries.IndexEntry.{IndexEntry}
 use Rattle.tpol_name.specs.declared.entries.ObjectEntry.{ObjectEntry}
 use Rattle.tpol_entities.specs.Entities.{entities_in, entity_by, entity_in, heading_in, index_behind, index_entry_in, no_entities, object_behind, object_entry_in, policies_with}
 use Rattle.tpol_entities.specs.Faults.{kind_of, read_as}
-use Rattle.tpol_entities.specs.Members.{optional}
+use Rattle.tpol_json.specs.Members.{optional}
 use Rattle.tpol_entities.specs.Places.{StandsBehind}
 use Rattle.tpol_entities.specs.declared.entities.Entities.{Entities}
 use Rattle.tpol_entities.specs.declared.entities.EntityPolicy.{EntityPolicy}

@@ -6,7 +6,7 @@ use Rattle.serde_json.specs.Data.{Data, Items, no_items, item}
 use Rattle.serde_json.specs.Find.{get}
 use Rattle.tpol_json.proofs.AllFound.{AllFound, all_if, all_map, all_read, all_then, needed-fits, optional-fits}
 use Rattle.tpol_json.proofs.Limits.{FitsBytes, empty_or_32-fits, is_empty_or_32, is_up_to, unsigned-fits, up_to-fits}
-use Rattle.tpol_json.specs.Members.{items_from}
+use Rattle.tpol_json.specs.Members.{items_from, optional}
 use Rattle.tpol_json.specs.Places.{at_item, at_member}
 use Rattle.tpol_json.specs.Reading.{ReadAs, bad}
 use Rattle.tpol_json.specs.Values as json
@@ -14,10 +14,10 @@ use Rattle.tpol_json.specs.declared.place.Place.{Place}
 use Rattle.tpol_name.specs.Setups.{IsAuthValue, IsDigestOrEmpty}
 use Rattle.tpol_entities.specs.Faults.{Found, kind_of}
 use Rattle.tpol_entities.specs.Lists.{ItemReading, list_in}
-use Rattle.tpol_entities.specs.Members.{needed, optional}
+use Rattle.tpol_entities.specs.Members.{needed}
 use Rattle.tpol_entities.specs.Values.{items_in, unsigned_in, bytes_up_to, empty_or_32, auth_in}
 use Rattle.tpol_entities.specs.declared.fault.SceneKind.TheVariants.{Missing}
-use Rattle.tpol_entities.proofs.ZerosLemmas.{trimmed, without_zeros-length}
+use Rattle.tpol_entities.proofs.ZerosLemmas.{trimmed, without_trailing_zeros-length}
 
 -- ---- readings in general
 
@@ -92,4 +92,4 @@ empty_auth = record { size = omega arith; trimmed = refl }
 pub auth_ok : (d : Data) (place : Place) → AllFound IsAuthValue (auth_in d place)
 auth_ok d place =
     all_then (λ bytes. length bytes ≤ 32) IsAuthValue (bytes_up_to 32 d place) _ (short_ok 32 d place)
-    (λ bytes short. record { size = omega (arith, without_zeros-length bytes, short); trimmed = trimmed bytes })
+    (λ bytes short. record { size = omega (arith, without_trailing_zeros-length bytes, short); trimmed = trimmed bytes })

@@ -5,15 +5,15 @@ use Rattle.tpol_base.specs.Handle.{rh_owner}
 use Rattle.tpol_base.specs.PolicyName.{without_folder}
 use Rattle.tpol_json.specs.Places.{root}
 use Rattle.tpol_entities.specs.Entities.{no_entities, has_path, bytes_or_name, index_attributes_in}
-use Rattle.tpol_entities.specs.Faults.{bad}
+use Rattle.tpol_json.specs.Reading.{bad}
 use Rattle.tpol_entities.specs.Targets.{handle_at, target_in}
-use Rattle.tpol_entities.specs.Values.{without_zeros}
+use Rattle.tpol_base.specs.TrailingZeros.{without_trailing_zeros}
 use Rattle.tpol_entities.specs.declared.fault.SceneKind.TheVariants.{Twice, BadState, NoSuchPath}
 use Rattle.tpol_entities.specs.declared.targets.Target.TheVariants.{Entity, Object}
 
 -- zero bytes at the end are taken away, those before are not
-pub zeros : without_zeros (1 ∷ 0 ∷ 2 ∷ 0 ∷ 0 ∷ []) ≡ 1 ∷ 0 ∷ 2 ∷ []
-unfolding without_zeros
+pub zeros : without_trailing_zeros (1 ∷ 0 ∷ 2 ∷ 0 ∷ 0 ∷ []) ≡ 1 ∷ 0 ∷ 2 ∷ []
+unfolding without_trailing_zeros
 zeros = refl
 
 pub name_in_folder : without_folder (codes "/policy/disk") ≡ codes "disk"

@@ -6,11 +6,9 @@ use Rattle.serde_json.specs.Find.{get}
 use Rattle.tpol_base.specs.Answers.{◌>>=◌}
 use Rattle.tpol_base.specs.Attributes.{index_type, is_index_type, is_size_of_type, nv_written, object_sign, object_user_with_auth}
 use Rattle.tpol_base.specs.PolicyName.{without_folder}
-use Rattle.tpol_json.specs.Bytes.{bytes_in}
 use Rattle.tpol_json.specs.Places.{at_member}
-use Rattle.tpol_json.specs.Faults as members
-use Rattle.tpol_json.specs.Reading as json
-use Rattle.tpol_json.specs.Values.{is_within_limit}
+use Rattle.tpol_json.specs.Values.{any_bytes, is_within_limit}
+use Rattle.tpol_json.specs.declared.fault.Fault.{Fault}
 use Rattle.tpol_json.specs.declared.place.Place.{Place}
 use Rattle.tpol_name.specs.Areas.{is_written}
 use Rattle.tpol_name.specs.Entities.{hierarchy_at, index_at, object_at}
@@ -22,17 +20,19 @@ use Rattle.tpol_entities.specs.declared.entities.Entities.{Entities}
 use Rattle.tpol_entities.specs.declared.entities.EntityPolicy.{EntityPolicy}
 use Rattle.tpol_entities.specs.declared.entries.IndexRest.{IndexRest}
 use Rattle.tpol_entities.specs.declared.entries.ObjectRest.{ObjectRest}
-use Rattle.tpol_entities.specs.declared.fault.PartFault.{PartFault}
+use Rattle.tpol_entities.specs.declared.fault.SceneKind.{SceneKind}
 use Rattle.tpol_entities.specs.declared.heading.Heading.{Heading}
 use Rattle.tpol_entities.specs.declared.heading.NamedPolicy.{NamedPolicy}
 use Rattle.tpol_entities.specs.declared.heading.PolicySource.{PolicySource}
 use Rattle.tpol_entities.specs.declared.kinds.EntityKind.{EntityKind}
 use Rattle.tpol_entities.specs.declared.kinds.EntityKind.TheVariants.{Seal, Key, Nv}
 use Rattle.tpol_entities.specs.declared.fault.SceneKind.TheVariants.{Twice, BadState}
-use Rattle.tpol_entities.specs.Faults.{Found, GivesBy, bad, read_as}
+use Rattle.tpol_entities.specs.Faults.{Found, GivesBy, read_as}
+use Rattle.tpol_json.specs.Reading.{bad}
 use Rattle.tpol_entities.specs.Kinds.{kind_in, least_handle, greatest_handle}
 use Rattle.tpol_entities.specs.Lists.{ItemReading, list_in}
-use Rattle.tpol_entities.specs.Members.{needed, optional}
+use Rattle.tpol_json.specs.Members.{optional}
+use Rattle.tpol_entities.specs.Members.{needed}
 use Rattle.tpol_entities.specs.Values.{object_in, text_in, unsigned_in, u32_in, bytes_up_to, empty_or_32, auth_in}
 
 abbrev pub no_entities : Entities
@@ -113,7 +113,7 @@ object_entry_in scheme default heading d place = do
   Ok (object_with scheme heading (record { attributes = attributes; secret = secret; unique = unique }))
 
 -- a call gives what stands in an object behind its heading, whatever its heading and its scheme
-abbrev pub GivesObjectRest : ℕ → Result ObjectRest PartFault → Data → Place → Type 0
+abbrev pub GivesObjectRest : ℕ → Result ObjectRest (Fault SceneKind) → Data → Place → Type 0
 GivesObjectRest default result d place =
     (scheme : Scheme) (heading : Heading) → GivesBy (object_with scheme heading) result (object_entry_in scheme default heading d place)
 
@@ -132,7 +132,7 @@ index_size_in attributes d place = do
 -- a content of this size
 abbrev pub content_in : ℕ → Data → Place → Found (Option (List ℕ))
 content_in size d place = do
-  bytes ← read_as (json.read_as members.kind_of (bytes_in d place))
+  bytes ← read_as (any_bytes d place)
   if length bytes == size then Ok (Some bytes) else bad BadState place
 
 -- the attributes of an index: with a content WRITTEN is set
@@ -162,7 +162,7 @@ index_entry_in heading d place = do
   Ok (index_with heading (record { attributes = attributes_with content attributes; size = size; content = content_or_zeros content size }))
 
 -- a call gives what stands in an index behind its heading, whatever its heading
-abbrev pub GivesIndexRest : Result IndexRest PartFault → Data → Place → Type 0
+abbrev pub GivesIndexRest : Result IndexRest (Fault SceneKind) → Data → Place → Type 0
 GivesIndexRest result d place = (heading : Heading) → GivesBy (index_with heading) result (index_entry_in heading d place)
 
 -- the policies that entities name, with that of the entity with this handle behind these ones

@@ -7,7 +7,8 @@ use Rattle.tpol_json.specs.declared.place.Place.{Place}
 use Rattle.tpol_entities.specs.declared.kinds.EntityKind.{EntityKind}
 use Rattle.tpol_entities.specs.declared.kinds.EntityKind.TheVariants.{Seal, Key, Nv}
 use Rattle.tpol_entities.specs.declared.fault.SceneKind.TheVariants.{UnknownKind}
-use Rattle.tpol_entities.specs.Faults.{Found, bad}
+use Rattle.tpol_entities.specs.Faults.{Found}
+use Rattle.tpol_json.specs.Reading.{bad}
 use Rattle.tpol_entities.specs.Values.{text_in}
 
 -- one of the words `seal`, `key` and `nv`, exactly

@@ -13,10 +13,3 @@ module _ {A : Type 0} where
   -- a member that has to be there
   abbrev pub needed : (Data → Place → Found A) → List ℕ → Data → Place → Found A
   needed = json.needed Missing
-
-  abbrev pub read_optional : (Data → Place → Found A) → A → Option Data → Place → Found A
-  read_optional = json.read_optional
-
-  -- a member that may be left out, for its default
-  abbrev pub optional : (Data → Place → Found A) → A → List ℕ → Data → Place → Found A
-  optional = json.optional

@@ -6,7 +6,8 @@ use Rattle.tpol_json.specs.declared.place.Place.{Place}
 use Rattle.tpol_entities.specs.declared.pcrs.PcrBank.{PcrBank}
 use Rattle.tpol_entities.specs.declared.fault.SceneKind.TheVariants.{Twice}
 use Rattle.tpol_base.specs.Answers.{◌>>=◌}
-use Rattle.tpol_entities.specs.Faults.{Found, bad}
+use Rattle.tpol_entities.specs.Faults.{Found}
+use Rattle.tpol_json.specs.Reading.{bad}
 use Rattle.tpol_entities.specs.Lists.{ItemReading, list_in}
 use Rattle.tpol_entities.specs.Members.{needed}
 use Rattle.tpol_base.specs.Digest.{zero_digest}

@@ -9,7 +9,8 @@ use Rattle.tpol_entities.specs.declared.entities.Entities.{Entities}
 use Rattle.tpol_entities.specs.declared.targets.Target.{Target}
 use Rattle.tpol_entities.specs.declared.targets.Target.TheVariants.{Entity, Object, Index}
 use Rattle.tpol_entities.specs.declared.fault.SceneKind.TheVariants.{NoSuchPath}
-use Rattle.tpol_entities.specs.Faults.{Found, bad}
+use Rattle.tpol_entities.specs.Faults.{Found}
+use Rattle.tpol_json.specs.Reading.{bad}
 use Rattle.tpol_entities.specs.Values.{text_in}
 
 -- the handle of the object, or of the index, that has this path

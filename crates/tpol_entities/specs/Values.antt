@@ -1,8 +1,8 @@
 -- The values of a scene's members.
-use Rattle.std.specs.Prelude.{ℕ, ◌-◌, nat_eq, List, length, take, Bool, Ok, ⊤}
-use Rattle.std.specs.List.{suffix_len}
+use Rattle.std.specs.Prelude.{ℕ, List, Bool, Ok, ⊤}
 use Rattle.serde_json.specs.Data.{Data, Items}
 use Rattle.tpol_base.specs.Answers.{◌>>=◌}
+use Rattle.tpol_base.specs.TrailingZeros.{without_trailing_zeros}
 use Rattle.tpol_base.specs.declared.digest.Digest32.{Digest32}
 use Rattle.tpol_json.specs.Values as json
 use Rattle.tpol_json.specs.declared.place.Place.{Place}
@@ -44,10 +44,6 @@ empty_or_32 d place = read_as (json.empty_or_32 d place)
 abbrev pub digest_in : Data → Place → Found Digest32
 digest_in d place = read_as (json.digest_in d place)
 
--- bytes without the zero bytes at their end
-unfoldable pub without_zeros : List ℕ → List ℕ
-without_zeros bytes = take (length bytes - suffix_len (nat_eq 0) bytes) bytes
-
 -- an authorization value: at most 32 bytes, and the zero bytes at their end are taken away
 abbrev pub auth_in : Data → Place → Found (List ℕ)
-auth_in d place = bytes_up_to 32 d place >>= λ bytes. Ok (without_zeros bytes)
+auth_in d place = bytes_up_to 32 d place >>= λ bytes. Ok (without_trailing_zeros bytes)

@@ -3,8 +3,9 @@
 ghost use Rattle.std.specs.Prelude.{◌≡◌, codes, OnOk};
 ghost use Rattle.serde_json.specs.View.{view};
 ghost use Rattle.tpol_entities.specs.Entities.{entities_in, entity_by, index_behind, no_entities, object_behind, policies_with};
-ghost use Rattle.tpol_entities.specs.Faults.{Gives, Leaves};
-ghost use Rattle.tpol_entities.specs.Members.{optional};
+ghost use Rattle.tpol_entities.specs.Faults.{Leaves};
+ghost use Rattle.tpol_json.specs.Reading.{Gives};
+ghost use Rattle.tpol_json.specs.Members.{optional};
 
 use crate::entries::{read_index, read_object};
 use crate::fault::PartFault;

@@ -2,23 +2,24 @@
 
 ghost use Rattle.std.specs.Prelude.{◌≡◌, [], codes, IfErr, IfOk, None};
 ghost use Rattle.serde_json.specs.View.{view};
-ghost use Rattle.tpol_entities.specs.declared.fault.PartFault.TheVariants.{NoMemory as no_memory};
+ghost use Rattle.tpol_json.specs.declared.fault.Fault.TheVariants.{NoMemory as no_memory};
 ghost use Rattle.tpol_entities.specs.Entities.{GivesIndexRest, GivesObjectRest, attributes_with, content_in, content_or_zeros, index_and_policy_in, index_attributes_in, index_size_in, index_with, object_and_policy_in, object_with};
-ghost use Rattle.tpol_entities.specs.Faults.{Gives};
-ghost use Rattle.tpol_entities.specs.Members.{needed, optional};
+ghost use Rattle.tpol_json.specs.Reading.{Gives};
+ghost use Rattle.tpol_json.specs.Members.{optional};
+ghost use Rattle.tpol_entities.specs.Members.{needed};
 ghost use Rattle.tpol_entities.specs.Values.{empty_or_32};
 
 use crate::SceneKind;
-use crate::fault::{PartFault, refuse};
+use crate::fault::PartFault;
 use crate::heading::{Heading, NamedPolicy, PolicySource};
-use crate::members::{any_bytes, needed_bytes, optional_u32};
+use crate::members::{needed_bytes, optional_u32};
 use serde_json::Value;
 use std::alloc::Global;
 use tpol_base::Blob;
 use tpol_base::attributes::{
     NV_WRITTEN, has_attribute, index_type, is_index_type, is_size_of_type,
 };
-use tpol_json::{PlaceRef, empty_or_32, member, needed, unsigned, unsigned_32};
+use tpol_json::{PlaceRef, any_bytes, empty_or_32, member, needed, refuse, unsigned, unsigned_32};
 use tpol_name::{IndexEntry, NvPublic, ObjectEntry, ObjectPublic, Scheme};
 
 /// The most bytes of an object's secret.

@@ -1,11 +1,6 @@
 //! What is wrong in a scene, and the refusal of a part of it.
 
-ghost use Rattle.std.specs.Prelude.{◌≡◌};
-ghost use Rattle.tpol_entities.specs.Faults.{Gives, bad, kind_of};
-
-use std::alloc::{AllocError, Global};
-use tpol_base::NoMemory;
-use tpol_json::{MemberFault, MemberKind, Place, PlaceRef};
+use tpol_json::{Fault, Includes, MemberKind};
 
 /// What is wrong in a scene.
 #[derive(Clone, Copy, Debug, PartialEq, Eq)]
@@ -37,73 +32,22 @@ pub enum SceneKind {
     NoSuchPolicy,
 }
 
-/// Why a part of a scene is refused that is read from JSON values.
-#[derive(Drop)]
-pub enum PartFault {
-    /// The first fault in reading order.
-    Bad { kind: SceneKind, place: Place },
-    /// Memory ran out.
-    NoMemory,
-}
+/// Why a part of a scene is refused: the first fault in reading order.
+pub type PartFault = Fault<SceneKind>;
 
-impl From<NoMemory> for PartFault {
-    ghost use Rattle.std.specs.Prelude.{◌≡◌};
-    ghost use Rattle.tpol_entities.specs.declared.fault.PartFault.TheVariants as faults;
+impl Includes<MemberKind> for SceneKind {
+    ghost use Rattle.tpol_entities.specs.Faults.{kind_of};
 
-    ghost from_gives = { λ _ fault. fault ≡ faults.NoMemory };
+    ghost kind_of = { kind_of };
 
-    fn from(_: NoMemory) -> Self {
-        PartFault::NoMemory
-    }
-}
-
-impl From<AllocError> for PartFault {
-    ghost use Rattle.std.specs.Prelude.{◌≡◌};
-    ghost use Rattle.tpol_entities.specs.declared.fault.PartFault.TheVariants as faults;
-
-    ghost from_gives = { λ _ fault. fault ≡ faults.NoMemory };
-
-    fn from(_: AllocError) -> Self {
-        PartFault::NoMemory
-    }
-}
-
-impl From<MemberFault> for PartFault {
-    ghost use Rattle.std.specs.Prelude.{◌≡◌};
-    ghost use Rattle.tpol_entities.specs.Faults.{fault_of};
-
-    ghost from_gives = { λ fault made. made ≡ fault_of fault };
-
-    fn from(fault: MemberFault) -> Self {
-        match fault {
-            MemberFault::Bad { kind, place } => PartFault::Bad {
-                kind: kind_of(kind),
-                place,
-            },
-            MemberFault::NoMemory => PartFault::NoMemory,
+    fn of_kind(kind: MemberKind) -> SceneKind {
+        match kind {
+            MemberKind::Missing => SceneKind::Missing,
+            MemberKind::WrongKind => SceneKind::WrongKind,
+            MemberKind::BadHex => SceneKind::BadHex,
+            MemberKind::BadNumber => SceneKind::BadNumber,
+            MemberKind::Twice => SceneKind::Twice,
+            MemberKind::TooMany => SceneKind::TooMany,
         }
     }
-}
-
-fn kind_of(kind: MemberKind) -> SceneKind
-    ensures { result ≡ kind_of kind }
-{
-    match kind {
-        MemberKind::Missing => SceneKind::Missing,
-        MemberKind::WrongKind => SceneKind::WrongKind,
-        MemberKind::BadHex => SceneKind::BadHex,
-        MemberKind::BadNumber => SceneKind::BadNumber,
-        MemberKind::Twice => SceneKind::Twice,
-        MemberKind::TooMany => SceneKind::TooMany,
-    }
-}
-
-/// The refusal of this kind at this place; `NoMemory` where it has no memory for the place.
-pub fn refuse<T>(alloc: Global, kind: SceneKind, place: &PlaceRef<'_>) -> Result<T, PartFault>
-    ensures { Gives result (bad kind place.now) }
-{
-    Err(PartFault::Bad {
-        kind,
-        place: place.to_place(alloc)?,
-    })
 }

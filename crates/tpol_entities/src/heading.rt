@@ -5,19 +5,22 @@ ghost use Rattle.std.specs.List.{list_any};
 ghost use Rattle.serde_json.specs.Find.{get};
 ghost use Rattle.serde_json.specs.View.{view};
 ghost use Rattle.tpol_entities.specs.Entities.{bytes_or_name, has_handle, has_path, heading_in, named_policy_in, new_handle_in, new_path_in, policy_name_in, policy_source_in, some_policy_in};
-ghost use Rattle.tpol_entities.specs.Faults.{Gives};
+ghost use Rattle.tpol_json.specs.Reading.{Gives};
 ghost use Rattle.tpol_entities.specs.Kinds.{kind_in};
-ghost use Rattle.tpol_entities.specs.Members.{needed, optional};
+ghost use Rattle.tpol_json.specs.Members.{optional};
+ghost use Rattle.tpol_entities.specs.Members.{needed};
 
 use crate::SceneKind;
 use crate::entities::Entities;
-use crate::fault::{PartFault, refuse};
+use crate::fault::PartFault;
 use crate::kinds::{EntityKind, kind_of};
 use crate::members::optional_auth;
 use serde_json::Value;
 use std::alloc::Global;
 use tpol_base::{Blob, Text, without_folder};
-use tpol_json::{Place, PlaceRef, check_object, empty_or_32, member, needed, text, unsigned};
+use tpol_json::{
+    Place, PlaceRef, check_object, empty_or_32, member, needed, refuse, text, unsigned,
+};
 use tpol_name::{IndexEntry, ObjectEntry, hierarchy_at, index_at, object_at};
 
 /// A policy by its name, and where the name stands.

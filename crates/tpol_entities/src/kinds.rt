@@ -2,14 +2,14 @@
 
 ghost use Rattle.std.specs.Prelude.{◌≡◌, ◌<◌, ◌^◌};
 ghost use Rattle.serde_json.specs.View.{view};
-ghost use Rattle.tpol_entities.specs.Faults.{Gives};
+ghost use Rattle.tpol_json.specs.Reading.{Gives};
 ghost use Rattle.tpol_entities.specs.Kinds.{greatest_handle, kind_in, kind_of_word, least_handle};
 
 use crate::SceneKind;
-use crate::fault::{PartFault, refuse};
+use crate::fault::PartFault;
 use serde_json::Value;
 use std::alloc::Global;
-use tpol_json::PlaceRef;
+use tpol_json::{PlaceRef, refuse};
 
 /// The kinds of entities: a sealed secret, an HMAC key, an NV index.
 #[derive(Clone, Copy)]

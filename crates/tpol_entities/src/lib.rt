@@ -18,11 +18,11 @@ mod pcrs;
 mod targets;
 
 pub use entities::{Entities, EntityPolicies, EntityPolicy, optional_entities};
-pub use fault::{PartFault, SceneKind, refuse};
+pub use fault::{PartFault, SceneKind};
 pub use heading::{NamedPolicy, policy_name};
 pub use lists::{ItemReader, has_number, optional_list};
 pub use members::{
-    any_bytes, needed_bytes, needed_u32, optional_auth, optional_truth, optional_u32, zero_digest,
+    needed_bytes, needed_u32, optional_auth, optional_truth, optional_u32, zero_digest,
 };
 pub use pcrs::{PcrBank, optional_pcrs};
 pub use targets::{Target, needed_target, target_of};

@@ -3,10 +3,9 @@
 ghost use Rattle.std.specs.Prelude.{◌≡◌, ◌==◌};
 ghost use Rattle.std.specs.List.{list_any};
 ghost use Rattle.serde_json.specs.View.{view, items_view};
-ghost use Rattle.tpol_json.specs.Members.{items_from};
-ghost use Rattle.tpol_entities.specs.Faults.{Gives};
+ghost use Rattle.tpol_json.specs.Members.{items_from, optional};
+ghost use Rattle.tpol_json.specs.Reading.{Gives};
 ghost use Rattle.tpol_entities.specs.Lists.{list_in};
-ghost use Rattle.tpol_entities.specs.Members.{optional};
 
 use crate::fault::PartFault;
 use serde_json::Value;

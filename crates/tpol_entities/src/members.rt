@@ -3,18 +3,16 @@
 ghost use Rattle.std.specs.Prelude.{◌≡◌, []};
 ghost use Rattle.serde_json.specs.View.{view};
 ghost use Rattle.tpol_base.specs.Digest.{zero_digest};
-ghost use Rattle.tpol_json.specs.Bytes.{bytes_in};
-ghost use Rattle.tpol_json.specs.Faults as members;
-ghost use Rattle.tpol_json.specs.Reading as json;
-ghost use Rattle.tpol_entities.specs.Faults.{Gives};
-ghost use Rattle.tpol_entities.specs.Members.{needed, optional};
-ghost use Rattle.tpol_entities.specs.Values.{auth_in, bytes_up_to, truth_in, u32_in, without_zeros};
+ghost use Rattle.tpol_json.specs.Reading.{Gives};
+ghost use Rattle.tpol_json.specs.Members.{optional};
+ghost use Rattle.tpol_entities.specs.Members.{needed};
+ghost use Rattle.tpol_entities.specs.Values.{auth_in, bytes_up_to, truth_in, u32_in};
 
 use crate::fault::PartFault;
 use serde_json::Value;
 use std::alloc::Global;
-use tpol_base::{Blob, Digest32};
-use tpol_json::{MemberFault, PlaceRef, bytes_at, bytes_up_to, member, needed, truth, unsigned_32};
+use tpol_base::{Blob, Digest32, without_trailing_zeros};
+use tpol_json::{PlaceRef, bytes_up_to, member, needed, truth, unsigned_32};
 
 /// The most bytes of an authorization value.
 const MAX_AUTH: usize = 32;
@@ -65,13 +63,6 @@ pub fn needed_bytes(
     bytes_up_to(alloc, bytes, limit, &place).map_err(PartFault::from)
 }
 
-/// Bytes of any number. `WrongKind`, `BadHex` and `BadNumber` come as of `tpol_json::bytes_of`.
-pub fn any_bytes(alloc: Global, value: &Value, place: &PlaceRef<'_>) -> Result<Blob, MemberFault>
-    ensures { members.Gives result (json.read_as members.kind_of (bytes_in (view value.now) place.now)) }
-{
-    Ok(bytes_at(alloc, value, place)?)
-}
-
 /// The member of this name as a number of 32 bits, without it the default. `WrongKind` and `BadNumber` come as of
 /// `tpol_json::number_of`.
 pub fn optional_u32(
@@ -90,7 +81,7 @@ pub fn optional_u32(
 }
 
 /// The member of this name as a truth value, without it the default. `WrongKind` and `BadNumber` come as of
-/// `tpol_json::truth_of`.
+/// `tpol_json::truth`.
 pub fn optional_truth(
     alloc: Global,
     value: &Value,
@@ -111,18 +102,7 @@ fn auth_of(alloc: Global, value: &Value, place: &PlaceRef<'_>) -> Result<Blob, P
     ensures { Gives result (auth_in (view value.now) place.now) }
 {
     let bytes = bytes_up_to(alloc, value, MAX_AUTH, place)?;
-    Blob::from_slice(alloc, without_zeros(bytes.as_slice())).map_err(PartFault::from)
-}
-
-// The bytes without the zero bytes at their end.
-fn without_zeros(bytes: &[u8]) -> &[u8]
-    ensures { result.now ≡ without_zeros bytes.now }
-{
-    let mut end = bytes.len();
-    while end > 0 && bytes[end - 1] == 0 {
-        end -= 1;
-    }
-    &bytes[..end]
+    Blob::from_slice(alloc, without_trailing_zeros(bytes.as_slice())).map_err(PartFault::from)
 }
 
 /// 32 zero bytes.

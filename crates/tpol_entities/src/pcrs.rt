@@ -3,19 +3,20 @@
 ghost use Rattle.std.specs.Prelude.{◌≡◌, ◌<◌, ◌==◌, codes, IfOk};
 ghost use Rattle.std.specs.List.{list_any};
 ghost use Rattle.serde_json.specs.View.{view};
-ghost use Rattle.tpol_entities.specs.Faults.{Gives};
-ghost use Rattle.tpol_entities.specs.Members.{needed, optional};
+ghost use Rattle.tpol_json.specs.Reading.{Gives};
+ghost use Rattle.tpol_json.specs.Members.{optional};
+ghost use Rattle.tpol_entities.specs.Members.{needed};
 ghost use Rattle.tpol_entities.specs.Pcrs.{new_pcr_in, pcrs_in, zero_bank};
 ghost use Rattle.tpol_entities.specs.Values.{digest_in};
 
 use crate::SceneKind;
-use crate::fault::{PartFault, refuse};
+use crate::fault::PartFault;
 use crate::lists::{ItemReader, optional_list};
 use crate::members::zero_digest;
 use serde_json::Value;
 use std::alloc::Global;
 use tpol_base::{Blob, Digest32, pcr};
-use tpol_json::{PlaceRef, check_object, digest, needed, unsigned};
+use tpol_json::{PlaceRef, check_object, digest, needed, refuse, unsigned};
 
 /// The values of the PCRs 0 to 23 (of the SHA-256 bank), and the numbers of those that were given one.
 #[derive(Drop)]

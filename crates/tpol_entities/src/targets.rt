@@ -3,16 +3,16 @@
 ghost use Rattle.std.specs.Prelude.{◌≡◌};
 ghost use Rattle.serde_json.specs.View.{view};
 ghost use Rattle.tpol_entities.specs.declared.targets.Target.TheVariants as targets;
-ghost use Rattle.tpol_entities.specs.Faults.{Gives};
+ghost use Rattle.tpol_json.specs.Reading.{Gives};
 ghost use Rattle.tpol_entities.specs.Members.{needed};
 ghost use Rattle.tpol_entities.specs.Targets.{handle_at, index_handle_at, object_handle_at, target_in};
 
 use crate::SceneKind;
 use crate::entities::Entities;
-use crate::fault::{PartFault, refuse};
+use crate::fault::PartFault;
 use serde_json::Value;
 use std::alloc::Global;
-use tpol_json::{PlaceRef, needed, text};
+use tpol_json::{PlaceRef, needed, refuse, text};
 use tpol_name::{hierarchy_at, index_at, object_at};
 
 /// What a path may name.

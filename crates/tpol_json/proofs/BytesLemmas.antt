@@ -8,18 +8,19 @@ use Rattle.serde_json.specs.declared.value.Value.{Value}
 use Rattle.tpol_json.specs.Bytes.{byte_in, bytes_from}
 use Rattle.tpol_json.specs.Places.{at_item}
 use Rattle.tpol_base.specs.Answers.{FailsWith, ◌>>=◌}
-use Rattle.tpol_json.specs.Reading.{Found, cause}
+use Rattle.tpol_json.specs.Faults.{FoundValue}
+use Rattle.tpol_json.specs.Reading.{cause}
 use Rattle.tpol_json.specs.declared.fault.JsonKind.{JsonKind}
-use Rattle.tpol_json.specs.declared.fault.JsonFault.{JsonFault}
-use Rattle.tpol_json.specs.declared.fault.JsonFault.TheVariants.{Bad, NoMemory}
+use Rattle.tpol_json.specs.declared.fault.Fault.{Fault}
+use Rattle.tpol_json.specs.declared.fault.Fault.TheVariants.{Bad, NoMemory}
 use Rattle.tpol_json.specs.declared.place.Place.{Place}
 
 -- what was found behind these bytes
-abbrev pub with_front : List ℕ → Found (List ℕ) → Found (List ℕ)
+abbrev pub with_front : List ℕ → FoundValue (List ℕ) → FoundValue (List ℕ)
 with_front front (Ok rest) = Ok (front ++ rest)
 with_front front (Err fault) = Err fault
 
-with_front-cons : (front : List ℕ) (byte : ℕ) (rest : Found (List ℕ))
+with_front-cons : (front : List ℕ) (byte : ℕ) (rest : FoundValue (List ℕ))
     → with_front front (with_front (byte ∷ []) rest) ≡ with_front (front ++ byte ∷ []) rest
 with_front-cons front byte (Ok rest) = ap Ok (sym (append_assoc front (byte ∷ []) rest))
 with_front-cons front byte (Err fault) = refl
@@ -29,7 +30,7 @@ bytes_from-Ok : (index : ℕ) (d : Data) (ds : Items) (place : Place) (byte : �
 unfolding bytes_from
 bytes_from-Ok index d ds place byte is = rw is (first byte (bytes_from (suc index) ds place))
   where
-    first : (byte : ℕ) (rest : Found (List ℕ)) → (rest >>= λ bytes. Ok (byte ∷ bytes)) ≡ with_front (byte ∷ []) rest
+    first : (byte : ℕ) (rest : FoundValue (List ℕ)) → (rest >>= λ bytes. Ok (byte ∷ bytes)) ≡ with_front (byte ∷ []) rest
     first byte (Ok rest) = refl
     first byte (Err fault) = refl
 
@@ -54,7 +55,7 @@ bytes_from-turn vs index v front place byte within is read =
     (with_front-cons front byte _)
 
 -- an item was refused, and so the whole list
-pub bytes_from-refused : (vs : List Value) (index : ℕ) (v : Value) (front : List ℕ) (place : Place) (fault : JsonFault) (whole : Found (List ℕ))
+pub bytes_from-refused : (vs : List Value) (index : ℕ) (v : Value) (front : List ℕ) (place : Place) (fault : Fault JsonKind) (whole : FoundValue (List ℕ))
     → index < length vs → v ≡ get_or vs index v → with_front front (bytes_from index (items_view (drop index vs)) place) ≡ whole
     → FailsWith (cause fault) (byte_in (view v) (at_item place index)) → FailsWith (cause fault) whole
 bytes_from-refused vs index v front place NoMemory whole within is so_far refused = tt

@@ -1,7 +1,6 @@
 pub mod AllFound
 mod BytesLemmas
 pub mod ItemCounts
-pub mod FaultKinds
 pub mod Limits
 mod NumbersLemmas
 mod SpellingLemmas

@@ -1,16 +1,12 @@
--- What a member says, or what is wrong with it and where.
-use Rattle.std.specs.Prelude.{Option, Some, None, Result}
-use Rattle.tpol_base.specs.Answers as answers
-use Rattle.tpol_json.specs.declared.fault.JsonFault.{JsonFault}
-use Rattle.tpol_json.specs.declared.fault.JsonFault.TheVariants as json
+-- What a value says, what a member says, and a value's fault as one of a member.
 use Rattle.tpol_json.specs.declared.fault.JsonKind.{JsonKind}
 use Rattle.tpol_json.specs.declared.fault.JsonKind.TheVariants as kinds
-use Rattle.tpol_json.specs.declared.fault.MemberFault.{MemberFault}
-use Rattle.tpol_json.specs.declared.fault.MemberFault.TheVariants.{Bad, NoMemory}
 use Rattle.tpol_json.specs.declared.fault.MemberKind.{MemberKind}
 use Rattle.tpol_json.specs.declared.fault.MemberKind.TheVariants.{WrongKind, BadHex, BadNumber}
-use Rattle.tpol_json.specs.declared.place.Place.{Place}
 use Rattle.tpol_json.specs.Reading.{ReadAs}
+
+abbrev pub FoundValue : Type 0 → Type 0
+FoundValue A = ReadAs JsonKind A
 
 abbrev pub Found : Type 0 → Type 0
 Found A = ReadAs MemberKind A
@@ -19,16 +15,3 @@ abbrev pub kind_of : JsonKind → MemberKind
 kind_of kinds.WrongKind = WrongKind
 kind_of kinds.BadHex = BadHex
 kind_of kinds.BadNumber = BadNumber
-
-abbrev pub fault_of : JsonFault → MemberFault
-fault_of (json.Bad kind place) = Bad (kind_of kind) place
-fault_of json.NoMemory = NoMemory
-
--- the fault that a call tells, none for memory
-abbrev pub cause : MemberFault → Option (MemberKind × Place)
-cause (Bad kind place) = Some (kind, place)
-cause NoMemory = None
-
--- a call gives what the reading is, unless memory runs out
-abbrev pub Gives : {A : Type 0} → Result A MemberFault → Found A → Type 0
-Gives = answers.Gives (λ x. x) cause

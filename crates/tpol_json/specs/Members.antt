@@ -4,8 +4,9 @@ use Rattle.std.specs.Prelude.{◌≡◌, ℕ, suc, nat_lt, List, [], ◌∷◌, 
 use Rattle.std.specs.Str.{bytes_eq}
 use Rattle.serde_json.specs.Data.{Data, Items, no_items, item, Members, no_members, member}
 use Rattle.serde_json.specs.Find.{get, as_object}
-use Rattle.tpol_json.specs.declared.fault.MemberFault.{MemberFault}
-use Rattle.tpol_json.specs.declared.fault.MemberFault.TheVariants.{Bad, NoMemory}
+use Rattle.tpol_json.specs.declared.fault.Fault.{Fault}
+use Rattle.tpol_json.specs.declared.fault.Fault.TheVariants.{Bad, NoMemory}
+use Rattle.tpol_json.specs.declared.fault.MemberKind.{MemberKind}
 use Rattle.tpol_json.specs.declared.fault.MemberKind.TheVariants.{Missing}
 use Rattle.tpol_json.specs.declared.place.Place.{Place}
 use Rattle.tpol_json.specs.Places.{at_member, at_item}
@@ -69,6 +70,6 @@ items_from read before index (item d ds) place =
     read before index d (at_item place index) >>= λ after. items_from read after (suc index) ds place
 
 -- a call that wants a member refuses with this fault: the member is not there
-abbrev pub IsMissing : MemberFault → Option Data → Place → Type 0
+abbrev pub IsMissing : Fault MemberKind → Option Data → Place → Type 0
 IsMissing (Bad kind at) found place = (kind ≡ Missing) × (at ≡ place) × (found ≡ None)
 IsMissing NoMemory found place = ⊤

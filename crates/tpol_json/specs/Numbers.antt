@@ -7,7 +7,8 @@ use Rattle.serde_json.specs.Data.{Data, null, boolean, number, string, array, ob
 use Rattle.serde_json.specs.Find.{as_i64}
 use Rattle.tpol_json.specs.declared.fault.JsonKind.TheVariants.{WrongKind, BadNumber}
 use Rattle.tpol_json.specs.declared.place.Place.{Place}
-use Rattle.tpol_json.specs.Reading.{Found, bad}
+use Rattle.tpol_json.specs.Faults.{FoundValue}
+use Rattle.tpol_json.specs.Reading.{bad}
 
 -- what follows `0x` at the front of a text
 abbrev pub after_0x : List ℕ → Option (List ℕ)
@@ -37,13 +38,13 @@ whole_number (array ds) = None
 whole_number (object ms) = None
 
 -- the number, if it lies within the limits
-abbrev pub within : ℤ → ℤ → Option ℤ → Place → Found ℤ
+abbrev pub within : ℤ → ℤ → Option ℤ → Place → FoundValue ℤ
 within least greatest None place = bad BadNumber place
 within least greatest (Some n) place =
     if int_le least n && int_le n greatest then Ok n else bad BadNumber place
 
 -- a whole number from least to greatest, written as a number or a text
-abbrev pub number_in : ℤ → ℤ → Data → Place → Found ℤ
+abbrev pub number_in : ℤ → ℤ → Data → Place → FoundValue ℤ
 number_in least greatest null place = bad WrongKind place
 number_in least greatest (boolean b) place = bad WrongKind place
 number_in least greatest (number n) place = within least greatest (whole_number (number n)) place

@@ -6,7 +6,8 @@ use Rattle.serde_json.specs.Data.{Data, null, boolean, number, string, array, ob
 use Rattle.tpol_json.specs.declared.fault.JsonKind.TheVariants.{WrongKind, BadNumber}
 use Rattle.tpol_json.specs.declared.place.Place.{Place}
 use Rattle.tpol_json.specs.Numbers.{whole_number}
-use Rattle.tpol_json.specs.Reading.{Found, bad}
+use Rattle.tpol_json.specs.Faults.{FoundValue}
+use Rattle.tpol_json.specs.Reading.{bad}
 
 -- `true` and `YES`, `false` and `NO`, in any case
 abbrev pub truth_of_word : List ℕ → Option Bool
@@ -16,18 +17,18 @@ truth_of_word s =
     else None
 
 -- 1 and 0
-abbrev pub truth_of_number : Option ℤ → Place → Found Bool
+abbrev pub truth_of_number : Option ℤ → Place → FoundValue Bool
 truth_of_number None place = bad BadNumber place
 truth_of_number (Some n) place =
     if int_eq n (pos 1) then Ok true else if int_eq n (pos 0) then Ok false else bad BadNumber place
 
 -- a word comes before a number
-abbrev pub truth_of_text : Option Bool → Option ℤ → Place → Found Bool
+abbrev pub truth_of_text : Option Bool → Option ℤ → Place → FoundValue Bool
 truth_of_text (Some truth) n place = Ok truth
 truth_of_text None n place = truth_of_number n place
 
 -- a truth value: a JSON one, one of those words, or the number 1 or 0
-abbrev pub truth_in : Data → Place → Found Bool
+abbrev pub truth_in : Data → Place → FoundValue Bool
 truth_in null place = bad WrongKind place
 truth_in (boolean b) place = Ok b
 truth_in (number n) place = truth_of_number (whole_number (number n)) place
@@ -36,7 +37,7 @@ truth_in (array ds) place = bad WrongKind place
 truth_in (object ms) place = bad WrongKind place
 
 -- a text
-abbrev pub text_in : Data → Place → Found (List ℕ)
+abbrev pub text_in : Data → Place → FoundValue (List ℕ)
 text_in null place = bad WrongKind place
 text_in (boolean b) place = bad WrongKind place
 text_in (number n) place = bad WrongKind place

@@ -7,7 +7,7 @@ use Rattle.tpol_base.specs.declared.name.Name.{Name}
 use Rattle.tpol_base.specs.Answers.{◌>>=◌}
 use Rattle.tpol_base.specs.Digest.{digest_of_bytes}
 use Rattle.tpol_base.specs.Name.{name_of_bytes}
-use Rattle.tpol_json.specs.declared.fault.MemberKind.TheVariants.{WrongKind, BadHex, Twice, TooMany}
+use Rattle.tpol_json.specs.declared.fault.MemberKind.TheVariants.{WrongKind, BadHex, TooMany}
 use Rattle.serde_json.specs.View.{items_view}
 use Rattle.serde_json.specs.declared.value.Value.{Value}
 use Rattle.tpol_json.specs.declared.place.Place.{Place}
@@ -16,7 +16,7 @@ use Rattle.tpol_json.specs.Faults.{Found, kind_of}
 use Rattle.tpol_json.specs.Numbers.{number_in}
 use Rattle.tpol_json.specs.Reading.{bad, read_as}
 use Rattle.tpol_json.specs.Truth as json
-use Rattle.tpol_json.specs.Members.{without, within_limit}
+use Rattle.tpol_json.specs.Members.{within_limit}
 use Rattle.tpol_json.specs.Words.{find_word}
 
 -- an object is wanted
@@ -57,22 +57,26 @@ u32_in = unsigned_in 0 (2 ^ 32 - 1)
 abbrev pub signed_in : Data → Place → Found ℤ
 signed_in d place = read_as kind_of (number_in (negsuc (2 ^ 31 - 1)) (pos (2 ^ 31 - 1)) d place)
 
+-- bytes of any number
+abbrev pub any_bytes : Data → Place → Found (List ℕ)
+any_bytes d place = read_as kind_of (bytes_in d place)
+
 -- at most so many bytes
 abbrev pub bytes_up_to : ℕ → Data → Place → Found (List ℕ)
 bytes_up_to limit d place = do
-  bytes ← read_as kind_of (bytes_in d place)
+  bytes ← any_bytes d place
   if nat_le (length bytes) limit then Ok bytes else bad BadHex place
 
 -- no byte, or 32
 abbrev pub empty_or_32 : Data → Place → Found (List ℕ)
 empty_or_32 d place = do
-  bytes ← read_as kind_of (bytes_in d place)
+  bytes ← any_bytes d place
   if length bytes == 0 || length bytes == 32 then Ok bytes else bad BadHex place
 
 -- 32 bytes
 abbrev pub digest_in : Data → Place → Found Digest32
 digest_in d place = do
-  bytes ← read_as kind_of (bytes_in d place)
+  bytes ← any_bytes d place
   if length bytes == 32 then Ok (digest_of_bytes bytes) else bad BadHex place
 
 abbrev pub name_or_bad : Option Name → Place → Found Name
@@ -81,15 +85,11 @@ name_or_bad (Some name) place = Ok name
 
 -- the bytes of a Name
 abbrev pub name_in : Data → Place → Found Name
-name_in d place = read_as kind_of (bytes_in d place) >>= λ bytes. name_or_bad (name_of_bytes bytes) place
+name_in d place = any_bytes d place >>= λ bytes. name_or_bad (name_of_bytes bytes) place
 
 -- what one of these words stands for, in a text; other texts say nothing
 abbrev pub one_word : {A : Type 0} → List ℕ → List (List ℕ × A) → Data → Place → Found (Option A)
 one_word prefix words d place = text_in d place >>= λ text. Ok (find_word prefix words text)
-
--- none of these members may stand beside what is read
-abbrev pub no_second : List (List ℕ) → Data → Place → Found ⊤
-no_second = without Twice
 
 -- an item past so many is one too many
 abbrev pub is_within_limit : ℕ → ℕ → Place → Found ⊤

@@ -5,7 +5,7 @@ ghost use Rattle.tpol_json.specs.Bytes.{byte_in, bytes_from, bytes_in, bytes_of_
 ghost use Rattle.tpol_json.specs.Places.{at_item};
 ghost use Rattle.tpol_json.specs.Reading.{Gives};
 
-use crate::fault::refused;
+use crate::fault::refuse;
 use crate::numbers::{after_0x, whole_number};
 use crate::{JsonFault, JsonKind, Place, PlaceRef};
 use hex::FromHexError;
@@ -30,7 +30,7 @@ pub fn bytes_at(alloc: Global, value: &Value, place: &PlaceRef<'_>) -> Result<Bl
     match value {
         Value::String(text) => bytes_of_text(alloc, text.as_str(), place),
         Value::Array(items) => bytes_of_items(alloc, items.as_slice(), place),
-        _ => refused(alloc, JsonKind::WrongKind, place),
+        _ => refuse(alloc, JsonKind::WrongKind, place),
     }
 }
 
@@ -40,7 +40,7 @@ fn bytes_of_text(alloc: Global, text: &str, place: &PlaceRef<'_>) -> Result<Blob
     match hex::decode(alloc, after_0x(text).unwrap_or(text)) {
         Ok(bytes) => Ok(Blob::from_vec(bytes)),
         Err(FromHexError::OutOfMemory) => Err(JsonFault::NoMemory),
-        Err(_) => refused(alloc, JsonKind::BadHex, place),
+        Err(_) => refuse(alloc, JsonKind::BadHex, place),
     }
 }
 
@@ -66,6 +66,6 @@ fn byte_of_item(
 {
     match whole_number(item) {
         Some(number) if 0 <= number && number <= 255 => Ok(number as u8),
-        _ => refused(alloc, JsonKind::BadNumber, &place.item(index)),
+        _ => refuse(alloc, JsonKind::BadNumber, &place.item(index)),
     }
 }

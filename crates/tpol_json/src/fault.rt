@@ -2,13 +2,21 @@
 
 ghost use Rattle.std.specs.Prelude.{◌≡◌};
 ghost use Rattle.tpol_json.specs.Faults.{kind_of};
-ghost use Rattle.tpol_json.specs.Faults as members;
-ghost use Rattle.tpol_json.specs.Reading.{Gives, bad};
-ghost use Rattle.tpol_json.specs.declared.fault.JsonFault.TheVariants.{NoMemory as no_memory};
+ghost use Rattle.tpol_json.specs.Reading.{Gives, bad, fault_of};
+ghost use Rattle.tpol_json.specs.declared.fault.Fault.TheVariants.{NoMemory as no_memory};
 
 use crate::{Place, PlaceRef};
-use std::alloc::Global;
+use std::alloc::{AllocError, AllocFailed, Global};
 use tpol_base::NoMemory;
+
+/// Why a part of a document is not read, where `K` is what may be wrong with it.
+#[derive(Drop)]
+pub enum Fault<K> {
+    /// What stands at the place is at fault.
+    Bad { kind: K, place: Place },
+    /// Memory ran out.
+    NoMemory,
+}
 
 /// What is wrong with a value.
 #[derive(Clone, Copy, Debug, PartialEq, Eq)]
@@ -22,13 +30,7 @@ pub enum JsonKind {
 }
 
 /// Why a value is not read.
-#[derive(Drop)]
-pub enum JsonFault {
-    /// The value is not what is wanted.
-    Bad { kind: JsonKind, place: Place },
-    /// Memory ran out.
-    NoMemory,
-}
+pub type JsonFault = Fault<JsonKind>;
 
 /// What is wrong with a member of an object, or with an item of a list.
 #[derive(Clone, Copy, Debug, PartialEq, Eq)]
@@ -48,74 +50,94 @@ pub enum MemberKind {
 }
 
 /// Why a member is not read.
-#[derive(Drop)]
-pub enum MemberFault {
-    /// What stands at the place is at fault.
-    Bad { kind: MemberKind, place: Place },
-    /// Memory ran out.
-    NoMemory,
+pub type MemberFault = Fault<MemberKind>;
+
+/// Kinds of faults that have those of `K` among them: so `?` tells a fault of a value as one of the member that it
+/// is of, and a fault of a member as one of a policy document or of a scene.
+pub trait Includes<K> {
+    /// Which of these kinds a kind of `K` is.
+    ghost kind_of: { K → Self };
+
+    /// The same kind, among these.
+    fn of_kind(kind: K) -> Self
+        ensures { result ≡ kind_of kind };
 }
 
-/// The answer that what stands at the place is at fault; `NoMemory` where it has no memory for the place.
-pub fn refused<T>(alloc: Global, kind: JsonKind, place: &PlaceRef<'_>) -> Result<T, JsonFault>
-    ensures { Gives result (bad kind place.now) }
-{
-    match place.to_place(alloc) {
-        Ok(place) => Err(JsonFault::Bad { kind, place }),
-        Err(_) => Err(JsonFault::NoMemory),
-    }
-}
+impl Includes<JsonKind> for MemberKind {
+    ghost kind_of = { kind_of };
 
-/// The same of a member.
-pub fn refuse<T>(alloc: Global, kind: MemberKind, place: &PlaceRef<'_>) -> Result<T, MemberFault>
-    ensures { members.Gives result (bad kind place.now) }
-{
-    match place.to_place(alloc) {
-        Ok(place) => Err(MemberFault::Bad { kind, place }),
-        Err(_) => Err(MemberFault::NoMemory),
-    }
-}
-
-impl From<NoMemory> for JsonFault {
-    ghost from_gives = { λ _ fault. fault ≡ no_memory };
-
-    fn from(_: NoMemory) -> JsonFault {
-        JsonFault::NoMemory
-    }
-}
-
-impl From<NoMemory> for MemberFault {
-    ghost use Rattle.tpol_json.specs.declared.fault.MemberFault.TheVariants as faults;
-
-    ghost from_gives = { λ _ fault. fault ≡ faults.NoMemory };
-
-    fn from(_: NoMemory) -> MemberFault {
-        MemberFault::NoMemory
-    }
-}
-
-impl From<JsonFault> for MemberFault {
-    ghost use Rattle.tpol_json.specs.Faults.{fault_of};
-
-    ghost from_gives = { λ fault made. made ≡ fault_of fault };
-
-    fn from(fault: JsonFault) -> MemberFault {
-        match fault {
-            JsonFault::Bad { kind, place } => MemberFault::Bad {
-                kind: kind_of(kind),
-                place,
-            },
-            JsonFault::NoMemory => MemberFault::NoMemory,
+    fn of_kind(kind: JsonKind) -> MemberKind {
+        match kind {
+            JsonKind::WrongKind => MemberKind::WrongKind,
+            JsonKind::BadHex => MemberKind::BadHex,
+            JsonKind::BadNumber => MemberKind::BadNumber,
         }
     }
 }
 
-fn kind_of(kind: JsonKind) -> MemberKind
-    ensures { result ≡ kind_of kind }
+/// The answer that what stands at the place is at fault; `NoMemory` where it has no memory for the place.
+pub fn refuse<T, K: Drop>(alloc: Global, kind: K, place: &PlaceRef<'_>) -> Result<T, Fault<K>>
+    ensures { Gives result (bad kind place.now) }
 {
-    match kind {
-        JsonKind::WrongKind => MemberKind::WrongKind,
-        JsonKind::BadHex => MemberKind::BadHex,
-        JsonKind::BadNumber => MemberKind::BadNumber,
+    match place.to_place(alloc) {
+        Ok(place) => Err(Fault::Bad { kind, place }),
+        Err(_) => Err(Fault::NoMemory),
+    }
+}
+
+impl<K> From<NoMemory> for Fault<K> {
+    ghost from_gives = { λ _ fault. fault ≡ no_memory };
+
+    fn from(_: NoMemory) -> Fault<K> {
+        Fault::NoMemory
+    }
+}
+
+impl<K> From<AllocError> for Fault<K> {
+    ghost from_gives = { λ _ fault. fault ≡ no_memory };
+
+    fn from(_: AllocError) -> Fault<K> {
+        Fault::NoMemory
+    }
+}
+
+impl<T: Drop, K> From<AllocFailed<T>> for Fault<K> {
+    ghost from_gives = { λ _ fault. fault ≡ no_memory };
+
+    fn from(_: AllocFailed<T>) -> Fault<K> {
+        Fault::NoMemory
+    }
+}
+
+/// A value's fault, as one of a kind that includes it.
+impl<K: Includes<JsonKind>> From<Fault<JsonKind>> for Fault<K> {
+    ghost from_gives = { λ fault made. made ≡ fault_of K.kind_of fault };
+
+    fn from(fault: Fault<JsonKind>) -> Fault<K> {
+        fault.among()
+    }
+}
+
+/// A member's fault, as one of a kind that includes it.
+impl<K: Includes<MemberKind>> From<Fault<MemberKind>> for Fault<K> {
+    ghost from_gives = { λ fault made. made ≡ fault_of K.kind_of fault };
+
+    fn from(fault: Fault<MemberKind>) -> Fault<K> {
+        fault.among()
+    }
+}
+
+impl<K> Fault<K> {
+    // The same fault, of a kind that includes this one.
+    fn among<L: Includes<K>>(self) -> Fault<L>
+        ensures { result ≡ fault_of L.kind_of self }
+    {
+        match self {
+            Fault::Bad { kind, place } => Fault::Bad {
+                kind: L::of_kind(kind),
+                place,
+            },
+            Fault::NoMemory => Fault::NoMemory,
+        }
     }
 }

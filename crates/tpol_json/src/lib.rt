@@ -14,17 +14,16 @@ mod truth_values;
 mod values;
 mod words;
 
-pub use bytes::{bytes_at, bytes_of};
+pub use bytes::bytes_of;
 pub use document::{ParseFault, parse};
-pub use fault::{JsonFault, JsonKind, MemberFault, MemberKind};
-pub use members::{check_limit, items, member, needed, note_unknown, optional, without};
-pub use numbers::{number_of, whole_number};
+pub use fault::{Fault, Includes, JsonFault, JsonKind, MemberFault, MemberKind, refuse};
+pub use members::{check_limit, items, member, needed, note_unknown, without};
+pub use numbers::number_of;
 pub use place::{Notes, Place, PlaceStep, PlaceSteps};
 pub use place_ref::PlaceRef;
-pub use spelling::{place_text, quoted};
-pub use truth_values::{text_of, truth_of};
+pub use spelling::{place_text, push_quoted, quoted};
 pub use values::{
-    bytes_up_to, check_object, digest, empty_or_32, name, signed_32, text, truth, unsigned,
-    unsigned_32,
+    any_bytes, bytes_up_to, check_object, digest, empty_or_32, name, signed_32, text, truth,
+    unsigned, unsigned_32,
 };
-pub use words::{find_word, same_word, word, word_in};
+pub use words::{same_word, word, word_in};

@@ -1,16 +1,16 @@
 //! The members of objects and the items of lists.
 
-ghost use Rattle.std.specs.Prelude.{◌≡◌, ◌++◌, map, option_map, Some, IfOk, IfErr, IfSome, OnOk};
+ghost use Rattle.std.specs.Prelude.{◌≡◌, ◌++◌, map, option_map, Some, IfOk, IfErr, OnOk};
 ghost use Rattle.serde_json.specs.Find.{get};
 ghost use Rattle.serde_json.specs.View.{view};
-ghost use Rattle.tpol_json.specs.Faults as faults;
+ghost use Rattle.tpol_json.specs.Reading.{Gives, cause};
 ghost use Rattle.tpol_json.specs.Members.{IsMissing, is_among, unknown, without};
 ghost use Rattle.tpol_json.specs.Places.{at_member};
 ghost use Rattle.tpol_base.specs.Answers as answers;
-ghost use Rattle.tpol_json.specs.Values.{items_of, items_in, is_within_limit, no_second};
+ghost use Rattle.tpol_json.specs.Values.{items_of, items_in, is_within_limit};
 
 use crate::fault::refuse;
-use crate::{MemberFault, MemberKind, Notes, PlaceRef};
+use crate::{Fault, MemberFault, MemberKind, Notes, PlaceRef};
 use serde_json::Value;
 use std::alloc::Global;
 use tpol_base::NoMemory;
@@ -53,31 +53,20 @@ fn present<'a>(
     }
 }
 
-/// A member that may be left out, with its place. None exactly where `member` gives none.
-pub fn optional<'a>(
-    value: &'a Value,
-    name: &'a str,
-    place: &'a PlaceRef<'a>,
-) -> Option<(&'a Value, PlaceRef<'a>)>
-    ensures there { option_map (λ found. view found.0.now) result ≡ get name.now (view value.now) }
-    ensures place { IfSome result (λ found. found.1 ≡ at_member place.now name.now) }
-{
-    let found = member(value, name)?;
-    Some((found, place.member(name)))
-}
-
-/// None of these members may stand in the object: the first of them that does is `Twice`, at its own place.
-pub fn without(
+/// None of these members may stand in the object: the first of them that does is refused with the kind given, at its
+/// own place.
+pub fn without<K: Copy>(
     alloc: Global,
     value: &Value,
     names: &[&str],
+    twice: K,
     place: &PlaceRef<'_>,
-) -> Result<(), MemberFault>
-    ensures { faults.Gives result (no_second (map (λ name. name.now) names.now) (view value.now) place.now) }
+) -> Result<(), Fault<K>>
+    ensures { Gives result (without twice (map (λ name. name.now) names.now) (view value.now) place.now) }
 {
     for name in names {
         if member(value, name).is_some() {
-            return refuse(alloc, MemberKind::Twice, &(&*place).member(&**name));
+            return refuse(alloc, twice, &(&*place).member(&**name));
         }
     }
     Ok(())
@@ -122,7 +111,7 @@ pub fn items<'a>(
     value: &'a Value,
     place: &PlaceRef<'_>,
 ) -> Result<&'a [Value], MemberFault>
-    ensures { answers.Gives items_of faults.cause result (items_in (view value.now) place.now) }
+    ensures { answers.Gives items_of cause result (items_in (view value.now) place.now) }
 {
     match value {
         Value::Array(items) => Ok(items.as_slice()),
@@ -137,7 +126,7 @@ pub fn check_limit(
     limit: usize,
     place: &PlaceRef<'_>,
 ) -> Result<(), MemberFault>
-    ensures { faults.Gives result (is_within_limit limit index place.now) }
+    ensures { Gives result (is_within_limit limit index place.now) }
 {
     if index < limit {
         Ok(())

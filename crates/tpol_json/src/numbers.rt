@@ -6,7 +6,7 @@ ghost use Rattle.serde_json.specs.View.{view};
 ghost use Rattle.tpol_json.specs.Numbers.{after_0x, is_hex_digit, number_in, number_of_digits, number_of_text, whole_number, within};
 ghost use Rattle.tpol_json.specs.Reading.{Gives};
 
-use crate::fault::refused;
+use crate::fault::refuse;
 use crate::{JsonFault, JsonKind, Place, PlaceRef};
 use serde_json::Value;
 use std::alloc::Global;
@@ -49,7 +49,7 @@ pub fn number_at(
             greatest,
             place,
         ),
-        _ => refused(alloc, JsonKind::WrongKind, place),
+        _ => refuse(alloc, JsonKind::WrongKind, place),
     }
 }
 
@@ -66,7 +66,7 @@ fn within(
 {
     match number {
         Some(number) if least <= number && number <= greatest => Ok(number),
-        _ => refused(alloc, JsonKind::BadNumber, place),
+        _ => refuse(alloc, JsonKind::BadNumber, place),
     }
 }
 

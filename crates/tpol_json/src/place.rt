@@ -62,24 +62,6 @@ impl Place {
         Ok(Place { steps })
     }
 
-    /// The place of a member of what stands here.
-    pub fn member(&self, alloc: Global, name: &str) -> Result<Place, NoMemory>
-        ensures { IfOk result (λ place. place ≡ at_member self.now name.now) }
-    {
-        let mut place = self.try_clone(alloc)?;
-        place.push_member(alloc, name)?;
-        Ok(place)
-    }
-
-    /// The place of an item of the list that stands here; items count from 0.
-    pub fn item(&self, alloc: Global, index: u32) -> Result<Place, NoMemory>
-        ensures { IfOk result (λ place. place ≡ at_item self.now index) }
-    {
-        let mut place = self.try_clone(alloc)?;
-        place.push_item(index)?;
-        Ok(place)
-    }
-
     /// Goes on to the member of that name.
     pub fn push_member(&mut self, alloc: Global, name: &str) -> Result<(), NoMemory>
         ensures { OnOk result (self.new ≡ at_member self.old name.now) }

@@ -6,8 +6,9 @@ ghost use Rattle.json.specs.Print.{quoted};
 ghost use Rattle.tpol_json.specs.PlaceText.{is_plain, name_text, step_text, text_of_place};
 
 use crate::{Place, PlaceStep};
-use serde_json::Value;
+use json::Writer;
 use std::alloc::Global;
+use std::mem;
 use tpol_base::{NoMemory, Text};
 
 /// The text of a place, as `policy[0].branches[1].policy[2].code`. Items count from 0. A member's
@@ -61,9 +62,22 @@ fn is_plain(name: &str) -> bool
 }
 
 /// A text as a JSON text, with its quotation marks.
+#[tactic(auto, unfolding(json::specs::Print::print_from))]
 pub fn quoted(alloc: Global, text: &str) -> Result<Text, NoMemory>
     ensures { IfOk result (λ made. made ≡ quoted text.now) }
 {
-    let value = Value::String(String::from_str(alloc, text)?);
-    Ok(Text::from_string(value.to_string(alloc)?))
+    let mut writer = Writer::new(Vec::new(alloc));
+    writer.string(text)?;
+    Ok(Text::from_string(String::from_utf8(writer.into_inner()).unwrap()))
+}
+
+/// Adds a text as a JSON text, with its quotation marks, at the end of these bytes. After `NoMemory` they are lost.
+#[tactic(auto, unfolding(json::specs::Print::print_from))]
+pub fn push_quoted(alloc: Global, bytes: &mut Vec<u8>, text: &str) -> Result<(), NoMemory>
+    ensures { OnOk result (bytes.new.items ≡ bytes.old.items ++ quoted text.now) }
+{
+    let mut writer = Writer::new(mem::replace(bytes, Vec::new(alloc)));
+    writer.string(text)?;
+    *bytes = writer.into_inner();
+    Ok(())
 }

@@ -5,9 +5,9 @@ ghost use Rattle.serde_json.specs.View.{view};
 ghost use Rattle.tpol_json.specs.Reading.{Gives};
 ghost use Rattle.tpol_json.specs.Truth.{text_in, truth_in, truth_of_number, truth_of_word};
 
-use crate::fault::refused;
+use crate::fault::refuse;
 use crate::numbers::whole_number;
-use crate::{JsonFault, JsonKind, Place, PlaceRef};
+use crate::{JsonFault, JsonKind, PlaceRef};
 use serde_json::Value;
 use std::alloc::Global;
 use tpol_base::Text;
@@ -15,13 +15,6 @@ use tpol_base::Text;
 /// Reads a truth value: the JSON words `true` and `false`, the texts `true`, `false`, `YES` and `NO`
 /// in any case, and the numbers 1 and 0. `place` is where the value stands, and where a fault stands:
 /// `WrongKind` for `null`, a list and an object, and `BadNumber` for any other text or number.
-pub fn truth_of(alloc: Global, value: &Value, place: &Place) -> Result<bool, JsonFault>
-    ensures { Gives result (truth_in (view value.now) place.now) }
-{
-    truth_at(alloc, value, &PlaceRef::at(place))
-}
-
-/// The same at a place that is borrowed.
 pub fn truth_at(alloc: Global, value: &Value, place: &PlaceRef<'_>) -> Result<bool, JsonFault>
     ensures { Gives result (truth_in (view value.now) place.now) }
 {
@@ -32,7 +25,7 @@ pub fn truth_at(alloc: Global, value: &Value, place: &PlaceRef<'_>) -> Result<bo
             Some(truth) => Ok(truth),
             None => truth_of_number(alloc, whole_number(value), place),
         },
-        _ => refused(alloc, JsonKind::WrongKind, place),
+        _ => refuse(alloc, JsonKind::WrongKind, place),
     }
 }
 
@@ -58,23 +51,16 @@ fn truth_of_number(
     match number {
         Some(1) => Ok(true),
         Some(0) => Ok(false),
-        _ => refused(alloc, JsonKind::BadNumber, place),
+        _ => refuse(alloc, JsonKind::BadNumber, place),
     }
 }
 
 /// Reads a text. `WrongKind` stands at `place` for a value of any other kind.
-pub fn text_of(alloc: Global, value: &Value, place: &Place) -> Result<Text, JsonFault>
-    ensures { Gives result (text_in (view value.now) place.now) }
-{
-    text_at(alloc, value, &PlaceRef::at(place))
-}
-
-/// The same at a place that is borrowed.
 pub fn text_at(alloc: Global, value: &Value, place: &PlaceRef<'_>) -> Result<Text, JsonFault>
     ensures { Gives result (text_in (view value.now) place.now) }
 {
     match value {
         Value::String(text) => Ok(Text::from_str(alloc, text.as_str())?),
-        _ => refused(alloc, JsonKind::WrongKind, place),
+        _ => refuse(alloc, JsonKind::WrongKind, place),
     }
 }

@@ -2,8 +2,8 @@
 
 ghost use Rattle.std.specs.Prelude.{◌^◌, ◌≤◌, ◌<◌, IfOk};
 ghost use Rattle.serde_json.specs.View.{view};
-ghost use Rattle.tpol_json.specs.Faults.{Gives};
-ghost use Rattle.tpol_json.specs.Values.{bytes_up_to, digest_in, empty_or_32, name_in, object_in, signed_in, text_in, truth_in, u32_in, unsigned_in};
+ghost use Rattle.tpol_json.specs.Reading.{Gives};
+ghost use Rattle.tpol_json.specs.Values.{any_bytes, bytes_up_to, digest_in, empty_or_32, name_in, object_in, signed_in, text_in, truth_in, u32_in, unsigned_in};
 
 use crate::bytes::bytes_at;
 use crate::fault::refuse;
@@ -31,7 +31,8 @@ pub fn text(alloc: Global, value: &Value, place: &PlaceRef<'_>) -> Result<Text, 
     Ok(text_at(alloc, value, place)?)
 }
 
-/// A truth value. `WrongKind` or `BadNumber` as `truth_of`.
+/// A truth value: the JSON words `true` and `false`, the texts `true`, `false`, `YES` and `NO` in any case, and the
+/// numbers 1 and 0. `WrongKind` for `null`, a list and an object, and `BadNumber` for any other text or number.
 pub fn truth(alloc: Global, value: &Value, place: &PlaceRef<'_>) -> Result<bool, MemberFault>
     ensures { Gives result (truth_in (view value.now) place.now) }
 {
@@ -75,6 +76,13 @@ pub fn signed_32(alloc: Global, value: &Value, place: &PlaceRef<'_>) -> Result<i
     Ok(number as i32)
 }
 
+/// Bytes of any number. `WrongKind`, `BadHex` or `BadNumber` as `bytes_of`.
+pub fn any_bytes(alloc: Global, value: &Value, place: &PlaceRef<'_>) -> Result<Blob, MemberFault>
+    ensures { Gives result (any_bytes (view value.now) place.now) }
+{
+    Ok(bytes_at(alloc, value, place)?)
+}
+
 /// At most `limit` bytes; more are `BadHex`. `WrongKind`, `BadHex` or `BadNumber` as `bytes_of`.
 pub fn bytes_up_to(
     alloc: Global,
@@ -84,7 +92,7 @@ pub fn bytes_up_to(
 ) -> Result<Blob, MemberFault>
     ensures { Gives result (bytes_up_to limit (view value.now) place.now) }
 {
-    let bytes = bytes_at(alloc, value, place)?;
+    let bytes = any_bytes(alloc, value, place)?;
     if bytes.len() <= limit {
         Ok(bytes)
     } else {
@@ -96,7 +104,7 @@ pub fn bytes_up_to(
 pub fn empty_or_32(alloc: Global, value: &Value, place: &PlaceRef<'_>) -> Result<Blob, MemberFault>
     ensures { Gives result (empty_or_32 (view value.now) place.now) }
 {
-    let bytes = bytes_at(alloc, value, place)?;
+    let bytes = any_bytes(alloc, value, place)?;
     if bytes.len() == 0 || bytes.len() == 32 {
         Ok(bytes)
     } else {
@@ -108,7 +116,7 @@ pub fn empty_or_32(alloc: Global, value: &Value, place: &PlaceRef<'_>) -> Result
 pub fn digest(alloc: Global, value: &Value, place: &PlaceRef<'_>) -> Result<Digest32, MemberFault>
     ensures { Gives result (digest_in (view value.now) place.now) }
 {
-    let bytes = bytes_at(alloc, value, place)?;
+    let bytes = any_bytes(alloc, value, place)?;
     if bytes.len() == 32 {
         Ok(Digest32::from_slice(bytes.as_slice()))
     } else {
@@ -120,7 +128,7 @@ pub fn digest(alloc: Global, value: &Value, place: &PlaceRef<'_>) -> Result<Dige
 pub fn name(alloc: Global, value: &Value, place: &PlaceRef<'_>) -> Result<Name, MemberFault>
     ensures { Gives result (name_in (view value.now) place.now) }
 {
-    let bytes = bytes_at(alloc, value, place)?;
+    let bytes = any_bytes(alloc, value, place)?;
     match Name::from_bytes(bytes.as_slice()) {
         Some(name) => Ok(name),
         None => refuse(alloc, MemberKind::BadHex, place),

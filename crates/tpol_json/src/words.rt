@@ -3,7 +3,7 @@
 ghost use Rattle.std.specs.Prelude.{◌≡◌, ◌++◌, ◌↔◌, map, IsTrue};
 ghost use Rattle.std.specs.Char.{to_ascii_lowercase};
 ghost use Rattle.serde_json.specs.View.{view};
-ghost use Rattle.tpol_json.specs.Faults.{Gives};
+ghost use Rattle.tpol_json.specs.Reading.{Gives};
 ghost use Rattle.tpol_json.specs.Values.{one_word};
 ghost use Rattle.tpol_json.specs.Words.{find_word, same_word, word_in};
 
@@ -34,7 +34,7 @@ fn is_joined(text: &[u8], prefix: &[u8], word: &[u8]) -> bool
 
 /// What the first of these words that the text is, in any case and with or without the prefix, stands for.
 #[tactic(auto, unfolding(crate::specs::Words::find_word))]
-pub fn find_word<T: Copy>(text: &str, prefix: &str, words: &[(&str, T)]) -> Option<T>
+fn find_word<T: Copy>(text: &str, prefix: &str, words: &[(&str, T)]) -> Option<T>
     ensures { result ≡ find_word prefix.now (map (λ word. (word.0.now, word.1)) words.now) text.now }
 {
     for (word, meaning) in words {

@@ -7,7 +7,8 @@
 use serde_json::Value;
 use std::alloc::Global;
 use tpol_json::{
-    ParseFault, Place, bytes_of, member, number_of, parse, place_text, same_word, text_of, truth_of,
+    ParseFault, Place, PlaceRef, bytes_of, member, number_of, parse, place_text, same_word, text,
+    truth,
 };
 
 /// What a document is read as.
@@ -70,13 +71,13 @@ fn number(alloc: Global, value: &Value) -> Option<i64> {
     number_of(alloc, value, -2147483648, 2147483647, &Place::root(alloc)).ok()
 }
 
-fn truth(alloc: Global, value: &Value) -> Option<bool> {
-    truth_of(alloc, value, &Place::root(alloc)).ok()
+fn truth_value(alloc: Global, value: &Value) -> Option<bool> {
+    truth(alloc, value, &PlaceRef::at(&Place::root(alloc))).ok()
 }
 
-fn is_text(alloc: Global, value: &Value, text: &str) -> bool {
-    match text_of(alloc, value, &Place::root(alloc)) {
-        Ok(read) => read.as_str() == text,
+fn is_text(alloc: Global, value: &Value, wanted: &str) -> bool {
+    match text(alloc, value, &PlaceRef::at(&Place::root(alloc))) {
+        Ok(read) => read.as_str() == wanted,
         Err(_) => false,
     }
 }
@@ -92,7 +93,7 @@ fn gives(alloc: Global, value: &Value, reading: &Reading) -> bool {
     match reading {
         Reading::Bytes(bytes) => gives_bytes(alloc, value, bytes),
         Reading::Number(wanted) => number(alloc, value) == *wanted,
-        Reading::Truth(wanted) => truth(alloc, value) == *wanted,
+        Reading::Truth(wanted) => truth_value(alloc, value) == *wanted,
         Reading::Type(text) => has_type(alloc, value, text),
         Reading::Nothing => false,
     }
@@ -136,17 +137,10 @@ fn is_written(alloc: Global, place: &Place, text: &str) -> bool {
     }
 }
 
-fn is_item_written(alloc: Global, place: &Place, index: u32, text: &str) -> bool {
-    match place.item(alloc, index) {
-        Ok(item) => is_written(alloc, &item, text),
-        Err(_) => false,
-    }
-}
-
 // Whether an item of this member of a document is written so.
-fn is_inner_written(alloc: Global, name: &str, index: u32, text: &str) -> bool {
-    match Place::root(alloc).member(alloc, name) {
-        Ok(place) => is_item_written(alloc, &place, index, text),
+fn is_inner_written(alloc: Global, name: &str, index: usize, text: &str) -> bool {
+    match PlaceRef::at(&Place::root(alloc)).member(name).item(index).to_place(alloc) {
+        Ok(place) => is_written(alloc, &place, text),
         Err(_) => false,
     }
 }

@@ -3,10 +3,10 @@ ghost use Rattle.json.specs.Print.{quoted};
 ghost use Rattle.tpol_lines.specs.Lines.{line_of};
 ghost use Rattle.tpol_lines.specs.Pen.{behind_separator, line_behind};
 
-use crate::lines::{Lines, push_bytes};
+use crate::lines::Lines;
 use std::alloc::Global;
 use tpol_base::{Blob, NoMemory};
-use tpol_json::quoted;
+use tpol_json::push_quoted;
 
 // Writes the lines of paths, each when its path is whole. It holds the choices and the kinds of the policy
 // commands so far.
@@ -40,10 +40,8 @@ impl Pen {
         ensures lines { self.new.lines ≡ self.old.lines }
         ensures kinds { self.new.kinds ≡ self.old.kinds }
     {
-        let name = quoted(alloc, name)?;
         self.choices.extend_from_slice(mark.as_bytes())?;
-        self.choices.extend_from_slice(name.as_bytes())?;
-        Ok(())
+        push_quoted(alloc, &mut self.choices, name)
     }
 
     // Adds the choice of an approval of a policy that no listed document has.
@@ -76,11 +74,20 @@ impl Pen {
     {
         let position = self.lines.len().checked_add(1).ok_or(NoMemory)?;
         let head = format!(in alloc; "path {position} ")?;
-        let mut line = Blob::from_slice(alloc, head.as_bytes())?;
-        line.extend_from_slice(behind_separator(self.choices.as_slice(), b"-"))?;
+        let choices = behind_separator(self.choices.as_slice(), b"-");
+        let kinds = behind_separator(self.kinds.as_slice(), b"");
+        let room = head
+            .len()
+            .saturating_add(choices.len())
+            .saturating_add(kinds.len())
+            .saturating_add(2);
+        let mut line = Vec::with_capacity(alloc, room)?;
+        line.extend_from_slice(head.as_bytes())?;
+        line.extend_from_slice(choices)?;
         line.push(b' ')?;
-        line.extend_from_slice(behind_separator(self.kinds.as_slice(), b""))?;
-        push_bytes(&mut self.lines, line)
+        line.extend_from_slice(kinds)?;
+        line.push(b'\n')?;
+        self.lines.push(Blob::from_vec(line))
     }
 }
 

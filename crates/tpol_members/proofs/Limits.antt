@@ -16,7 +16,8 @@ use Rattle.tpol_json.specs.Places.{at_member, at_item}
 use Rattle.tpol_json.specs.Values as values
 use Rattle.tpol_json.specs.Words.{find_word, same_word, word_in}
 use Rattle.tpol_json.specs.declared.place.Place.{Place}
-use Rattle.tpol_members.specs.Faults.{Found, bad, kind_of}
+use Rattle.tpol_members.specs.Faults.{Found, kind_of}
+use Rattle.tpol_json.specs.Reading.{bad}
 use Rattle.tpol_members.specs.Fields.{policy_ref_in, expiration_in, operand_in, offset_in}
 use Rattle.tpol_members.specs.Localities.{locality_word_in, localities_from, locality_list, localities_or, locality_in}
 use Rattle.tpol_members.specs.Operations.{code_in}

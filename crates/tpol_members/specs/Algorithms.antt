@@ -2,14 +2,14 @@
 use Rattle.std.specs.Prelude.{ℕ, ◌==◌, ◌||◌, [], ◌∷◌, codes, Result, Ok, Err, Bool, if◌then◌else◌, ⊤}
 use Rattle.serde_json.specs.Data.{Data}
 use Rattle.tpol_base.specs.Answers.{◌>>=◌}
-use Rattle.tpol_json.specs.Reading as reading
+use Rattle.tpol_json.specs.Reading.{bad}
+use Rattle.tpol_json.specs.Reading as json
 use Rattle.tpol_json.specs.Words.{word_in}
+use Rattle.tpol_json.specs.declared.fault.Fault.{Fault}
 use Rattle.tpol_json.specs.declared.place.Place.{Place}
-use Rattle.tpol_members.specs.declared.fault.ElementFault.{ElementFault}
-use Rattle.tpol_members.specs.declared.fault.ElementFault.TheVariants.{Bad, NoMemory}
 use Rattle.tpol_members.specs.declared.fault.PolicyKind.{PolicyKind}
 use Rattle.tpol_members.specs.declared.fault.PolicyKind.TheVariants.{BadNumber, UnknownType, AsymmetricKey, OtherHash}
-use Rattle.tpol_members.specs.Faults.{Found, bad}
+use Rattle.tpol_members.specs.Faults.{Found}
 use Rattle.tpol_members.specs.Values.{unsigned_in}
 use Rattle.tpol_members.specs.Words.{found_or, only_word, key_types, schemes}
 
@@ -19,14 +19,13 @@ kind_instead kind BadNumber = kind
 kind_instead kind other = other
 
 -- the same of what a call answers
-abbrev pub answer_instead : {A : Type 0} → PolicyKind → Result A ElementFault → Result A ElementFault
+abbrev pub answer_instead : {A : Type 0} → PolicyKind → Result A (Fault PolicyKind) → Result A (Fault PolicyKind)
 answer_instead kind (Ok x) = Ok x
-answer_instead kind (Err (Bad other place)) = Err (Bad (kind_instead kind other) place)
-answer_instead kind (Err NoMemory) = Err NoMemory
+answer_instead kind (Err fault) = Err (json.fault_of (kind_instead kind) fault)
 
 -- what was found, with this kind in the place of BadNumber
 abbrev pub instead : {A : Type 0} → PolicyKind → Found A → Found A
-instead kind = reading.read_as (kind_instead kind)
+instead kind = json.read_as (kind_instead kind)
 
 -- the number of SHA-256
 abbrev pub hash_number_in : Data → Place → Found ⊤

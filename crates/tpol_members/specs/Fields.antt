@@ -8,7 +8,8 @@ use Rattle.tpol_json.specs.declared.place.Place.{Place}
 use Rattle.tpol_members.specs.Values.{bytes_up_to, digest_in, signed_in, unsigned_in}
 use Rattle.tpol_base.specs.Answers.{◌>>=◌}
 use Rattle.tpol_members.specs.Faults.{Found}
-use Rattle.tpol_members.specs.Members.{needed, optional}
+use Rattle.tpol_json.specs.Members.{optional}
+use Rattle.tpol_members.specs.Members.{needed}
 use Rattle.tpol_members.specs.Operations.{operation_in}
 
 -- `policyRef`: at most 64 bytes, without it none

@@ -6,7 +6,8 @@ use Rattle.tpol_base.specs.Answers.{◌>>=◌}
 use Rattle.tpol_json.specs.Places.{at_item}
 use Rattle.tpol_json.specs.declared.place.Place.{Place}
 use Rattle.tpol_members.specs.declared.fault.PolicyKind.TheVariants.{BadNumber}
-use Rattle.tpol_members.specs.Faults.{Found, bad}
+use Rattle.tpol_members.specs.Faults.{Found}
+use Rattle.tpol_json.specs.Reading.{bad}
 use Rattle.tpol_members.specs.Values.{unsigned_in}
 use Rattle.tpol_members.specs.Words.{only_word, localities}
 

@@ -23,10 +23,6 @@ module _ {A : Type 0} where
   abbrev pub needed : (Data → Place → Found A) → List ℕ → Data → Place → Found A
   needed = json.needed Missing
 
-  -- a member that may be left out, for its default
-  abbrev pub optional : (Data → Place → Found A) → A → List ℕ → Data → Place → Found A
-  optional = json.optional
-
 -- none of these members may be there: the first that is comes a second time
 abbrev pub without : List (List ℕ) → Data → Place → Found ⊤
 without = json.without Twice

@@ -8,7 +8,8 @@ use Rattle.tpol_base.specs.declared.compare.Compare.{Compare}
 use Rattle.tpol_json.specs.Words.{word_in}
 use Rattle.tpol_json.specs.declared.place.Place.{Place}
 use Rattle.tpol_members.specs.declared.fault.PolicyKind.TheVariants.{BadNumber}
-use Rattle.tpol_members.specs.Faults.{Found, bad}
+use Rattle.tpol_members.specs.Faults.{Found}
+use Rattle.tpol_json.specs.Reading.{bad}
 use Rattle.tpol_members.specs.Values.{unsigned_in, u32_in}
 use Rattle.tpol_members.specs.Words.{found_or}
 

@@ -12,7 +12,8 @@ use Rattle.tpol_tree.specs.declared.wishes.PcrWish.{PcrWish}
 use Rattle.tpol_tree.specs.declared.wishes.PcrWish.TheVariants.{Values, Current}
 use Rattle.tpol_members.specs.Algorithms.{hash_in}
 use Rattle.tpol_base.specs.Answers.{◌>>=◌}
-use Rattle.tpol_members.specs.Faults.{Found, bad}
+use Rattle.tpol_members.specs.Faults.{Found}
+use Rattle.tpol_json.specs.Reading.{bad}
 use Rattle.tpol_members.specs.Members.{object_in, needed, noted, one_of}
 use Rattle.tpol_members.specs.Values.{digest_in, unsigned_in}
 use Rattle.tpol_members.specs.Walks.{Reading, still}

@@ -9,7 +9,8 @@ use Rattle.tpol_json.specs.Members.{items_count}
 use Rattle.tpol_json.specs.Values as json
 use Rattle.tpol_json.specs.declared.place.Place.{Place}
 use Rattle.tpol_members.specs.declared.fault.PolicyKind.TheVariants.{BadHex, BadNumber}
-use Rattle.tpol_members.specs.Faults.{Found, bad, read_as}
+use Rattle.tpol_members.specs.Faults.{Found, read_as}
+use Rattle.tpol_json.specs.Reading.{bad}
 
 -- a text
 abbrev pub text_in : Data → Place → Found (List ℕ)

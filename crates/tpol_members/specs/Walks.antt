@@ -1,9 +1,11 @@
 -- A reading that goes on from what came before it: the notes so far, and how many elements may still come.
 use Rattle.std.specs.Prelude.{Result, Ok, Err}
 use Rattle.tpol_base.specs.Answers as answers
-use Rattle.tpol_members.specs.declared.fault.ElementFault.{ElementFault}
+use Rattle.tpol_json.specs.declared.fault.Fault.{Fault}
+use Rattle.tpol_json.specs.Reading.{cause}
+use Rattle.tpol_members.specs.declared.fault.PolicyKind.{PolicyKind}
 use Rattle.tpol_members.specs.declared.walk.Walk.{Walk}
-use Rattle.tpol_members.specs.Faults.{Found, cause}
+use Rattle.tpol_members.specs.Faults.{Found}
 
 abbrev pub Reading : Type 0 → Type 0
 Reading A = Walk → Found (A × Walk)
@@ -15,9 +17,9 @@ still (Err fault) walk = Err fault
 
 -- A call gives, seen by `view`, what the reading is, and leaves the walk as the reading does, unless memory
 -- runs out.
-abbrev pub LeavesAs : {A B : Type 0} → (A → B) → Result A ElementFault → Walk → Found (B × Walk) → Type 0
+abbrev pub LeavesAs : {A B : Type 0} → (A → B) → Result A (Fault PolicyKind) → Walk → Found (B × Walk) → Type 0
 LeavesAs view result walk = answers.Gives (λ x. (view x, walk)) cause result
 
 -- the same, seen as it is
-abbrev pub Leaves : {A : Type 0} → Result A ElementFault → Walk → Found (A × Walk) → Type 0
+abbrev pub Leaves : {A : Type 0} → Result A (Fault PolicyKind) → Walk → Found (A × Walk) → Type 0
 Leaves = LeavesAs (λ x. x)

@@ -5,7 +5,8 @@ use Rattle.tpol_base.specs.Answers.{◌>>=◌}
 use Rattle.tpol_json.specs.Values.{one_word}
 use Rattle.tpol_json.specs.declared.place.Place.{Place}
 use Rattle.tpol_members.specs.declared.fault.PolicyKind.{PolicyKind}
-use Rattle.tpol_members.specs.Faults.{Found, bad, read_as}
+use Rattle.tpol_members.specs.Faults.{Found, read_as}
+use Rattle.tpol_json.specs.Reading.{bad}
 
 -- what was found, or else what is read otherwise
 abbrev pub found_or : {A : Type 0} → Option A → Found A → Found A

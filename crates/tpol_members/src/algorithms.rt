@@ -3,15 +3,14 @@
 ghost use Rattle.std.specs.Prelude.{◌≡◌};
 ghost use Rattle.serde_json.specs.View.{view};
 ghost use Rattle.tpol_members.specs.Algorithms.{answer_instead, hash_in, hash_number_in, key_type_in, key_algorithm_in, scheme_in};
-ghost use Rattle.tpol_members.specs.Faults.{Gives};
+ghost use Rattle.tpol_json.specs.Reading.{Gives};
 ghost use Rattle.tpol_members.specs.Values.{unsigned_in};
 
-use crate::fault::refuse;
 use crate::words::only_word;
 use crate::{ElementFault, PolicyKind};
 use serde_json::Value;
 use std::alloc::Global;
-use tpol_json::{PlaceRef, unsigned, word_in};
+use tpol_json::{PlaceRef, refuse, unsigned, word_in};
 
 /// SHA-256, by its name or its number; another text or number is `OtherHash`, a value of another kind
 /// `WrongKind`.

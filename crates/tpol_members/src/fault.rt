@@ -1,11 +1,6 @@
 //! What is wrong in a policy document, and where.
 
-ghost use Rattle.std.specs.Prelude.{◌≡◌};
-ghost use Rattle.tpol_members.specs.Faults.{Gives, bad, kind_of};
-
-use std::alloc::{AllocError, AllocFailed, Global};
-use tpol_base::NoMemory;
-use tpol_json::{MemberFault, MemberKind, Place, PlaceRef};
+use tpol_json::{Fault, Includes, MemberKind, Place};
 
 /// What is wrong in a policy document, numbered from 1 in this order.
 #[derive(Clone, Copy, Debug, PartialEq, Eq)]
@@ -51,84 +46,22 @@ pub enum PolicyFault {
     NoMemory,
 }
 
-/// Why a part of a document is refused that is read from JSON values.
-#[derive(Drop)]
-pub enum ElementFault {
-    /// The first fault in reading order.
-    Bad { kind: PolicyKind, place: Place },
-    /// Memory ran out.
-    NoMemory,
-}
+/// Why a part of a policy document is refused: the first fault in reading order.
+pub type ElementFault = Fault<PolicyKind>;
 
-impl From<NoMemory> for ElementFault {
-    ghost use Rattle.std.specs.Prelude.{◌≡◌};
-    ghost use Rattle.tpol_members.specs.declared.fault.ElementFault.TheVariants as faults;
+impl Includes<MemberKind> for PolicyKind {
+    ghost use Rattle.tpol_members.specs.Faults.{kind_of};
 
-    ghost from_gives = { λ _ fault. fault ≡ faults.NoMemory };
+    ghost kind_of = { kind_of };
 
-    fn from(_: NoMemory) -> Self {
-        ElementFault::NoMemory
-    }
-}
-
-impl From<AllocError> for ElementFault {
-    ghost use Rattle.std.specs.Prelude.{◌≡◌};
-    ghost use Rattle.tpol_members.specs.declared.fault.ElementFault.TheVariants as faults;
-
-    ghost from_gives = { λ _ fault. fault ≡ faults.NoMemory };
-
-    fn from(_: AllocError) -> Self {
-        ElementFault::NoMemory
-    }
-}
-
-impl<T: Drop> From<AllocFailed<T>> for ElementFault {
-    ghost use Rattle.std.specs.Prelude.{◌≡◌};
-    ghost use Rattle.tpol_members.specs.declared.fault.ElementFault.TheVariants as faults;
-
-    ghost from_gives = { λ _ fault. fault ≡ faults.NoMemory };
-
-    fn from(_: AllocFailed<T>) -> Self {
-        ElementFault::NoMemory
-    }
-}
-
-impl From<MemberFault> for ElementFault {
-    ghost use Rattle.std.specs.Prelude.{◌≡◌};
-    ghost use Rattle.tpol_members.specs.Faults.{fault_of};
-
-    ghost from_gives = { λ fault made. made ≡ fault_of fault };
-
-    fn from(fault: MemberFault) -> Self {
-        match fault {
-            MemberFault::Bad { kind, place } => ElementFault::Bad {
-                kind: kind_of(kind),
-                place,
-            },
-            MemberFault::NoMemory => ElementFault::NoMemory,
+    fn of_kind(kind: MemberKind) -> PolicyKind {
+        match kind {
+            MemberKind::Missing => PolicyKind::Missing,
+            MemberKind::WrongKind => PolicyKind::WrongKind,
+            MemberKind::BadHex => PolicyKind::BadHex,
+            MemberKind::BadNumber => PolicyKind::BadNumber,
+            MemberKind::Twice => PolicyKind::Twice,
+            MemberKind::TooMany => PolicyKind::TooMany,
         }
     }
-}
-
-fn kind_of(kind: MemberKind) -> PolicyKind
-    ensures { result ≡ kind_of kind }
-{
-    match kind {
-        MemberKind::Missing => PolicyKind::Missing,
-        MemberKind::WrongKind => PolicyKind::WrongKind,
-        MemberKind::BadHex => PolicyKind::BadHex,
-        MemberKind::BadNumber => PolicyKind::BadNumber,
-        MemberKind::Twice => PolicyKind::Twice,
-        MemberKind::TooMany => PolicyKind::TooMany,
-    }
-}
-
-/// The refusal of this kind at this place.
-pub fn refuse<T>(alloc: Global, kind: PolicyKind, place: &PlaceRef<'_>) -> Result<T, ElementFault>
-    ensures { Gives result (bad kind place.now) }
-{
-    Err(ElementFault::Bad {
-        kind,
-        place: place.to_place(alloc)?,
-    })
 }

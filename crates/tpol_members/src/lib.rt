@@ -14,7 +14,7 @@ mod walk;
 mod words;
 
 pub use algorithms::{check_hash, check_key_type, scheme};
-pub use fault::{ElementFault, PolicyFault, PolicyKind, refuse};
+pub use fault::{ElementFault, PolicyFault, PolicyKind};
 pub use fields::{cp_hash, expiration, offset, operand, operation_member, policy_ref};
 pub use locality::localities;
 pub use members::{alone, first_of, note_unknown};

@@ -1,15 +1,14 @@
 //! Localities as sets, bit n for locality n.
 
 ghost use Rattle.serde_json.specs.View.{view, items_view};
-ghost use Rattle.tpol_members.specs.Faults.{Gives};
+ghost use Rattle.tpol_json.specs.Reading.{Gives};
 ghost use Rattle.tpol_members.specs.Localities.{locality_in, locality_list, locality_word_in};
 
-use crate::fault::refuse;
 use crate::words::only_word;
 use crate::{ElementFault, PolicyKind};
 use serde_json::Value;
 use std::alloc::Global;
-use tpol_json::{PlaceRef, unsigned};
+use tpol_json::{PlaceRef, refuse, unsigned};
 
 /// A set of localities, bit n for locality n: a number from 1 to 31, or a list of at least one name.
 /// `WrongKind` for a value that is neither list, text nor number, and for an item that is no text;

@@ -3,15 +3,14 @@
 ghost use Rattle.std.specs.Prelude.{◌≡◌, ◌<◌, suc, drop, length, map, IfOk, OnOk};
 ghost use Rattle.serde_json.specs.View.{view};
 ghost use Rattle.tpol_base.specs.Answers as answers;
-ghost use Rattle.tpol_members.specs.Faults.{Gives, cause};
+ghost use Rattle.tpol_json.specs.Reading.{Gives, cause};
 ghost use Rattle.tpol_members.specs.Members.{first_of, noted, without};
 
-use crate::fault::refuse;
 use crate::{ElementFault, PolicyKind, Walk};
 use serde_json::Value;
 use std::alloc::Global;
 use tpol_base::NoMemory;
-use tpol_json::{PlaceRef, member};
+use tpol_json::{PlaceRef, member, refuse, without};
 
 /// The first of these members that is there: its position among them, what it says, and its name. Without
 /// one the first is `Missing`.
@@ -45,19 +44,13 @@ pub fn alone(
     requires { position < length names.now }
     ensures { Gives result (without (drop (suc position) (map (λ name. name.now) names.now)) (view value.now) place.now) }
 {
-    without(alloc, value, &names[position + 1..], place)
-}
-
-// None of these members may stand in the object: the first of them that does is `Twice`, at its own place.
-fn without(
-    alloc: Global,
-    value: &Value,
-    names: &[&str],
-    place: &PlaceRef<'_>,
-) -> Result<(), ElementFault>
-    ensures { Gives result (without (map (λ name. name.now) names.now) (view value.now) place.now) }
-{
-    Ok(tpol_json::without(alloc, value, names, place)?)
+    without(
+        alloc,
+        value,
+        &names[position + 1..],
+        PolicyKind::Twice,
+        place,
+    )
 }
 
 /// Notes the members of an object that are none of these, in ascending byte order of their names.

@@ -1,15 +1,14 @@
 //! Comparisons and commands, by their names or their numbers.
 
 ghost use Rattle.serde_json.specs.View.{view};
-ghost use Rattle.tpol_members.specs.Faults.{Gives};
+ghost use Rattle.tpol_json.specs.Reading.{Gives};
 ghost use Rattle.tpol_members.specs.Operations.{code_in, operation_in, operation_number_in};
 
-use crate::fault::refuse;
 use crate::{ElementFault, PolicyKind};
 use serde_json::Value;
 use std::alloc::Global;
 use tpol_base::{Compare, command_codes};
-use tpol_json::{PlaceRef, unsigned, unsigned_32, word_in};
+use tpol_json::{PlaceRef, refuse, unsigned, unsigned_32, word_in};
 
 /// A comparison, by its name or its number. `WrongKind` for a value that is neither text nor number,
 /// `BadNumber` for another text or number.

@@ -2,18 +2,17 @@
 
 ghost use Rattle.std.specs.Prelude.{◌≡◌, ◌≤◌, ◌^◌, [], length, nat_lt, position, IfSome, OnOk};
 ghost use Rattle.serde_json.specs.View.{view, items_view};
-ghost use Rattle.tpol_members.specs.Faults.{Gives};
+ghost use Rattle.tpol_json.specs.Reading.{Gives};
 ghost use Rattle.tpol_members.specs.Pcrs.{bank_in, banks_in, current_pcrs_in, has_value, mask_from, mask_in, new_pcr_in, only_bank, pcr_bit, pcr_member, pcr_value_in, pcr_values_from, pcr_values_in, pcrs_at, pcrs_in, select_member, value_member, with_value, bank_member};
 ghost use Rattle.tpol_members.specs.Walks.{Leaves};
 
 use crate::algorithms::check_hash;
-use crate::fault::refuse;
 use crate::members::{alone, first_of, note_unknown};
 use crate::{ElementFault, PolicyKind, Walk};
 use serde_json::Value;
 use std::alloc::Global;
 use tpol_base::{Digest32, NoMemory};
-use tpol_json::{PlaceRef, check_object, digest, items, needed, unsigned};
+use tpol_json::{PlaceRef, check_object, digest, items, needed, refuse, unsigned};
 use tpol_tree::{PcrValues, PcrWish};
 
 fn has_value(values: &[(u8, Digest32)], pcr: u8) -> bool

@@ -2,14 +2,13 @@
 
 ghost use Rattle.std.specs.Prelude.{map};
 ghost use Rattle.serde_json.specs.View.{view};
-ghost use Rattle.tpol_members.specs.Faults.{Gives};
+ghost use Rattle.tpol_json.specs.Reading.{Gives};
 ghost use Rattle.tpol_members.specs.Words.{only_word};
 
-use crate::fault::refuse;
 use crate::{ElementFault, PolicyKind};
 use serde_json::Value;
 use std::alloc::Global;
-use tpol_json::{PlaceRef, word};
+use tpol_json::{PlaceRef, refuse, word};
 
 /// One of these words and nothing else. Another text is refused with the kind given, a value of another
 /// JSON kind with `WrongKind`.

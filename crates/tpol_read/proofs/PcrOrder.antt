@@ -14,7 +14,7 @@ use Rattle.tpol_members.proofs.Limits.{all_still, mask-fits, Is32}
 use Rattle.tpol_json.proofs.AllFound.{AllFound, all_after, all_then, needed-fits}
 use Rattle.tpol_read.specs.RisingPcrs.{IsRising}
 use Rattle.tpol_tree.specs.Bounds.{PcrsHaveBounds}
-use Rattle.tpol_members.specs.Faults.{bad}
+use Rattle.tpol_json.specs.Reading.{bad}
 use Rattle.tpol_members.specs.Members.{object_in, read_needed}
 use Rattle.tpol_members.specs.Values.{unsigned_in}
 use Rattle.tpol_members.specs.Pcrs.{PcrList, has_value, with_value, new_pcr_in, pcr_member, bank_member, value_member, pcr_value_in, pcr_values_from, wish_of_values, mask_in, current_pcrs_in, select_member, bank_in, only_bank, bank_or_list, pcrs_at, pcrs_in}

@@ -10,7 +10,8 @@ use Rattle.tpol_read.specs.declared.approvals.ApprovalType.TheVariants.{Key, Ind
 use Rattle.tpol_members.specs.declared.fault.PolicyKind.TheVariants as kinds
 use Rattle.tpol_members.specs.Values.{digest_in}
 use Rattle.tpol_base.specs.Answers.{◌>>=◌}
-use Rattle.tpol_members.specs.Faults.{Found, bad}
+use Rattle.tpol_members.specs.Faults.{Found}
+use Rattle.tpol_json.specs.Reading.{bad}
 use Rattle.tpol_members.specs.Fields.{policy_ref_in}
 use Rattle.tpol_members.specs.Members.{object_in, needed, noted}
 use Rattle.tpol_elements.specs.Rows.{without_pem}

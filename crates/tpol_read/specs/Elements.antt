@@ -10,12 +10,13 @@ use Rattle.tpol_elements.specs.declared.types.ElementType.TheVariants as types
 use Rattle.tpol_elements.specs.declared.types.LeafType.{LeafType}
 use Rattle.tpol_members.specs.Values.{text_in}
 use Rattle.tpol_base.specs.Answers.{◌>>=◌}
-use Rattle.tpol_members.specs.Faults.{Found, bad}
-use Rattle.tpol_members.specs.Members.{object_in, needed, optional, noted}
+use Rattle.tpol_members.specs.Faults.{Found}
+use Rattle.tpol_json.specs.Reading.{bad}
+use Rattle.tpol_json.specs.Members.{optional, items_count}
+use Rattle.tpol_members.specs.Members.{object_in, needed, noted}
 use Rattle.tpol_elements.specs.Rows.{leaf_row}
 use Rattle.tpol_elements.specs.Types.{type_in, leaf_members}
 use Rattle.tpol_members.specs.Walks.{Reading}
-use Rattle.tpol_json.specs.Members.{items_count}
 use Rattle.tpol_tree.specs.Erased.{nowhere}
 use Rattle.tpol_tree.specs.declared.policy.Branch.{Branch}
 use Rattle.tpol_tree.specs.declared.policy.Branches.{Branches}

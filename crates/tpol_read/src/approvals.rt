@@ -4,15 +4,15 @@ ghost use Rattle.std.specs.Prelude.{[]};
 ghost use Rattle.serde_json.specs.View.{view, items_view};
 ghost use Rattle.tpol_read.specs.Approvals.{approval_in, approval_type_in, approvals_from, approvals_member, approvals_of, by_index, by_key, counted_approval, signature_member, type_of_approval};
 ghost use Rattle.serde_json.specs.Find.{as_array};
-ghost use Rattle.tpol_members.specs.Faults.{Gives};
+ghost use Rattle.tpol_json.specs.Reading.{Gives};
 ghost use Rattle.tpol_members.specs.Walks.{Leaves};
 
 use serde_json::Value;
 use std::alloc::Global;
 use tpol_base::Digest32;
 use tpol_elements::{index_wish, key_wish, without_pem};
-use tpol_json::{PlaceRef, check_object, digest, member, needed};
-use tpol_members::{ElementFault, PolicyKind, Walk, note_unknown, only_word, policy_ref, refuse};
+use tpol_json::{PlaceRef, check_object, digest, member, needed, refuse};
+use tpol_members::{ElementFault, PolicyKind, Walk, note_unknown, only_word, policy_ref};
 use tpol_tree::{ApprovalWish, ApprovalWishes};
 
 /// How many authorizations a document may have.

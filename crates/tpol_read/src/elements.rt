@@ -13,8 +13,8 @@ use crate::members::{description, name, type_of_element};
 use serde_json::Value;
 use std::alloc::Global;
 use tpol_elements::{ElementType, LeafType, leaf_row, note_leaf};
-use tpol_json::{PlaceRef, check_object, needed};
-use tpol_members::{ElementFault, PolicyKind, Walk, note_unknown, refuse};
+use tpol_json::{PlaceRef, check_object, needed, refuse};
+use tpol_members::{ElementFault, PolicyKind, Walk, note_unknown};
 use tpol_tree::{Branch, Branches, Element, Elements};
 
 /// How many ORs may stand inside one another.

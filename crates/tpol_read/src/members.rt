@@ -3,8 +3,8 @@
 ghost use Rattle.serde_json.specs.View.{view};
 ghost use Rattle.tpol_read.specs.Elements.{element_type_in, name_member, description_member};
 ghost use Rattle.std.specs.Prelude.{[]};
-ghost use Rattle.tpol_members.specs.Faults.{Gives};
-ghost use Rattle.tpol_members.specs.Members.{optional};
+ghost use Rattle.tpol_json.specs.Reading.{Gives};
+ghost use Rattle.tpol_json.specs.Members.{optional};
 ghost use Rattle.tpol_members.specs.Values.{text_in};
 
 use serde_json::Value;

@@ -5,7 +5,7 @@ use Rattle.serde_json.specs.Data.{Data}
 use Rattle.tpol_base.specs.Answers.{◌>>=◌}
 use Rattle.tpol_json.specs.Places.{at_member}
 use Rattle.tpol_json.specs.declared.place.Place.{Place}
-use Rattle.tpol_entities.specs.Faults.{bad}
+use Rattle.tpol_json.specs.Reading.{bad}
 use Rattle.tpol_entities.specs.Members.{needed}
 use Rattle.tpol_entities.specs.Targets.{target_in}
 use Rattle.tpol_entities.specs.Values.{u32_in}

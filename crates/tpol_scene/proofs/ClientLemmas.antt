@@ -13,7 +13,8 @@ use Rattle.tpol_json.specs.declared.fault.MemberKind.TheVariants.{TooMany}
 use Rattle.tpol_json.specs.declared.place.Place.{Place}
 use Rattle.tpol_name.specs.Setups.{IsAuthValue}
 use Rattle.tpol_entities.specs.Faults.{kind_of, read_as}
-use Rattle.tpol_entities.specs.Members.{needed, optional}
+use Rattle.tpol_json.specs.Members.{optional}
+use Rattle.tpol_entities.specs.Members.{needed}
 use Rattle.tpol_entities.specs.Targets.{target_in}
 use Rattle.tpol_entities.specs.Values.{object_in, u32_in, bytes_up_to, auth_in}
 use Rattle.tpol_entities.specs.declared.entities.Entities.{Entities}

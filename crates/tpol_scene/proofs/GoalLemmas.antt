@@ -10,7 +10,8 @@ use Rattle.tpol_json.specs.declared.place.Place.{Place}
 use Rattle.tpol_name.specs.Paths.{is_same_path}
 use Rattle.tpol_name.specs.declared.entries.IndexEntry.{IndexEntry}
 use Rattle.tpol_name.specs.declared.entries.ObjectEntry.{ObjectEntry}
-use Rattle.tpol_entities.specs.Members.{needed, optional}
+use Rattle.tpol_json.specs.Members.{optional}
+use Rattle.tpol_entities.specs.Members.{needed}
 use Rattle.tpol_entities.specs.Targets.{handle_at, handle_or_bad, target_in}
 use Rattle.tpol_entities.specs.Values.{object_in, text_in, unsigned_in, bytes_up_to}
 use Rattle.tpol_entities.specs.declared.entities.Entities.{Entities}

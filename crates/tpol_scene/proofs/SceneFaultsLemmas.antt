@@ -9,7 +9,7 @@ use Rattle.tpol_json.specs.declared.place.Place.{Place}
 use Rattle.tpol_entities.specs.Entities.{entity_in, entities_in, no_entities}
 use Rattle.tpol_entities.specs.Faults.{Fault, Found, first_of}
 use Rattle.tpol_entities.specs.Lists.{faults_of, list_faults, optional_faults, optional_kept}
-use Rattle.tpol_entities.specs.Members.{optional}
+use Rattle.tpol_json.specs.Members.{optional}
 use Rattle.tpol_entities.specs.Pcrs.{pcr_in, pcrs_in, zero_bank}
 use Rattle.tpol_entities.specs.Values.{object_in, u32_in, truth_in, digest_in, auth_in}
 use Rattle.tpol_entities.specs.declared.entities.Entities.{Entities}

@@ -6,7 +6,7 @@ use Rattle.tpol_json.proofs.AllFound.{AllFound, all_then}
 use Rattle.tpol_json.specs.declared.place.Place.{Place}
 use Rattle.tpol_name.specs.Setups.{IsSetup}
 use Rattle.tpol_entities.specs.Entities.{entities_in, no_entities}
-use Rattle.tpol_entities.specs.Members.{optional}
+use Rattle.tpol_json.specs.Members.{optional}
 use Rattle.tpol_entities.specs.Values.{object_in}
 use Rattle.tpol_entities.specs.declared.entities.Entities.{Entities}
 use Rattle.tpol_entities.proofs.EntryLemmas.{Entered}

@@ -12,7 +12,8 @@ use Rattle.tpol_json.specs.Values.{is_within_limit}
 use Rattle.tpol_json.specs.declared.place.Place.{Place}
 use Rattle.tpol_entities.specs.Entities.{policy_name_in}
 use Rattle.tpol_entities.specs.Faults.{read_as}
-use Rattle.tpol_entities.specs.Members.{needed, optional}
+use Rattle.tpol_json.specs.Members.{optional}
+use Rattle.tpol_entities.specs.Members.{needed}
 use Rattle.tpol_entities.specs.Values.{object_in, truth_in, u32_in, unsigned_in}
 use Rattle.tpol_entities.specs.declared.fault.SceneKind.TheVariants.{NoSuchClient, NoSuchRun, Twice}
 use Rattle.tpol_entities.proofs.DistinctLemmas.{list_any-map}

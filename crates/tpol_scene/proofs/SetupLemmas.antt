@@ -5,7 +5,7 @@ use Rattle.serde_json.specs.Data.{Data}
 use Rattle.tpol_json.proofs.AllFound.{AllFound, all_map, all_then}
 use Rattle.tpol_json.specs.declared.place.Place.{Place}
 use Rattle.tpol_name.specs.Setups.{IsAuthValue}
-use Rattle.tpol_entities.specs.Members.{optional}
+use Rattle.tpol_json.specs.Members.{optional}
 use Rattle.tpol_entities.specs.Pcrs.{pcrs_in, zero_bank}
 use Rattle.tpol_scene.specs.Scenes.{authorities_in, start_in, times_in, time_in}
 use Rattle.tpol_base.specs.Digest.{zero_digest}

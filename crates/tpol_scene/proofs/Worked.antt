@@ -5,7 +5,7 @@ use Rattle.tpol_json.specs.Members.{items_from}
 use Rattle.tpol_json.specs.Places.{root, at_member, at_item}
 use Rattle.tpol_json.specs.Words.{find_word}
 use Rattle.tpol_entities.specs.Entities.{heading_in, entity_in}
-use Rattle.tpol_entities.specs.Faults.{bad}
+use Rattle.tpol_json.specs.Reading.{bad}
 use Rattle.tpol_entities.specs.Lists.{item_faults, items_kept}
 use Rattle.tpol_entities.specs.declared.fault.SceneKind.TheVariants.{Missing, WrongKind, BadNumber, NoSuchClient, NoSuchRun, UnknownKind}
 use Rattle.tpol_scene.specs.Clients.{client_in}

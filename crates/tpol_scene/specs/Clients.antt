@@ -10,9 +10,11 @@ use Rattle.tpol_entities.specs.declared.entities.Entities.{Entities}
 use Rattle.tpol_entities.specs.declared.targets.Target.{Target}
 use Rattle.tpol_entities.specs.declared.targets.Target.TheVariants.{Entity, Object}
 use Rattle.tpol_entities.specs.declared.fault.SceneKind.TheVariants.{NoSuchClient, Twice}
-use Rattle.tpol_entities.specs.Faults.{Found, bad, read_as}
+use Rattle.tpol_entities.specs.Faults.{Found, read_as}
+use Rattle.tpol_json.specs.Reading.{bad}
 use Rattle.tpol_entities.specs.Lists.{ItemReading, list_in}
-use Rattle.tpol_entities.specs.Members.{needed, optional}
+use Rattle.tpol_json.specs.Members.{optional}
+use Rattle.tpol_entities.specs.Members.{needed}
 use Rattle.tpol_entities.specs.Targets.{target_in}
 use Rattle.tpol_entities.specs.Values.{object_in, u32_in, bytes_up_to, auth_in}
 use Rattle.tpol_scene.specs.declared.grants.GrantKind.{GrantKind}

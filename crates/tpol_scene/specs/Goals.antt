@@ -11,8 +11,10 @@ use Rattle.tpol_entities.specs.declared.entities.Entities.{Entities}
 use Rattle.tpol_entities.specs.declared.targets.Target.{Target}
 use Rattle.tpol_entities.specs.declared.targets.Target.TheVariants.{Object, Index}
 use Rattle.tpol_entities.specs.declared.fault.SceneKind.TheVariants.{UnknownKind}
-use Rattle.tpol_entities.specs.Faults.{Found, bad, read_as}
-use Rattle.tpol_entities.specs.Members.{needed, optional}
+use Rattle.tpol_entities.specs.Faults.{Found, read_as}
+use Rattle.tpol_json.specs.Reading.{bad}
+use Rattle.tpol_json.specs.Members.{optional}
+use Rattle.tpol_entities.specs.Members.{needed}
 use Rattle.tpol_entities.specs.Targets.{target_in}
 use Rattle.tpol_entities.specs.Values.{object_in, unsigned_in, bytes_up_to}
 use Rattle.tpol_scene.specs.declared.goals.GoalCommand.{GoalCommand}

@@ -10,11 +10,12 @@ use Rattle.tpol_name.specs.declared.entries.IndexEntry.{IndexEntry}
 use Rattle.tpol_name.specs.declared.entries.ObjectEntry.{ObjectEntry}
 use Rattle.tpol_name.specs.declared.setup.Setup.{Setup}
 use Rattle.tpol_entities.specs.declared.entities.Entities.{Entities}
-use Rattle.tpol_entities.specs.declared.fault.PartFault.{PartFault}
+use Rattle.tpol_entities.specs.declared.fault.SceneKind.{SceneKind}
+use Rattle.tpol_json.specs.declared.fault.Fault as declared
 use Rattle.tpol_entities.specs.Entities.{entity_in, entities_in, no_entities}
 use Rattle.tpol_entities.specs.Faults.{Fault, Found, GivesBy, first_of}
 use Rattle.tpol_entities.specs.Lists.{faults_of, list_faults, optional_faults, optional_kept}
-use Rattle.tpol_entities.specs.Members.{optional}
+use Rattle.tpol_json.specs.Members.{optional}
 use Rattle.tpol_entities.specs.Pcrs.{pcr_in, pcrs_in, zero_bank}
 use Rattle.tpol_entities.specs.Values.{object_in, unsigned_in, u32_in, truth_in, digest_in, auth_in}
 use Rattle.tpol_scene.specs.declared.cast.Cast.{Cast}
@@ -70,7 +71,7 @@ start_behind authorities d place = do
   Ok (start_with authorities (record { pcrs = bank.values; pcr_counter = pcr_counter; times = times }))
 
 -- a call gives what stands behind the authorities, whatever they are
-abbrev pub GivesStartRest : Result StartRest PartFault → Data → Place → Type 0
+abbrev pub GivesStartRest : Result StartRest (declared.Fault SceneKind) → Data → Place → Type 0
 GivesStartRest result d place = (authorities : Authorities) → GivesBy (start_with authorities) result (start_behind authorities d place)
 
 -- what a machine starts from but for its entities

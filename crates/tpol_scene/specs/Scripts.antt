@@ -4,16 +4,15 @@ use Rattle.std.specs.List.{flat_map, list_any}
 use Rattle.std.specs.Str.{bytes_eq}
 use Rattle.serde_json.specs.Data.{Data}
 use Rattle.tpol_base.specs.Answers.{◌>>=◌}
-use Rattle.tpol_json.specs.Bytes.{bytes_in}
-use Rattle.tpol_json.specs.Faults as members
-use Rattle.tpol_json.specs.Reading as json
-use Rattle.tpol_json.specs.Values.{is_within_limit}
+use Rattle.tpol_json.specs.Values.{any_bytes, is_within_limit}
 use Rattle.tpol_json.specs.declared.place.Place.{Place}
 use Rattle.tpol_entities.specs.declared.fault.SceneKind.TheVariants.{NoSuchRun, Twice, UnknownKind}
 use Rattle.tpol_entities.specs.Entities.{policy_name_in}
-use Rattle.tpol_entities.specs.Faults.{Found, bad, read_as}
+use Rattle.tpol_entities.specs.Faults.{Found, read_as}
+use Rattle.tpol_json.specs.Reading.{bad}
 use Rattle.tpol_entities.specs.Lists.{ItemReading, list_in}
-use Rattle.tpol_entities.specs.Members.{needed, optional}
+use Rattle.tpol_json.specs.Members.{optional}
+use Rattle.tpol_entities.specs.Members.{needed}
 use Rattle.tpol_entities.specs.Values.{object_in, text_in, truth_in, unsigned_in, u32_in}
 use Rattle.tpol_scene.specs.declared.cast.Cast.{Cast}
 use Rattle.tpol_scene.specs.declared.events.EventKind.{EventKind}
@@ -87,7 +86,7 @@ locality_in d place = optional (unsigned_in 0 4) 0 (codes "locality") d place
 
 -- bytes of any number
 abbrev pub buffer_in : Data → Place → Found (List ℕ)
-buffer_in d place = read_as (json.read_as members.kind_of (bytes_in d place))
+buffer_in d place = read_as (any_bytes d place)
 
 -- a client, which need not be listed, sends a command
 unfoldable pub command_in : Data → Place → Found ScriptEvent

@@ -1,7 +1,7 @@
 //! The entities of a scene and its clients.
 
 ghost use Rattle.serde_json.specs.View.{view};
-ghost use Rattle.tpol_entities.specs.Faults.{Gives};
+ghost use Rattle.tpol_json.specs.Reading.{Gives};
 ghost use Rattle.tpol_scene.specs.Scenes.{cast_in};
 
 use crate::clients::{Clients, optional_clients};

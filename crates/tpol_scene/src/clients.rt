@@ -2,8 +2,9 @@
 
 ghost use Rattle.std.specs.Prelude.{[], codes};
 ghost use Rattle.serde_json.specs.View.{view};
-ghost use Rattle.tpol_entities.specs.Faults.{Gives};
-ghost use Rattle.tpol_entities.specs.Members.{needed, optional};
+ghost use Rattle.tpol_json.specs.Reading.{Gives};
+ghost use Rattle.tpol_json.specs.Members.{optional};
+ghost use Rattle.tpol_entities.specs.Members.{needed};
 ghost use Rattle.tpol_scene.specs.Clients.{clients_in, listed_client_in, new_client_in};
 
 use crate::grants::{GrantKind, optional_grants};
@@ -11,10 +12,10 @@ use serde_json::Value;
 use std::alloc::Global;
 use tpol_base::Sequence;
 use tpol_entities::{
-    Entities, ItemReader, PartFault, SceneKind, has_number, needed_u32, optional_list, refuse,
+    Entities, ItemReader, PartFault, SceneKind, has_number, needed_u32, optional_list,
 };
 use tpol_goal::Grants;
-use tpol_json::{PlaceRef, check_limit, check_object};
+use tpol_json::{PlaceRef, check_limit, check_object, refuse};
 
 /// The most clients of a scene.
 const CLIENTS: usize = 64;

@@ -3,8 +3,9 @@
 ghost use Rattle.std.specs.Prelude.{◌≡◌, codes, None};
 ghost use Rattle.serde_json.specs.View.{view};
 ghost use Rattle.tpol_entities.specs.Entities.{policy_name_in};
-ghost use Rattle.tpol_entities.specs.Faults.{Gives};
-ghost use Rattle.tpol_entities.specs.Members.{needed, optional};
+ghost use Rattle.tpol_json.specs.Reading.{Gives};
+ghost use Rattle.tpol_json.specs.Members.{optional};
+ghost use Rattle.tpol_entities.specs.Members.{needed};
 ghost use Rattle.tpol_scene.specs.Scripts.{begin_in, begun_run_in, buffer_in, command_in, event_by, event_kind_in, event_of_word, is_begun, locality_in, new_run_in, presence_event_in, run_in, some_times_in, time_event_in, turn_in};
 
 use crate::cast::Cast;
@@ -14,10 +15,8 @@ use crate::script::ScriptEvent;
 use serde_json::Value;
 use std::alloc::Global;
 use tpol_base::Blob;
-use tpol_entities::{
-    NamedPolicy, PartFault, SceneKind, any_bytes, needed_u32, policy_name, refuse,
-};
-use tpol_json::{PlaceRef, check_limit, member, needed, truth, unsigned};
+use tpol_entities::{NamedPolicy, PartFault, SceneKind, needed_u32, policy_name};
+use tpol_json::{PlaceRef, any_bytes, check_limit, member, needed, refuse, truth, unsigned};
 
 /// The most runs of a scene.
 const RUNS: usize = 256;

@@ -3,9 +3,10 @@
 ghost use Rattle.std.specs.Prelude.{◌≡◌, codes};
 ghost use Rattle.serde_json.specs.View.{view};
 ghost use Rattle.tpol_base.specs.Handle.{rh_null};
-ghost use Rattle.tpol_entities.specs.Faults.{Gives};
+ghost use Rattle.tpol_json.specs.Reading.{Gives};
 ghost use Rattle.tpol_entities.specs.declared.targets.Target.TheVariants as targets;
-ghost use Rattle.tpol_entities.specs.Members.{needed, optional};
+ghost use Rattle.tpol_json.specs.Members.{optional};
+ghost use Rattle.tpol_entities.specs.Members.{needed};
 ghost use Rattle.tpol_entities.specs.Targets.{target_in};
 ghost use Rattle.tpol_entities.specs.Values.{unsigned_in};
 ghost use Rattle.tpol_scene.specs.Goals.{duplicate_in, goal_by, goal_command_in, goal_in, hmac_in, nv_read_in, nv_write_in, offset_in, path_target};
@@ -14,10 +15,10 @@ use serde_json::Value;
 use std::alloc::Global;
 use tpol_base::handle::TPM_RH_NULL;
 use tpol_entities::{
-    Entities, PartFault, SceneKind, Target, needed_bytes, needed_target, refuse, target_of,
+    Entities, PartFault, SceneKind, Target, needed_bytes, needed_target, target_of,
 };
 use tpol_goal::Goal;
-use tpol_json::{PlaceRef, check_object, member, needed, unsigned, word};
+use tpol_json::{PlaceRef, check_object, member, needed, refuse, unsigned, word};
 
 /// The most bytes of a goal's buffer, and of what is read from or written into an index at once.
 const MAX_BYTES: usize = 1024;

@@ -2,8 +2,9 @@
 
 ghost use Rattle.std.specs.Prelude.{◌≡◌, [], codes};
 ghost use Rattle.serde_json.specs.View.{view};
-ghost use Rattle.tpol_entities.specs.Faults.{Gives};
-ghost use Rattle.tpol_entities.specs.Members.{needed, optional};
+ghost use Rattle.tpol_json.specs.Reading.{Gives};
+ghost use Rattle.tpol_json.specs.Members.{optional};
+ghost use Rattle.tpol_entities.specs.Members.{needed};
 ghost use Rattle.tpol_scene.specs.Clients.{grant_target, grant_value_in, grants_in, new_target_in};
 
 use serde_json::Value;
@@ -11,10 +12,10 @@ use std::alloc::Global;
 use tpol_base::{Blob, Sequence};
 use tpol_entities::{
     Entities, ItemReader, PartFault, SceneKind, Target, has_number, needed_bytes, needed_target,
-    optional_auth, optional_list, refuse,
+    optional_auth, optional_list,
 };
 use tpol_goal::Secrets;
-use tpol_json::{PlaceRef, check_object};
+use tpol_json::{PlaceRef, check_object, refuse};
 
 /// The most bytes of an HMAC key.
 const MAX_KEY: usize = 128;

@@ -3,7 +3,7 @@
 ghost use Rattle.std.specs.Prelude.{◌≡◌, IfOk, IfErr};
 ghost use Rattle.serde_json.specs.View.{view};
 ghost use Rattle.tpol_name.specs.Setups.{IsSetup};
-ghost use Rattle.tpol_entities.specs.Faults.{Gives};
+ghost use Rattle.tpol_json.specs.Reading.{Gives};
 ghost use Rattle.tpol_scene.specs.Conditions.{HasClients, HasLimits, HasPlaces, HasScript};
 ghost use Rattle.tpol_scene.specs.Scenes.{IsDocumentOf, IsFaultOf, scene_in, scene_with};
 

@@ -2,8 +2,8 @@
 
 ghost use Rattle.std.specs.Prelude.{◌≡◌, codes, OnOk};
 ghost use Rattle.serde_json.specs.View.{view};
-ghost use Rattle.tpol_entities.specs.Faults.{Gives};
-ghost use Rattle.tpol_entities.specs.Members.{optional};
+ghost use Rattle.tpol_json.specs.Reading.{Gives};
+ghost use Rattle.tpol_json.specs.Members.{optional};
 ghost use Rattle.tpol_scene.specs.Scripts.{no_events, script_in, with_event};
 
 use crate::cast::Cast;

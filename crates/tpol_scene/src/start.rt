@@ -3,8 +3,8 @@
 ghost use Rattle.std.specs.Prelude.{◌≡◌, codes};
 ghost use Rattle.serde_json.specs.View.{view};
 ghost use Rattle.tpol_base.specs.Digest.{zero_digest};
-ghost use Rattle.tpol_entities.specs.Faults.{Gives};
-ghost use Rattle.tpol_entities.specs.Members.{optional};
+ghost use Rattle.tpol_json.specs.Reading.{Gives};
+ghost use Rattle.tpol_json.specs.Members.{optional};
 ghost use Rattle.tpol_entities.specs.Values.{digest_in};
 ghost use Rattle.tpol_scene.specs.Scenes.{GivesStartRest, authorities_in, setup_with, start_in, time_in, times_in};
 

@@ -1,13 +1,13 @@
 ghost use Rattle.std.specs.Prelude.{◌≡◌, true, All, IfSome, IfOk, ⊤};
 ghost use Rattle.tpol_store.specs.Stores.{IsReadable, policies_of, stored};
 ghost use Rattle.tpol_steps.specs.Steps.{Answers, AsksShelf};
-ghost use Rattle.tpol_steps.specs.StoreStep.{document_refusal, store_step};
+ghost use Rattle.tpol_steps.specs.StoreStep.{store_step};
 
 use crate::answer::{Answer, Verdict};
 use crate::halt::Halt;
 use crate::refusals::{bad_policy, policy_kind_name, policy_not_json, too_large_in};
 use std::alloc::Global;
-use tpol_base::{NoMemory, Shelf, Text};
+use tpol_base::Shelf;
 use tpol_read::PolicyFault;
 use tpol_store::{Store, StoreFault};
 
@@ -30,22 +30,14 @@ pub fn load_store<H: Shelf>(alloc: Global, shelf: &mut H) -> Result<Store, Halt>
             Err(Halt::Refused(Answer::of_line(alloc, line, Verdict::TooLarge)?))
         }
         Err(StoreFault::TooLarge(name)) => Err(Halt::Refused(too_large_in(alloc, &name)?)),
-        Err(StoreFault::Bad(name, fault)) => {
-            Err(Halt::Refused(document_refusal(alloc, &name, &fault)?))
-        }
+        Err(StoreFault::Bad(name, fault)) => match fault {
+            PolicyFault::NotJson => Err(Halt::Refused(policy_not_json(alloc, Some(&name))?)),
+            PolicyFault::Bad { kind, place } => {
+                let kind = policy_kind_name(kind);
+                Err(Halt::Refused(bad_policy(alloc, kind, Some(&name), &place)?))
+            }
+            PolicyFault::NoMemory => Err(Halt::NoMemory),
+        },
         Err(StoreFault::NoMemory) => Err(Halt::NoMemory),
-    }
-}
-
-// The answer of a document that is no policy's.
-fn document_refusal(alloc: Global, name: &Text, fault: &PolicyFault) -> Result<Answer, NoMemory>
-    ensures { IfOk result (λ answer. answer ≡ document_refusal name.now fault.now) }
-{
-    match fault {
-        PolicyFault::NotJson => policy_not_json(alloc, Some(name)),
-        PolicyFault::Bad { kind, place } => {
-            bad_policy(alloc, policy_kind_name(*kind), Some(name), place)
-        }
-        PolicyFault::NoMemory => Err(NoMemory),
     }
 }

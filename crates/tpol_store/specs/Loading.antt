@@ -6,30 +6,40 @@ use Rattle.serde_json.specs.Data.{Data}
 use Rattle.tpol_base.specs.declared.document.Document.{Document}
 use Rattle.tpol_base.specs.Answers.{◌>>=◌}
 use Rattle.tpol_base.specs.Documents.{document_of, handed_out, most_handed_out, names_of}
-use Rattle.tpol_members.specs.declared.fault.PolicyFault.{PolicyFault}
-use Rattle.tpol_members.specs.declared.fault.PolicyFault.TheVariants as policy_faults
+use Rattle.tpol_members.specs.declared.fault.PolicyFault.TheVariants as policy
 use Rattle.tpol_members.specs.Faults.{Fault, Found}
 use Rattle.tpol_json.specs.declared.place.Place.{Place}
 use Rattle.tpol_json.specs.Document.{document_of as json_of}
 use Rattle.tpol_read.specs.Documents.{policy_faults as faults_of, policy_of}
 use Rattle.tpol_store.specs.declared.fault.StoreFault.{StoreFault}
-use Rattle.tpol_store.specs.declared.fault.StoreFault.TheVariants.{Failed, TooMany, TooLarge, Bad, NoMemory}
+use Rattle.tpol_store.specs.declared.fault.StoreFault.TheVariants as faults
 use Rattle.tpol_store.specs.declared.store.StoredPolicy.{StoredPolicy}
 use Rattle.tpol_store.specs.FileNames.{file_name, policy_name, sorted_names}
 use Rattle.tpol_store.specs.Stores.{NamedPolicy, named_policy}
 use Rattle.tpol_tree.specs.declared.policy.Policy.{Policy}
 
+-- why a shelf has no store: it has too many documents, or the document of this name is too large, is no JSON text,
+-- or has this fault first
+pub data Refusal : Type 0 where
+  TooMany : Refusal
+  TooLarge : List ℕ → Refusal
+  NotJson : List ℕ → Refusal
+  Bad : List ℕ → Fault → Refusal
+
 -- what is loaded, or why it is refused
 abbrev pub Loading : Type 0 → Type 0
-Loading A = Result A StoreFault
+Loading A = Result A Refusal
 
--- a call that gave nothing tells why, unless the shelf failed or memory ran out
+-- a call that gave nothing tells why, unless the shelf failed or memory ran out; it tells of no document that
+-- memory ran out for it
 abbrev pub Tells : {A : Type 0} → StoreFault → Loading A → Type 0
-Tells Failed loading = ⊤
-Tells NoMemory loading = ⊤
-Tells TooMany loading = loading ≡ Err TooMany
-Tells (TooLarge name) loading = loading ≡ Err (TooLarge name)
-Tells (Bad name fault) loading = loading ≡ Err (Bad name fault)
+Tells faults.Failed loading = ⊤
+Tells faults.NoMemory loading = ⊤
+Tells faults.TooMany loading = loading ≡ Err TooMany
+Tells (faults.TooLarge name) loading = loading ≡ Err (TooLarge name)
+Tells (faults.Bad name policy.NotJson) loading = loading ≡ Err (NotJson name)
+Tells (faults.Bad name (policy.Bad kind place)) loading = loading ≡ Err (Bad name (kind, place))
+Tells (faults.Bad name policy.NoMemory) loading = ⊥
 
 -- a call loads what there is, where `view` is what the definition sees of its value
 abbrev pub Loads : {X A : Type 0} → (X → A) → Loading A → Result X StoreFault → Type 0
@@ -38,30 +48,25 @@ Loads view loading (Err fault) = Tells fault loading
 
 -- ---- one document
 
--- the policy, unless there is a fault: then the first one
-abbrev pub unless_fault : List Fault → Found (Policy × List Place) → Result Policy PolicyFault
-unless_fault [] (Ok found) = Ok found.0
-unless_fault [] (Err fault) = Err (policy_faults.Bad fault.0 fault.1)
-unless_fault (fault ∷ rest) found = Err (policy_faults.Bad fault.0 fault.1)
+-- the policy under its name, unless there is a fault: then the first one
+abbrev pub unless_fault : List ℕ → List Fault → Found (Policy × List Place) → Loading (List NamedPolicy)
+unless_fault name [] (Ok found) = Ok ((name, found.0) ∷ [])
+unless_fault name [] (Err fault) = Err (Bad name fault)
+unless_fault name (fault ∷ rest) found = Err (Bad name fault)
 
-abbrev pub policy_of_json : Option Data → Result Policy PolicyFault
-policy_of_json None = Err policy_faults.NotJson
-policy_of_json (Some d) = unless_fault (faults_of d) (policy_of d)
+abbrev pub policy_of_json : List ℕ → Option Data → Loading (List NamedPolicy)
+policy_of_json name None = Err (NotJson name)
+policy_of_json name (Some d) = unless_fault name (faults_of d) (policy_of d)
 
--- the policy that bytes are the document of, or the first fault
-unfoldable pub policy_in : List ℕ → Result Policy PolicyFault
-policy_in bytes = policy_of_json (json_of bytes)
-
--- it, under its name
-abbrev pub read_as : List ℕ → Result Policy PolicyFault → Loading (List NamedPolicy)
-read_as name (Ok policy) = Ok ((name, policy) ∷ [])
-read_as name (Err fault) = Err (Bad name fault)
+-- the policy that bytes are the document of, under its name, or the first fault
+unfoldable pub policy_in : List ℕ → List ℕ → Loading (List NamedPolicy)
+policy_in name bytes = policy_of_json name (json_of bytes)
 
 -- what a shelf hands out under a name: a document, none, or one that is too large or no policy's
 abbrev pub document_in : List ℕ → Option (List ℕ) → Loading (List NamedPolicy)
 document_in name None = Ok []
 document_in name (Some bytes) =
-    if nat_le most_handed_out (length bytes) then Err (TooLarge name) else read_as name (policy_in bytes)
+    if nat_le most_handed_out (length bytes) then Err (TooLarge name) else policy_in name bytes
 
 -- what a definition sees of a document that may be there
 abbrev pub seen_document : Option StoredPolicy → List NamedPolicy

@@ -5,7 +5,7 @@ ghost use Rattle.std.specs.String.{string_bytes};
 ghost use Rattle.tpol_base.specs.Causes.{Rose};
 ghost use Rattle.tpol_base.specs.Documents.{document_of, handed_out};
 ghost use Rattle.tpol_store.specs.FileNames.{file_name};
-ghost use Rattle.tpol_store.specs.Loading.{Loads, document_in, documents_from, few_names, names_of_shelf, policy_in, read_as, seen_document, store_of};
+ghost use Rattle.tpol_store.specs.Loading.{Loads, document_in, documents_from, few_names, names_of_shelf, policy_in, seen_document, store_of};
 ghost use Rattle.tpol_store.specs.Stores.{IsReadable, named_policy, policies_of, stored};
 
 use crate::file_name::{document_names, file_name};
@@ -133,7 +133,7 @@ fn read_bytes(alloc: Global, name: &str, bytes: &Blob) -> Result<StoredPolicy, S
 
 #[tactic(auto, unfolding(crate::specs::Loading::policy_in))]
 fn policy_document(alloc: Global, name: Text, bytes: &[u8]) -> Result<StoredPolicy, StoreFault>
-    ensures read { Loads (λ document. seen_document (Some document)) (read_as name (policy_in bytes.now)) result }
+    ensures read { Loads (λ document. seen_document (Some document)) (policy_in name bytes.now) result }
     ensures readable { IfOk result IsReadable }
     ensures shelf { IsErrOf result StoreFault.Failed → ⊥ }
 {

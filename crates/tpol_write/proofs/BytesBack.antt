@@ -26,7 +26,7 @@ pub bound : {K A B : Type 0} (found : ReadAs K A) (x : A) (next : A → ReadAs K
 bound found x next y e f = ap (λ r. r >>= next) e ∙ f
 
 -- a JSON value with the faults of a member
-abbrev pub as_member : {A : Type 0} → reading.Found A → members.Found A
+abbrev pub as_member : {A : Type 0} → members.FoundValue A → members.Found A
 as_member = reading.read_as members.kind_of
 
 -- ---- numbers

@@ -22,7 +22,7 @@ use Rattle.tpol_read.specs.declared.approvals.ApprovalType.{ApprovalType}
 use Rattle.tpol_read.specs.declared.approvals.ApprovalType.TheVariants as types
 use Rattle.tpol_members.specs.Values.{digest_in}
 use Rattle.tpol_base.specs.Answers.{◌>>=◌}
-use Rattle.tpol_members.specs.Faults.{bad}
+use Rattle.tpol_json.specs.Reading.{bad}
 use Rattle.tpol_members.specs.Fields.{policy_ref_in}
 use Rattle.tpol_members.specs.Members.{object_in, noted}
 use Rattle.tpol_elements.specs.Rows.{without_pem}

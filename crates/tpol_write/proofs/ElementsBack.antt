@@ -14,7 +14,7 @@ use Rattle.tpol_json.specs.declared.place.Place.{Place}
 use Rattle.tpol_json.proofs.AllFound.{AllFound, all_after, all_then, all_map, all_if, needed-fits}
 use Rattle.tpol_read.specs.Elements.{element_type_in, leaf_element, element_of_type, element_by, counted, elements_from, elements_of, elements_in, policy_member, description_member, name_member, branch_in, branches_from, is_branch_count, branches_of, branches_in, or_by, or_at, element_at}
 use Rattle.tpol_members.specs.Values.{text_in}
-use Rattle.tpol_members.specs.Faults.{bad}
+use Rattle.tpol_json.specs.Reading.{bad}
 use Rattle.tpol_members.specs.Members.{object_in, needed, noted}
 use Rattle.tpol_elements.specs.Rows.{leaf_row}
 use Rattle.tpol_elements.specs.Types.{type_in}

@@ -20,7 +20,8 @@ use Rattle.tpol_json.proofs.AllFound.{AllFound, all_then, optional-fits}
 use Rattle.tpol_json.specs.Values.{name_or_bad}
 use Rattle.tpol_members.specs.Values.{bytes_up_to, digest_in, name_in, is_empty_name, unsigned_in, signed_in, truth_in}
 use Rattle.tpol_members.specs.Operations.{operation_in}
-use Rattle.tpol_members.specs.Faults.{Found, bad, read_as}
+use Rattle.tpol_members.specs.Faults.{Found, read_as}
+use Rattle.tpol_json.specs.Reading.{bad}
 use Rattle.tpol_members.specs.Fields.{policy_ref_in, some_digest_in, cp_hash_in, expiration_in, operand_in, offset_in, operation_member_in}
 use Rattle.tpol_members.specs.Members.{read_needed}
 use Rattle.tpol_elements.specs.Rows.{include_member, object_member, included_object, written_member}

@@ -4,7 +4,8 @@ use Rattle.serde_json.specs.Data.{Data}
 use Rattle.serde_json.specs.Find.{get}
 use Rattle.tpol_json.specs.Places.{at_member}
 use Rattle.tpol_json.specs.declared.place.Place.{Place}
-use Rattle.tpol_members.specs.Faults.{Fault, Found, bad}
+use Rattle.tpol_members.specs.Faults.{Fault, Found}
+use Rattle.tpol_json.specs.Reading.{bad}
 use Rattle.tpol_members.specs.Members.{first_from, first_of, none_of, one_of, there_or, without}
 use Rattle.tpol_members.specs.declared.fault.PolicyKind.TheVariants.{Twice}
 use Rattle.tpol_write.proofs.BytesBack.{bound}

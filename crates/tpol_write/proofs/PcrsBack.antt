@@ -24,7 +24,8 @@ use Rattle.tpol_json.specs.declared.place.Place.{Place}
 use Rattle.tpol_json.proofs.AllFound.{AllFound, all_after, all_then, all_map, needed-fits}
 use Rattle.tpol_read.proofs.PcrOrder.{put_value, with_value-is, first_no, second_no}
 use Rattle.tpol_members.specs.Values.{digest_in, unsigned_in}
-use Rattle.tpol_members.specs.Faults.{Found, bad}
+use Rattle.tpol_members.specs.Faults.{Found}
+use Rattle.tpol_json.specs.Reading.{bad}
 use Rattle.tpol_members.specs.Members.{object_in, noted}
 use Rattle.tpol_members.specs.Localities.{locality_in}
 use Rattle.tpol_members.specs.Pcrs.{PcrList, has_value, with_value, new_pcr_in, pcr_member, bank_member, value_member, pcr_value_in, pcr_values_from, wish_of_values, pcr_bit, mask_from, mask_in, current_pcrs_in, select_member, bank_in, only_bank, bank_or_list, pcrs_at, pcrs_in}

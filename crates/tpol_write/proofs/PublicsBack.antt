@@ -25,7 +25,8 @@ use Rattle.tpol_members.specs.Algorithms.{scheme_in}
 use Rattle.tpol_members.specs.Values.{name_in, empty_or_32, u32_in, unsigned_in}
 use Rattle.tpol_base.specs.Answers.{◌>>=◌}
 use Rattle.tpol_members.specs.Faults.{Found, read_as}
-use Rattle.tpol_members.specs.Members.{object_in, needed, optional, read_needed, noted}
+use Rattle.tpol_json.specs.Members.{optional, read_optional}
+use Rattle.tpol_members.specs.Members.{object_in, needed, read_needed, noted}
 use Rattle.tpol_elements.specs.Publics.{then_noted, through, through_member, object_public, index_public, object_public_in, index_public_in, key_type_member, name_hash_member, attributes_member, auth_policy_member, scheme_member, unique_member, nv_index_member, data_size_member}
 use Rattle.tpol_members.specs.Walks.{Reading}
 use Rattle.tpol_json.specs.Words.{find_word}
@@ -34,7 +35,6 @@ use Rattle.tpol_tree.specs.declared.wishes.ObjectPublicText.{ObjectPublicText}
 use Rattle.tpol_tree.specs.declared.wishes.NvPublicText.{NvPublicText}
 use Rattle.tpol_write.specs.Objects.{hex_text, natural}
 use Rattle.tpol_write.specs.Wishes.{name_value, object_public_value, nv_public_value, scheme_name}
-use Rattle.tpol_json.specs.Members.{read_optional}
 
 -- ---- Names
 

@@ -17,7 +17,8 @@ use Rattle.tpol_json.proofs.AllFound.{AllFound, all_after, all_then, all_map, al
 use Rattle.tpol_json.specs.Members.{items_count}
 use Rattle.tpol_members.specs.Values.{text_in, digest_in, name_in, full_name_in, is_empty_name, items_in, one_to_three}
 use Rattle.tpol_base.specs.Answers.{◌>>=◌}
-use Rattle.tpol_members.specs.Faults.{Found, bad}
+use Rattle.tpol_members.specs.Faults.{Found}
+use Rattle.tpol_json.specs.Reading.{bad}
 use Rattle.tpol_elements.specs.Publics.{object_public_in, index_public_in}
 use Rattle.tpol_members.specs.Walks.{still}
 use Rattle.tpol_elements.specs.Wishes.{key_at, key_in, index_at, index_in, entity_at, entity_in, parent_at, parent_in, each_from, names_at, names_in}
