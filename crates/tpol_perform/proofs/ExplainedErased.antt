@@ -1,12 +1,19 @@
 -- A scene is explained by the lines of its performance, whichever memory its policies lie in.
 use Rattle.std.proofs.Common.{◌≡◌, ◌∙◌, ap, refl, sym, subst, ℕ, Bool, true, List, map, find, reverse, Option, Some, None, IfSome, IsSome, Ok, Err}
 use Rattle.std.specs.List.{AllByRecursion}
+use Rattle.std.specs.Prelude.{All}
 use Rattle.std.specs.Option.{option_map}
 use Rattle.tpol_base.specs.declared.document.Document.{Document}
 use Rattle.tpol_digest.proofs.Erasures.{paths_ignore_boxes}
 use Rattle.tpol_digest.specs.Digest.{policy_digest}
+use Rattle.tpol_digest.specs.Paths.{paths_of}
+use Rattle.tpol_digest.specs.WellFormed.{HaveBranchCounts}
+use Rattle.tpol_lint.proofs.Listed.{never_open}
+use Rattle.tpol_lint.specs.Dead.{dead_paths}
+use Rattle.tpol_lint.specs.Opened.{HaveClosedBounds, NamesNoDead, NeverOpen}
+use Rattle.tpm_bindings.specs.Agreement.{Agree}
+use Rattle.tpm_bindings.specs.Facts.{moves_of}
 use Rattle.tpol_name.specs.declared.setup.Setup.{Setup}
-use Rattle.tpol_name.specs.Setups.{IsSetup}
 use Rattle.tpol_scene.specs.declared.scene.Scene.{Scene}
 use Rattle.tpol_store.specs.Approvals.{approved_documents}
 use Rattle.tpol_store.specs.Stores.{NamedPolicy}
@@ -35,16 +42,41 @@ use Rattle.tpol_perform.proofs.OpeningErased.{opening_of_erased}
 use Rattle.tpol_perform.proofs.PathPcrs.{HasDigests, paths_have_digests}
 use Rattle.tpol_perform.proofs.PerformanceErased.{performed_erased}
 use Rattle.tpol_perform.proofs.Told.{performed_explains}
-use Rattle.tpol_prepare.proofs.Walkable.{policy_walkable}
+use Rattle.tpol_prepare.proofs.Walkable.{policy_has, policy_walkable}
+use Rattle.tpol_prepare.specs.Staged.{IsStaged}
+use Rattle.tpol_trace.proofs.Meaning.{opening_means}
 use Rattle.tpol_trace.proofs.Opened.{facts_open}
+use Rattle.tpol_trace.specs.declared.answer.Opening.{Opening}
+use Rattle.tpol_trace.specs.declared.answer.Opening.TheVariants.{Branch, Clash, ZeroInput}
+use Rattle.tpol_trace.specs.Openings.{IsOpening, opening_of}
+use Rattle.tpol_tree.specs.Bounds.{HasClosedBounds}
+use Rattle.tpol_tree.specs.declared.facts.Fact.{Fact}
 use Rattle.tpol_tree.specs.ClosedErased.{erased, erased_document}
 use Rattle.tpol_tree.specs.declared.closed.Closed.{Closed}
 use Rattle.tpol_tree.specs.declared.path.ApprovedDoc.{ApprovedDoc}
 
+-- ---- facts that agree open by no dead path
+
+no_dead : (closed : Closed) (approvals : List ApprovedDoc) (facts : List Fact) (opening : Opening) → NeverOpen closed approvals (dead_paths 1 (paths_of closed approvals)) → HaveClosedBounds closed approvals
+    → Agree (moves_of facts) → IsOpening closed approvals facts opening → NamesNoDead (paths_of closed approvals) opening
+no_dead closed approvals facts (Branch position events) never bounds agree means = λ i one within same.
+    (never bounds i one within).1 facts events agree (subst (λ p. IsOpening closed approvals facts (Branch p events)) (sym same) means)
+no_dead closed approvals facts (Clash first second) never bounds agree means = tt
+no_dead closed approvals facts (ZeroInput string) never bounds agree means = tt
+
+alive : (closed : Closed) (approvals : List ApprovedDoc) → HaveBranchCounts closed approvals → HaveClosedBounds closed approvals → (facts : List Fact) → Agree (moves_of facts)
+    → IfSome (opening_of closed approvals facts) (NamesNoDead (paths_of closed approvals))
+alive closed approvals counts bounds facts agree = by (opening_of closed approvals facts) refl
+  where
+    by : (found : Option Opening) → opening_of closed approvals facts ≡ found → IfSome found (NamesNoDead (paths_of closed approvals))
+    by None e = tt
+    by (Some opening) e = no_dead closed approvals facts opening (never_open closed approvals counts) bounds agree (opening_means closed approvals facts opening e)
+
 -- ---- a scenario whose policies can be walked
 
-openable : (setup : Setup) (scenario : Scenario) → IsScenarioOf setup scenario → AreOpenable scenario
-openable setup scenario is handle = by (policy_of_entity scenario.entities handle) refl
+openable : (setup : Setup) (scenario : Scenario) → IsScenarioOf setup scenario → All (λ entity. HasClosedBounds entity.document.closed) scenario.entities
+    → All (λ document. HasClosedBounds document.closed) scenario.approvals → AreOpenable scenario
+openable setup scenario is entities approvals handle = by (policy_of_entity scenario.entities handle) refl
   where
     by : (policy : Option Closed) → policy_of_entity scenario.entities handle ≡ policy → IfSome policy (IsOpenable scenario.approvals)
     by None e = tt
@@ -53,6 +85,7 @@ openable setup scenario is handle = by (policy_of_entity scenario.entities handl
         record {
           opens = λ facts sound digest. facts_open closed scenario.approvals facts walkable.well_formed sound digest;
           digests = paths_have_digests closed scenario.approvals walkable.well_formed;
+          alive = λ facts agree. alive closed scenario.approvals walkable.branches (record { policy_itself = policy_has HasClosedBounds scenario.entities handle closed entities e; documents = approvals }) facts agree;
         }
 
 -- ---- the same erased
@@ -81,13 +114,16 @@ openable_erased scenario h handle =
     by (Some c) can = record {
       opens = λ facts sound digest. subst (λ o. IsSome o) (sym (opening_of_erased c scenario.approvals facts)) (can.opens facts sound (digest ∙ policy_digest_erased c));
       digests = subst (AllByRecursion HasDigests) (sym (paths_ignore_boxes c scenario.approvals)) can.digests;
+      alive = λ facts agree.
+          subst (λ o. IfSome o (NamesNoDead (paths_of (erased c) (map erased_document scenario.approvals)))) (sym (opening_of_erased c scenario.approvals facts))
+          (subst (λ paths. IfSome (opening_of c scenario.approvals facts) (NamesNoDead paths)) (sym (paths_ignore_boxes c scenario.approvals)) (can.alive facts agree));
     }
 
-explained_erased : (staged : StagedScene) → staged.scenario.explains ≡ true → IsSetup staged.setup → IsScenarioOf staged.setup staged.scenario → IsExplained (erased_staged staged) (performed staged).lines
-explained_erased staged explains setup is =
+explained_erased : (staged : StagedScene) → staged.scenario.explains ≡ true → IsStaged staged → IsExplained (erased_staged staged) (performed staged).lines
+explained_erased staged explains is =
     subst (λ (p : PerformanceState). IsExplained (erased_staged staged) p.lines) (performed_erased staged)
-    (performed_explains (erased_staged staged) explains (have_erased staged.setup staged.scenario.entities is.policies)
-    (openable_erased staged.scenario (openable staged.setup staged.scenario is)) setup.pcrs)
+    (performed_explains (erased_staged staged) explains (have_erased staged.setup staged.scenario.entities is.scenario.policies)
+    (openable_erased staged.scenario (openable staged.setup staged.scenario is.scenario is.entities is.approvals)) is.setup.pcrs)
 
 -- ---- what is staged for `explain` tells openings
 
@@ -121,13 +157,13 @@ one_value step a b h k = cc
 
 -- of a scene that was staged
 pub staged_explained : (explains : Bool) (documents : Option (List Document)) (input : List ℕ) (staged : StagedScene) (answer : Answer)
-    → explains ≡ true → IfSome documents (λ all. Answers erased_staged (staged_step explains input all) (Ok staged)) → IsSetup staged.setup → IsScenarioOf staged.setup staged.scenario → answer ≡ performance_answer staged
+    → explains ≡ true → IfSome documents (λ all. Answers erased_staged (staged_step explains input all) (Ok staged)) → IsStaged staged → answer ≡ performance_answer staged
     → IfSome documents (λ all. IsExplainedScene input all answer.lines)
-staged_explained explains None input staged answer tells answers setup is same = tt
-staged_explained explains (Some all) input staged answer tells answers setup is same =
+staged_explained explains None input staged answer tells answers is same = tt
+staged_explained explains (Some all) input staged answer tells answers is same =
     let step : staged_step true input all ≡ Ok (erased_staged staged) = subst (λ b. staged_step b input all ≡ Ok (erased_staged staged)) tells answers in
     let told : IsExplained (erased_staged staged) answer.lines =
-    subst (λ (a : Answer). IsExplained (erased_staged staged) a.lines) (sym same) (explained_erased staged (explains_staged input all (erased_staged staged) step) setup is) in
+    subst (λ (a : Answer). IsExplained (erased_staged staged) a.lines) (sym same) (explained_erased staged (explains_staged input all (erased_staged staged) step) is) in
     λ other e. let one : erased_staged staged ≡ other = one_value (staged_step true input all) (erased_staged staged) other step e in subst (λ (s : StagedScene). IsExplained s answer.lines) one told
 
 -- and of one that was not

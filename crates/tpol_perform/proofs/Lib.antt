@@ -1,3 +1,4 @@
+pub mod AgreeingFacts
 pub mod Chosen
 pub mod ExplainedErased
 pub mod Masks

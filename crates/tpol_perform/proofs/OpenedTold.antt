@@ -2,6 +2,8 @@
 use Rattle.std.proofs.Common.{◌≡◌, ◌∙◌, ap, sym, subst, ℕ, true, List, [], ◌∷◌, append_assoc, length, Option, Some, None, IfSome, IsSome}
 use Rattle.std.specs.List.{AllByRecursion}
 use Rattle.std.specs.Option.{option_and_then, option_map}
+use Rattle.tpm_bindings.specs.Agreement.{Agree}
+use Rattle.tpm_bindings.specs.Facts.{moves_of}
 use Rattle.tpm_bindings.specs.State.{SessionState}
 use Rattle.tpm_engine.proofs.Headline.{asked-of, authorizes, passes-broken, serves}
 use Rattle.tpm_engine.proofs.Lookups.{live-view}
@@ -27,6 +29,7 @@ use Rattle.tpol_digest.specs.Sound.{IsSound, moves_of_facts}
 use Rattle.tpol_lines.specs.Events.{command_line}
 use Rattle.tpol_lines.specs.Lines.{line_of}
 use Rattle.tpol_lines.specs.OpeningLine.{opening_line}
+use Rattle.tpol_lint.specs.Opened.{NamesNoDead}
 use Rattle.tpol_name.specs.declared.setup.Setup.{Setup}
 use Rattle.tpol_prepare.specs.declared.scenario.Scenario.{Scenario}
 use Rattle.tpol_perform.specs.CommandsTold.{command_told, opening_told, policy_opened, with_opening}
@@ -37,6 +40,7 @@ use Rattle.tpol_prepare.specs.Scenario.{HavePolicies, policy_of_entity}
 use Rattle.tpol_perform.proofs.OpenedMeets.{opened_meets}
 use Rattle.tpol_perform.proofs.PathPcrs.{HasDigests}
 use Rattle.tpol_perform.proofs.PcrsAtUse.{pcrs-at-use, pcrs-length}
+use Rattle.tpol_perform.proofs.AgreeingFacts.{facts-agree}
 use Rattle.tpol_perform.proofs.SoundFacts.{facts-sound}
 use Rattle.tpol_trace.proofs.Meaning.{opening_means}
 use Rattle.tpol_trace.specs.declared.answer.Opening.{Opening}
@@ -48,11 +52,12 @@ use Rattle.tpol_wire.specs.declared.command.Command.{Command}
 
 -- ---- what is opened
 
--- facts that are sound and give the policy's digest open it, and each PolicyPCR of its paths has the digest of its
--- values
+-- facts that are sound and give the policy's digest open it, each PolicyPCR of its paths has the digest of its values,
+-- and facts that agree open it by no dead path
 pub record IsOpenable (approvals : List ApprovedDoc) (closed : Closed) : Type 0 where
   pub opens : (facts : List Fact) → IsSound (moves_of_facts facts) → digest_of_moves (moves_of_facts facts) ≡ policy_digest closed → IsSome (opening_of closed approvals facts)
   pub digests : AllByRecursion HasDigests (paths_of closed approvals)
+  pub alive : (facts : List Fact) → Agree (moves_of facts) → IfSome (opening_of closed approvals facts) (NamesNoDead (paths_of closed approvals))
 
 abbrev pub AreOpenable : Scenario → Type 0
 AreOpenable scenario = (handle : ℕ) → IfSome (policy_of_entity scenario.entities handle) (IsOpenable scenario.approvals)
@@ -113,6 +118,9 @@ module _ (scenario : Scenario) (p : PerformanceState) (client locality : ℕ) (b
       auth_policy : option_map auth_policy_of (entity_at (world_of p.setup) handle) ≡ Some (digest_of_moves (moves_of_facts facts)).bytes
       auth_policy = opened-policy p.setup p.past locality buffer opened is
 
+      agree : Agree (moves_of facts)
+      agree = facts-agree p.setup p.past legal session
+
       meets : MeetsPolicy scenario.entities opened
       meets = opened_meets p.setup scenario.entities opened policies (facts-sound p.setup p.past legal session) auth_policy
 
@@ -140,6 +148,7 @@ module _ (scenario : Scenario) (p : PerformanceState) (client locality : ℕ) (b
             digest = digest;
             opening = there.value;
             means = means;
+            alive = subst (λ o. IfSome o (NamesNoDead (paths_of closed scenario.approvals))) there.is (can.alive facts agree);
             printed = printed closed (opening_of closed scenario.approvals facts) there.value there.is;
             of_pcrs = opened-pcrs p.setup p.past locality buffer opened is;
             pcrs = pcrs-at-use (pcrs_of p.setup p.past) (pcrs-length p.setup p.past whole) closed scenario.approvals facts there.value

@@ -70,12 +70,12 @@ started session now None = tt
 started session now (Some handle) = tt
 
 -- a rule on a session's state that is not broken
-record Kept (found : Option SessionState) (rule : SessionState → Option ℕ) : Type 0 where
-  state : SessionState
-  is : found ≡ Some state
-  none : rule state ≡ None
+pub record Kept (found : Option SessionState) (rule : SessionState → Option ℕ) : Type 0 where
+  pub state : SessionState
+  pub is : found ≡ Some state
+  pub none : rule state ≡ None
 
-kept : (found : Option SessionState) (rule : SessionState → Option ℕ) (code : ℕ) → option_map_or rule found (Some code) ≡ None → Kept found rule
+pub kept : (found : Option SessionState) (rule : SessionState → Option ℕ) (code : ℕ) → option_map_or rule found (Some code) ≡ None → Kept found rule
 kept None rule code h = absurd (none-some code (sym h))
 kept (Some state) rule code h = record { state = state; is = refl; none = h }
 

@@ -25,6 +25,7 @@ use Rattle.tpol_hash.specs.Sha256.{sha256_digest}
 use Rattle.tpol_lines.specs.Events.{command_line}
 use Rattle.tpol_lines.specs.Lines.{line_of}
 use Rattle.tpol_lines.specs.OpeningLine.{opening_line}
+use Rattle.tpol_lint.specs.Opened.{NamesNoDead}
 use Rattle.tpol_name.specs.declared.setup.Setup.{Setup}
 use Rattle.tpol_prepare.specs.declared.scenario.Scenario.{Scenario}
 use Rattle.tpol_prepare.specs.declared.scenario.StagedScene.{StagedScene}
@@ -79,6 +80,8 @@ pub record IsOpened (setup : Setup) (scenario : Scenario) (past : List Event) (f
   -- digest, or a string of digest zero, among what was hashed.
   pub opening : Opening
   pub means : IsOpening closed scenario.approvals facts opening
+  -- the way that it names is none of those that `lint` tells of this policy with these approvals
+  pub alive : NamesNoDead (paths_of closed scenario.approvals) opening
   -- its line stands right behind the command's
   pub printed : IsPrintedBehind text (opening_line (next_number past) (paths_of closed scenario.approvals) opening) lines
   -- the facts found the PCRs as they are now, and these have the values that the path asks for

@@ -13,6 +13,7 @@ use Rattle.tpol_store.specs.Approvals.{HasApprovedBounds, approved_documents}
 use Rattle.tpol_store.specs.Stores.{NamedPolicy}
 use Rattle.tpol_prepare.specs.declared.prepared.PreparedScene.{PreparedScene}
 use Rattle.tpol_prepare.specs.declared.scenario.StagedScene.{StagedScene}
+use Rattle.tpol_prepare.specs.Entities.{IsReadyEntity}
 use Rattle.tpol_prepare.specs.Prepared.{erased_prepared, prepared_step}
 use Rattle.tpol_prepare.specs.Scenario.{CanHappen, IsScenarioOf, erased_staged, limited_step, scenario_with, staged_by, staged_from, staged_with}
 use Rattle.tpol_prepare.specs.Staged.{IsScriptOf, IsStaged}
@@ -86,12 +87,13 @@ on_shelf explains scene view (Some documents) store result loads answers = rw lo
 -- ---- all of it
 
 pub is_staged : (explains : Bool) (scene : Scene) (prepared : PreparedScene) (approvals : List ApprovedDoc) → IsSetup prepared.setup
-    → IsScenarioOf prepared.setup (scenario_with explains scene prepared approvals).scenario → All IsReadyDocument prepared.begun → All HasApprovedBounds approvals
+    → IsScenarioOf prepared.setup (scenario_with explains scene prepared approvals).scenario → All IsReadyEntity prepared.entities → All IsReadyDocument prepared.begun → All HasApprovedBounds approvals
     → HasClients scene → IsScriptOf prepared.setup scene.clients scene.script → IsStaged (scenario_with explains scene prepared approvals)
-is_staged explains scene prepared approvals setup scenario begun bounded clients script = record {
+is_staged explains scene prepared approvals setup scenario entities begun bounded clients script = record {
   setup = setup;
   scenario = scenario;
   directory = refl;
+  entities = λ i entity within. (entities i entity within).bounded;
   begun = λ i document within. (begun i document within).bounded;
   approvals = bounded;
   grants = clients.grants;

@@ -74,19 +74,23 @@ reversed_has P [] h = tt
 reversed_has P (x ∷ rest) h =
     subst (AllByRecursion P) (sym (reverse-append (x ∷ []) rest)) (append_has P (reverse rest) (x ∷ []) (reversed_has P rest h.1) (h.0, tt))
 
-through_entity : (approvals : List ApprovedDoc) (found : Option CompiledEntity) (closed : Closed) → IfSome found (λ e. IsWalkable approvals e.document.closed) → option_map (λ (e : CompiledEntity). e.document.closed) found ≡ Some closed → IsWalkable approvals closed
-through_entity approvals None closed h e = absurd cc
-through_entity approvals (Some entity) closed h e = let same : entity.document.closed ≡ closed = cc in subst (IsWalkable approvals) same h
+through_entity : (P : Closed → Type 0) (found : Option CompiledEntity) (closed : Closed) → IfSome found (λ e. P e.document.closed) → option_map (λ (e : CompiledEntity). e.document.closed) found ≡ Some closed → P closed
+through_entity P None closed h e = absurd cc
+through_entity P (Some entity) closed h e = let same : entity.document.closed ≡ closed = cc in subst P same h
 
 through_document : (approvals : List ApprovedDoc) (found : Option FilledDocument) (document : FilledDocument) → IfSome found (λ d. IsWalkable approvals d.closed) → found ≡ Some document → IsWalkable approvals document.closed
 through_document approvals None document h e = absurd cc
 through_document approvals (Some d) document h e = let same : d ≡ document = cc in subst (λ (x : FilledDocument). IsWalkable approvals x.closed) same h
 
+-- the policy of an entity has what all of them have
+pub policy_has : (P : Closed → Type 0) (entities : List CompiledEntity) (handle : ℕ) (closed : Closed) → All (λ e. P e.document.closed) entities → policy_of_entity entities handle ≡ Some closed → P closed
+policy_has P entities handle closed all e =
+    through_entity P (find (is_entity handle) (reverse entities)) closed
+    (found_has (λ (x : CompiledEntity). P x.document.closed) (is_entity handle) (reverse entities)
+    (reversed_has (λ (x : CompiledEntity). P x.document.closed) entities (recursion_from_All (λ (x : CompiledEntity). P x.document.closed) entities all))) e
+
 pub policy_walkable : (approvals : List ApprovedDoc) (entities : List CompiledEntity) (handle : ℕ) (closed : Closed) → All (λ e. IsWalkable approvals e.document.closed) entities → policy_of_entity entities handle ≡ Some closed → IsWalkable approvals closed
-policy_walkable approvals entities handle closed all e =
-    through_entity approvals (find (is_entity handle) (reverse entities)) closed
-    (found_has (λ (x : CompiledEntity). IsWalkable approvals x.document.closed) (is_entity handle) (reverse entities)
-    (reversed_has (λ (x : CompiledEntity). IsWalkable approvals x.document.closed) entities (recursion_from_All (λ (x : CompiledEntity). IsWalkable approvals x.document.closed) entities all))) e
+policy_walkable approvals = policy_has (IsWalkable approvals)
 
 pub document_walkable : (approvals : List ApprovedDoc) (begun : List FilledDocument) (name : List ℕ) (document : FilledDocument) → All (λ d. IsWalkable approvals d.closed) begun → find (is_document name) begun ≡ Some document → IsWalkable approvals document.closed
 document_walkable approvals begun name document all e =

@@ -18,13 +18,14 @@ IsScriptOf setup clients script =
     (map (λ client. client.0) clients) [] script
 
 -- A scene that can be carried out: its machine starts from the setup of a scene, the scenario is one of this setup
--- and has its directory, the policies that its script begins and the approvals are within the bounds of the wire,
--- each client has grants whose values fit into commands, and the script begins each run once, for a goal on the
--- scene's entities.
+-- and has its directory, the policies of its entities, those that its script begins and the approvals are within the
+-- bounds of the wire, each client has grants whose values fit into commands, and the script begins each run once, for a
+-- goal on the scene's entities.
 pub record IsStaged (staged : StagedScene) : Type 0 where
   pub setup : IsSetup staged.setup
   pub scenario : IsScenarioOf staged.setup staged.scenario
   pub directory : staged.scenario.directory ≡ directory_of staged.setup
+  pub entities : All (λ entity. HasClosedBounds entity.document.closed) staged.scenario.entities
   pub begun : All (λ document. HasClosedBounds document.closed) staged.scenario.begun
   pub approvals : All (λ document. HasClosedBounds document.closed) staged.scenario.approvals
   pub grants : All (λ client. IsGrants client.1) staged.scenario.clients

@@ -19,7 +19,7 @@ returns-in-Ok-clause-staged c = λ explains.
           (prepared_have (policies_of c.args.store.now) c.args.scene.now (erased_prepared c.in_ok-prepared.prepared) c.in_ok-prepared.ensures.answer);
     } in
     is_staged explains c.args.scene.now c.in_ok-prepared.prepared c.in-Ok.approved.0
-    (c.in_ok-prepared.ensures.setup c.requires.setup) scenario (c.in_ok-prepared.ensures.begun c.requires.readable) c.in-Ok.ensures.bounded c.requires.clients
+    (c.in_ok-prepared.ensures.setup c.requires.setup) scenario (c.in_ok-prepared.ensures.entities c.requires.readable) (c.in_ok-prepared.ensures.begun c.requires.readable) c.in-Ok.ensures.bounded c.requires.clients
     (script_kept (policies_of c.args.store.now) c.args.scene.now (erased_prepared c.in_ok-prepared.prepared) c.in_ok-prepared.ensures.answer c.requires.script)
 
 pub returns-in-Err-clause-answer : goal.returns-in-Err-clause-answer
