@@ -43,7 +43,8 @@ def loaded(path):
 def example_scenes():
     """The scenes of examples/, with the policies that its page imports, and those of examples/worked."""
     page = (EXAMPLES / "README.md").read_text(encoding="utf-8")
-    policies = {name: loaded(EXAMPLES / file) for name, file in re.findall(r"import (\S+) < (\S+\.json)", page)}
+    imports = re.findall(r"import ([\w.-]+) < ([\w.-]+\.json)", page)
+    policies = {name: loaded(EXAMPLES / file) for name, file in imports if (EXAMPLES / file).exists()}
     for path in sorted(EXAMPLES.glob("*.json")):
         if "script" in loaded(path):
             yield Scene(path.stem, loaded(path), policies)
