@@ -165,4 +165,4 @@ def approvals():
     scene["entities"].append(sealed("both", "/t", "0x80000002"))
     scene["clients"][0]["secrets"].append({"path": "/t", "auth": "70696e"})
     scene["script"] += [begin(2, "both", "/t"), {"event": "turn", "run": 2}]
-    return Scene("approvals", scene, {**worked, "both": both})
+    return Scene("approvals", scene, {**worked, "both": both, "group": worked["v1"]})

@@ -8,11 +8,12 @@ import shutil
 import subprocess
 import tempfile
 
-from lines import dead_of, digest_of, lines_in, ways_of, Explained
+from lines import Explained, choices, dead_of, digest_of, lines_in, name_in, ways_of
 
 ROOT = pathlib.Path(__file__).resolve().parent.parent
 POLICY_NAME = r"[A-Za-z0-9_\-][A-Za-z0-9_.\-]{0,63}"
 SCENE = "fapipol-view"
+GROUP = object()
 
 
 class Refused(Exception):
@@ -55,20 +56,18 @@ class Policy:
         self.dead = dead_of(lint)
         self.lint = lines_in(lint)
         for way, placed in zip(self.ways, ways_of(places)):
-            way.steps = [step for step in map(step_in, placed.label.split("/")) if step != "group"]
+            way.steps = [step for step in map(step_in, choices(placed.label)) if step is not GROUP]
 
     def way(self, number):
         return self.ways[number - 1] if 0 < number <= len(self.ways) else None
 
 
 def step_in(choice):
-    """A choice of a document whose branches are named by their places."""
-    if choice == "@*":
-        return None
-    name = json.loads(choice.removeprefix("@")) if choice != "-" else "#"
-    if choice.startswith("@"):
+    """A choice of a document whose branches are named by their places; GROUP for a group of an OR's branches."""
+    name = name_in(choice)
+    if name is None or choice.startswith("@"):
         return name
-    return "group" if name.startswith("#") else int(name)
+    return GROUP if name.startswith("#") else int(name)
 
 
 def with_places(value):
