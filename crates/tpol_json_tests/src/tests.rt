@@ -139,7 +139,11 @@ fn is_written(alloc: Global, place: &Place, text: &str) -> bool {
 
 // Whether an item of this member of a document is written so.
 fn is_inner_written(alloc: Global, name: &str, index: usize, text: &str) -> bool {
-    match PlaceRef::at(&Place::root(alloc)).member(name).item(index).to_place(alloc) {
+    match PlaceRef::at(&Place::root(alloc))
+        .member(name)
+        .item(index)
+        .to_place(alloc)
+    {
         Ok(place) => is_written(alloc, &place, text),
         Err(_) => false,
     }

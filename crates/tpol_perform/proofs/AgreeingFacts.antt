@@ -44,7 +44,6 @@ use Rattle.tpm_rules.specs.Session.{policy_digest_of}
 use Rattle.tpm_session.proofs.Keeping.{IsSoundFrom-push}
 use Rattle.tpm_session.specs.Slots.{state_at}
 use Rattle.tpm_world.specs.Hashes.{proof_of}
-
 use Rattle.std.specs.Prelude.{pos}
 use Rattle.tpol_base.specs.declared.name.Name.{Name}
 use Rattle.tpol_base.specs.Constants.{st_auth_secret}
