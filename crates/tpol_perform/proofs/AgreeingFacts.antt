@@ -11,7 +11,6 @@ use Rattle.tpol_base.specs.declared.command_code.CommandCode.TheVariants.{StartA
 use Rattle.tpol_base.specs.declared.digest.Digest32.{Digest32}
 use Rattle.tpol_base.specs.CommandCode.{number_of_code}
 use Rattle.tpol_base.specs.ResponseCode.{of_parameter, rc_reference_h0, rc_value}
-use Rattle.tpol_digest.proofs.Digests as digests
 use Rattle.tpol_digest.specs.Digest.{digest_of_moves, zero_digest}
 use Rattle.tpol_digest.specs.Sound.{Among, IsSound, IsSoundFrom, Meets, moves_of_facts}
 use Rattle.tpol_name.specs.declared.setup.Setup.{Setup}
