@@ -66,6 +66,7 @@ opened_more setup scenario past facts handle (Some closed) text lines more h = r
   digest = h.digest;
   opening = h.opening;
   means = h.means;
+  alive = h.alive;
   printed = behind_more text (opening_line (next_number past) (paths_of closed scenario.approvals) h.opening) lines more h.printed;
   of_pcrs = h.of_pcrs;
   pcrs = h.pcrs;

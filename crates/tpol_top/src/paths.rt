@@ -165,6 +165,7 @@ fn push_dead_lines(
 }
 
 // Adds the line of this dead path.
+#[tactic(auto, using(crate::proofs::DeadPaths::is_position))]
 fn push_dead_line(
     alloc: Global,
     lines: &mut Lines,

@@ -15,6 +15,9 @@ returns-in-Compile-clause-explained g c = rw c.in-Compile.is (untold c.compile.r
 pub returns-in-Paths-clause-explained : goal.returns-in-Paths-clause-explained
 returns-in-Paths-clause-explained g c = rw c.in-Paths.is (untold c.list_paths.result)
 
+pub returns-in-Lint-clause-explained : goal.returns-in-Lint-clause-explained
+returns-in-Lint-clause-explained g c = rw c.in-Lint.is (untold c.list_paths-in-Lint.result)
+
 pub returns-in-Canon-clause-explained : goal.returns-in-Canon-clause-explained
 returns-in-Canon-clause-explained g c = rw c.in-Canon.is (untold c.canon.result)
 
