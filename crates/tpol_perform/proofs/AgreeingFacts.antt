@@ -1,18 +1,12 @@
 -- In a legal journal the facts of every session agree.
-use Rattle.std.proofs.Common.{inl, inr, ◌≡◌, ◌∙◌, ap, refl, sym, subst, ℕ, ◌==◌, Bool, true, false, nat_eq, if◌then◌else◌, List, [], ◌∷◌, ◌++◌, Option, Some, None, Result, Ok, Err, arith}
-use Rattle.std.specs.Prelude.{⊤, ◌+◌, ◌||◌}
-use Rattle.std.specs.List.{list_any}
+use Rattle.std.proofs.Common.{◌≡◌, ◌∙◌, ap, refl, sym, subst, ℕ, ◌==◌, Bool, true, false, nat_eq, if◌then◌else◌, List, [], ◌∷◌, ◌++◌, Option, Some, None, Result, Ok, Err, arith}
+use Rattle.std.specs.Prelude.{⊤}
 use Rattle.std.specs.Option.{option_and_then, option_map, option_map_or}
-use Rattle.std.proofs.lemmas.Bool.{false≢true}
 use Rattle.std.proofs.lemmas.Bool.Decides.{nat_tests}
-use Rattle.std.proofs.lemmas.Option.{none-some}
-use Rattle.std.proofs.lemmas.Slice.Eq.{bytes_eq-Decides}
 use Rattle.tpol_base.specs.declared.command_code.CommandCode.TheVariants.{StartAuthSession}
 use Rattle.tpol_base.specs.declared.digest.Digest32.{Digest32}
 use Rattle.tpol_base.specs.CommandCode.{number_of_code}
-use Rattle.tpol_base.specs.ResponseCode.{of_parameter, rc_reference_h0, rc_value}
-use Rattle.tpol_digest.specs.Digest.{digest_of_moves, zero_digest}
-use Rattle.tpol_digest.specs.Sound.{Among, IsSound, IsSoundFrom, Meets, moves_of_facts}
+use Rattle.tpol_base.specs.ResponseCode.{rc_reference_h0}
 use Rattle.tpol_name.specs.declared.setup.Setup.{Setup}
 use Rattle.tpol_tree.specs.declared.facts.Fact.{Fact}
 use Rattle.tpol_tree.specs.declared.path.Move.TheVariants as moves
@@ -21,10 +15,9 @@ use Rattle.tpol_wire.specs.declared.command.Command.TheVariants as commands
 use Rattle.tpol_wire.specs.Reading.{reading}
 use Rattle.tpol_wire.specs.ReplyReading.{reply_reading}
 use Rattle.tpm_bindings.proofs.Merging.{moves_of-push}
-use Rattle.tpm_bindings.specs.Facts.{same_digest}
 use Rattle.tpm_bindings.specs.State.{SessionState}
 use Rattle.tpm_engine.proofs.Lookups.{live-view}
-use Rattle.tpm_engine.proofs.Stopping.{map-none, or_else-none, unless-none}
+use Rattle.tpm_engine.proofs.Stopping.{map-none, or_else-none}
 use Rattle.tpm_engine.proofs.Succeeding.{first-none}
 use Rattle.tpm_engine.specs.declared.event.Event.{Event}
 use Rattle.tpm_engine.specs.declared.event.Event.TheVariants as events
@@ -33,16 +26,10 @@ use Rattle.tpm_engine.specs.Deeds.{Deed, Idle, Passes, Shifts, Resets, Extends, 
 use Rattle.tpm_engine.specs.Events.{is_success}
 use Rattle.tpm_engine.specs.Facts.{Moment}
 use Rattle.tpm_engine.specs.Legal.{IsAnswered, IsLegal}
-use Rattle.tpm_engine.specs.PolicyCommands.{policy_rule, verified_digest}
 use Rattle.tpm_engine.specs.Stops.{refuses}
 use Rattle.tpm_engine.specs.Tables.{TableState}
 use Rattle.tpm_engine.specs.Views.{facts_after, facts_of, facts_used, moment_of, session_state, view_of}
-use Rattle.tpm_policy.specs.Judgments.{is_approval_ticket}
-use Rattle.tpm_rules.specs.Rule.{unless}
-use Rattle.tpm_rules.specs.Session.{policy_digest_of}
-use Rattle.tpm_session.proofs.Keeping.{IsSoundFrom-push}
 use Rattle.tpm_session.specs.Slots.{state_at}
-use Rattle.tpm_world.specs.Hashes.{proof_of}
 use Rattle.std.specs.Prelude.{pos}
 use Rattle.tpol_base.specs.declared.name.Name.{Name}
 use Rattle.tpol_base.specs.Constants.{st_auth_secret}
@@ -51,7 +38,7 @@ use Rattle.tpm_bindings.specs.Agreement.{Agree}
 use Rattle.tpm_bindings.specs.Facts.{moves_of}
 use Rattle.tpm_policy.proofs.Agreeing.{agree-code, agree-cp_hash, agree-duplication, agree-locality, agree-name_hash, agree-unbound, agree-written}
 use Rattle.tpm_policy.specs.Asserted.{IsUnbound}
-use Rattle.tpol_perform.proofs.SoundFacts.{Kept, kept}
+use Rattle.tpol_perform.proofs.SoundFacts.{kept}
 use Rattle.tpol_tree.specs.declared.path.Move.{Move}
 
 -- ---- what a deed shows
