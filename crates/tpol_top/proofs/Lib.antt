@@ -1,4 +1,5 @@
 pub mod Answered
+pub mod Asking
 pub mod DeadPaths
 pub mod Explaining
 pub mod Imported

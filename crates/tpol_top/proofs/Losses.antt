@@ -1,5 +1,5 @@
 -- What a source loses to reads.
-use Rattle.std.proofs.Common.{◌≤◌, ℕ, List, length, drop, Option, None, Some, sym, ap, ◌∙◌}
+use Rattle.std.proofs.Common.{◌≤◌, ℕ, List, length, drop, Option, None, Some, sym, ap, arith, refl, ◌∙◌}
 use Rattle.std.proofs.Math.Seq.{drop-append_seam}
 use Rattle.std.specs.Io.KnownBytes.{Consumes}
 use Rattle.tpol_top.specs.Report.{LosesAtMost}
@@ -10,3 +10,8 @@ loses_at_most most None new bytes taken within = tt
 loses_at_most most (Some held) None bytes taken within = absurd taken
 loses_at_most most (Some held) (Some left) bytes taken within =
     (length bytes, within, ap Some (sym (drop-append_seam bytes left) ∙ ap (drop (length bytes)) (sym taken)))
+
+-- nothing was taken
+pub loses_nothing : (most : ℕ) (left : Option (List ℕ)) → LosesAtMost most left left
+loses_nothing most None = tt
+loses_nothing most (Some held) = (0, omega arith, refl)
