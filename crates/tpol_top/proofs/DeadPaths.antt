@@ -1,5 +1,5 @@
 -- A dead path is one of the paths.
-use Rattle.std.proofs.Common.{◌≡◌, ℕ, ◌+◌, ◌-◌, ◌<◌, ◌≤◌, ◌∷◌, [], List, Option, Some, None, length, slice_get, arith, suc, zero}
+use Rattle.std.proofs.Common.{◌≡◌, ℕ, ◌-◌, ◌<◌, ◌≤◌, ◌∷◌, [], List, Some, length, slice_get, arith, suc, zero}
 use Rattle.std.proofs.lemmas.Option.{none-some}
 use Rattle.tpol_lint.specs.declared.dead.Dead.{Dead}
 use Rattle.tpol_lint.specs.Dead.{IsDead}
