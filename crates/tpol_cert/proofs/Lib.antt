@@ -1,0 +1,4 @@
+pub mod Along
+pub mod Apart
+pub mod Beside
+pub mod Going

@@ -1,0 +1,15 @@
+//! Certificates of openings: bytes that say which way through a policy was taken and what the digest was after each
+//! of its moves. Anybody who has the policy and its approved documents can check one, with no journal and no machine.
+//!
+//! `certify` makes the certificate of a path. `Certifies` of `specs/` says it over the paths of tpol_digest: the
+//! choices of the path, and the digest after each of its moves.
+#![tactic(auto)]
+
+mod certificate;
+mod certifying;
+mod choice;
+mod walk;
+
+pub use certificate::Certificate;
+pub use certifying::certify;
+pub use choice::{Choice, Choices};
