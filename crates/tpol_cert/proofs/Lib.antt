@@ -2,3 +2,5 @@ pub mod Along
 pub mod Apart
 pub mod Beside
 pub mod Going
+pub mod Loop
+pub mod ReadingLaws

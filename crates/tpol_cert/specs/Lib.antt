@@ -1,4 +1,5 @@
 pub mod Certificates
 pub mod Choices
+pub mod Reading
 pub mod Spelling
 pub mod Steps

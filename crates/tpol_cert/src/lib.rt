@@ -8,8 +8,11 @@
 mod certificate;
 mod certifying;
 mod choice;
+mod fault;
+mod reading;
 mod walk;
 
 pub use certificate::Certificate;
 pub use certifying::certify;
 pub use choice::{Choice, Choices};
+pub use fault::CertFault;
