@@ -1,7 +1,7 @@
 -- The choices at an index, part by part.
 use Rattle.std.proofs.Common.{◌≡◌, ◌≢◌, ℕ, zero, suc, ◌+◌, ◌-◌, ◌*◌, ◌/◌, ◌%◌, ◌<◌, ◌≤◌, min, Bool, true, false, List, [], ◌∷◌, ◌++◌, map, length, get_or, take, drop, Option, Some, None, refl, sym, ap, ◌∙◌, subst, append_assoc, length-append, arith}
 use Rattle.std.specs.Prelude.{is_some, if◌then◌else◌}
-use Rattle.std.specs.List.{slice_get}
+use Rattle.std.specs.List.{AllByRecursion, slice_get}
 use Rattle.std.proofs.lemmas.Nat.{div-add-mod', div_below}
 use Rattle.std.proofs.lemmas.List.{append-nil, drop_more, length-map}
 use Rattle.std.proofs.Math.ListN.{drop_of_length-le}
@@ -15,12 +15,14 @@ use Rattle.tpol_digest.specs.Positions.{element_list_ways}
 use Rattle.tpol_digest.proofs.Extents.{mul_bounds, parts_positive}
 use Rattle.tpol_cert.specs.declared.choice.Choice.{Choice}
 use Rattle.tpol_cert.specs.declared.choice.Choice.TheVariants.{Document, Outside}
-use Rattle.tpol_cert.specs.Choices.{GoesOn, approval_choices, approved_choices, behind, document_choices, each_with, element_choices, element_list_choices}
+use Rattle.tpol_cert.specs.Going.{GoesOn}
+use Rattle.tpol_cert.specs.Choices.{approval_choices, approved_choices, behind, document_choices, each_with, element_choices, element_list_choices}
+use Rattle.tpol_cert.specs.Spelling.{ChoiceFits}
 use Rattle.tpol_cert.proofs.Beside.{beside-length, ways_beside}
 
 -- ---- at an index of a list that is made of parts
 
-at_first : (xs ys : List (List Choice)) (i : ℕ) (p : List Choice) → slice_get xs i ≡ Some p → slice_get (xs ++ ys) i ≡ Some p
+pub at_first : (xs ys : List (List Choice)) (i : ℕ) (p : List Choice) → slice_get xs i ≡ Some p → slice_get (xs ++ ys) i ≡ Some p
 at_first [] ys i p h = cc
 at_first (x ∷ xs) ys zero p h = h
 at_first (x ∷ xs) ys (suc i) p h = at_first xs ys i p h
@@ -31,15 +33,15 @@ at_right (x ∷ xs) ys i p h =
     let e : suc (length xs) + i ≡ suc (length xs + i) = omega arith in
     ap (slice_get (x ∷ (xs ++ ys))) e ∙ at_right xs ys i p h
 
-at_later : (xs ys : List (List Choice)) (i j : ℕ) (p : List Choice) → j ≡ length xs + i → slice_get ys i ≡ Some p → slice_get (xs ++ ys) j ≡ Some p
+pub at_later : (xs ys : List (List Choice)) (i j : ℕ) (p : List Choice) → j ≡ length xs + i → slice_get ys i ≡ Some p → slice_get (xs ++ ys) j ≡ Some p
 at_later xs ys i j p e h = ap (slice_get (xs ++ ys)) e ∙ at_right xs ys i p h
 
-at_map : (f : List Choice → List Choice) (xs : List (List Choice)) (i : ℕ) (p : List Choice) → slice_get xs i ≡ Some p → slice_get (map f xs) i ≡ Some (f p)
+pub at_map : (f : List Choice → List Choice) (xs : List (List Choice)) (i : ℕ) (p : List Choice) → slice_get xs i ≡ Some p → slice_get (map f xs) i ≡ Some (f p)
 at_map f [] i p h = cc
 at_map f (x ∷ xs) zero p h = cc
 at_map f (x ∷ xs) (suc i) p h = at_map f xs i p h
 
-at_product : (xs ys : List (List Choice)) (i j k : ℕ) (p q : List Choice) → slice_get xs i ≡ Some p → slice_get ys j ≡ Some q → k ≡ i * length ys + j → slice_get (each_with xs ys) k ≡ Some (p ++ q)
+pub at_product : (xs ys : List (List Choice)) (i j k : ℕ) (p q : List Choice) → slice_get xs i ≡ Some p → slice_get ys j ≡ Some q → k ≡ i * length ys + j → slice_get (each_with xs ys) k ≡ Some (p ++ q)
 at_product [] ys i j k p q h g e = cc
 at_product (x ∷ xs) ys zero j k p q h g e =
     let here : k ≡ j = omega (arith, e) in
@@ -61,31 +63,37 @@ length-product (x ∷ xs) ys =
 
 -- ---- choices that go on by those of a part
 
+all_fit : (xs ys : List Choice) → AllByRecursion ChoiceFits xs → AllByRecursion ChoiceFits ys → AllByRecursion ChoiceFits (xs ++ ys)
+all_fit [] ys h k = k
+all_fit (x ∷ xs) ys h k = (h.0, all_fit xs ys h.1 k)
+
 pub goes_nowhere : (a : List Choice) (i : ℕ) → i < 1 → GoesOn a ([] ∷ []) i a
-goes_nowhere a zero h = record { choices = []; is_there = refl; follows = sym (append-nil a) }
+goes_nowhere a zero h = record { choices = []; is_there = refl; fits = tt; follows = sym (append-nil a) }
 goes_nowhere a (suc i) h = absurd (omega arith)
 
 pub goes_outside : (a b : List Choice) (i : ℕ) → i < 1 → b ≡ a ++ Outside ∷ [] → GoesOn a ((Outside ∷ []) ∷ []) i b
-goes_outside a b zero h e = record { choices = Outside ∷ []; is_there = refl; follows = e }
+goes_outside a b zero h e = record { choices = Outside ∷ []; is_there = refl; fits = (tt, tt); follows = e }
 goes_outside a b (suc i) h e = absurd (omega arith)
 
 pub goes_through : (a b c : List Choice) (xs ys : List (List Choice)) (i j k : ℕ) → GoesOn a xs i b → GoesOn b ys j c → k ≡ i * length ys + j → GoesOn a (each_with xs ys) k c
 goes_through a b c xs ys i j k g h e = record {
   choices = g.choices ++ h.choices;
   is_there = at_product xs ys i j k g.choices h.choices g.is_there h.is_there e;
+  fits = all_fit g.choices h.choices g.fits h.fits;
   follows = h.follows ∙ ap (λ x. x ++ h.choices) g.follows ∙ append_assoc a g.choices h.choices;
 }
 
 pub goes_first : (a b : List Choice) (xs ys : List (List Choice)) (i : ℕ) → GoesOn a xs i b → GoesOn a (xs ++ ys) i b
-goes_first a b xs ys i g = record { choices = g.choices; is_there = at_first xs ys i g.choices g.is_there; follows = g.follows }
+goes_first a b xs ys i g = record { choices = g.choices; is_there = at_first xs ys i g.choices g.is_there; fits = g.fits; follows = g.follows }
 
 pub goes_later : (a b : List Choice) (xs ys : List (List Choice)) (i j : ℕ) → j ≡ length xs + i → GoesOn a ys i b → GoesOn a (xs ++ ys) j b
-goes_later a b xs ys i j e g = record { choices = g.choices; is_there = at_later xs ys i j g.choices e g.is_there; follows = g.follows }
+goes_later a b xs ys i j e g = record { choices = g.choices; is_there = at_later xs ys i j g.choices e g.is_there; fits = g.fits; follows = g.follows }
 
-pub goes_behind : (a next b : List Choice) (choice : Choice) (xs : List (List Choice)) (i : ℕ) → next ≡ a ++ choice ∷ [] → GoesOn next xs i b → GoesOn a (behind choice xs) i b
-goes_behind a next b choice xs i e g = record {
+pub goes_behind : (a next b : List Choice) (choice : Choice) (xs : List (List Choice)) (i : ℕ) → ChoiceFits choice → next ≡ a ++ choice ∷ [] → GoesOn next xs i b → GoesOn a (behind choice xs) i b
+goes_behind a next b choice xs i fit e g = record {
   choices = choice ∷ g.choices;
   is_there = at_map (λ rest. choice ∷ rest) xs i g.choices g.is_there;
+  fits = (fit, g.fits);
   follows = g.follows ∙ ap (λ x. x ++ g.choices) e ∙ append_assoc a (choice ∷ []) g.choices;
 }
 

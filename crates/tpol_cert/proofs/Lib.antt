@@ -1,6 +1,7 @@
 pub mod Along
 pub mod Apart
 pub mod Beside
+pub mod Following
 pub mod Going
 pub mod Loop
 pub mod ReadingLaws

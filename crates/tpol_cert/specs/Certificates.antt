@@ -11,7 +11,7 @@ use Rattle.tpol_digest.specs.Paths.{paths_of}
 use Rattle.tpol_cert.specs.declared.certificate.Certificate.{Certificate}
 use Rattle.tpol_cert.specs.declared.choice.Choice.{Choice}
 use Rattle.tpol_cert.specs.Choices.{choices_of}
-use Rattle.tpol_cert.specs.Spelling.{spelled}
+use Rattle.tpol_cert.specs.Spelling.{Fits, spelled}
 
 -- the digest after each of these moves, where d is the digest before them
 abbrev pub digests_along : Digest32 → List Move → List Digest32
@@ -29,4 +29,5 @@ pub record Certifies (bytes : List ℕ) (policy : Closed) (approvals : List Appr
   pub counted : 1 ≤ position
   pub chosen : slice_get (choices_of policy approvals) (position - 1) ≡ Some choices
   pub is_there : slice_get (paths_of policy approvals) (position - 1) ≡ Some path
+  pub fits : Fits (certificate_of choices path)
   pub spells : bytes ≡ spelled (certificate_of choices path)

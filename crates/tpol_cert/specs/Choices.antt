@@ -1,7 +1,7 @@
 -- The choices of each path of a policy, in the order of the paths: a branch and an approved document by their numbers
 -- from 1.
-use Rattle.std.specs.Prelude.{◌≡◌, ℕ, zero, suc, ◌+◌, Bool, true, false, nat_eq, List, [], ◌∷◌, ◌++◌, map, Some, is_some, if◌then◌else◌}
-use Rattle.std.specs.List.{flat_map, slice_get}
+use Rattle.std.specs.Prelude.{ℕ, zero, suc, ◌+◌, Bool, true, false, nat_eq, List, [], ◌∷◌, ◌++◌, map, is_some, if◌then◌else◌}
+use Rattle.std.specs.List.{flat_map}
 use Rattle.tpol_tree.specs.declared.closed.Closed.{Closed}
 use Rattle.tpol_tree.specs.declared.closed.ClosedElements.{ClosedElements}
 use Rattle.tpol_tree.specs.declared.closed.ClosedElements.TheVariants.{More', End}
@@ -77,12 +77,6 @@ branch_choices documents levels branches position =
 abbrev pub approval_choices : List ApprovedDoc → ℕ → ClosedElement → List (List Choice)
 approval_choices documents levels element =
     approved_choices (document_choices documents levels) 1 element documents ++ (Outside ∷ []) ∷ []
-
--- choices that go on by those at an index, from 0
-pub record GoesOn (before : List Choice) (all : List (List Choice)) (index : ℕ) (after : List Choice) : Type 0 where
-  pub choices : List Choice
-  pub is_there : slice_get all index ≡ Some choices
-  pub follows : after ≡ before ++ choices
 
 -- whether two choices are the same
 abbrev pub same_choice : Choice → Choice → Bool

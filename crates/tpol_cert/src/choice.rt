@@ -1,5 +1,8 @@
 // The choices on a path.
 
+ghost use Rattle.std.specs.Prelude.{◌≡◌, IsTrue};
+ghost use Rattle.tpol_cert.specs.Choices.{same_choice};
+
 use tpol_base::Sequence;
 
 /// One choice on a path, by its number from 1 among those that there are.
@@ -12,6 +15,22 @@ pub enum Choice {
     Document(u32),
     /// A policy that no listed document has.
     Outside,
+}
+
+impl Choice {
+    // Whether this is that choice.
+    pub fn is_same(self, other: Choice) -> bool
+        ensures test { result ≡ same_choice self other }
+        ensures same { IsTrue result → self ≡ other }
+    {
+        match self {
+            Choice::Branch(number) => matches!(other, Choice::Branch(wanted) if wanted == number),
+            Choice::Document(number) => {
+                matches!(other, Choice::Document(wanted) if wanted == number)
+            }
+            Choice::Outside => matches!(other, Choice::Outside),
+        }
+    }
 }
 
 /// Choices in order.

@@ -9,6 +9,7 @@ mod certificate;
 mod certifying;
 mod choice;
 mod fault;
+mod follow;
 mod reading;
 mod walk;
 

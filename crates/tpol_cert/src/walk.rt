@@ -1,7 +1,8 @@
 // The choices of one path, by its index, without the others. Nothing is hashed.
 
-ghost use Rattle.std.specs.Prelude.{◌≡◌, ◌+◌, ◌<◌, ◌≤◌, IfOk, OnOk, length};
-ghost use Rattle.tpol_cert.specs.Choices.{GoesOn, approval_choices, branch_choices, element_choices, element_list_choices};
+ghost use Rattle.std.specs.Prelude.{◌≡◌, ◌+◌, ◌<◌, ◌≤◌, ◌^◌, IfOk, OnOk, length};
+ghost use Rattle.tpol_cert.specs.Choices.{approval_choices, branch_choices, element_choices, element_list_choices};
+ghost use Rattle.tpol_cert.specs.Going.{GoesOn};
 
 use crate::{Choice, Choices};
 use tpol_base::NoMemory;
@@ -87,8 +88,9 @@ fn push_branch(
 }
 
 // The number behind one, which must fit 32 bits.
-fn next_number(number: u32) -> Result<u32, NoMemory>
-    ensures { IfOk result (λ next. next ≡ number + 1) }
+pub fn next_number(number: u32) -> Result<u32, NoMemory>
+    ensures next { IfOk result (λ next. next ≡ number + 1) }
+    ensures fits { IfOk result (λ next. next < 2 ^ 32) }
 {
     number.checked_add(1).ok_or(NoMemory)
 }

@@ -9,9 +9,11 @@ use Rattle.tpol_digest.specs.Digest.{zero_digest}
 use Rattle.tpol_digest.specs.Limits.{AreWithinLimits}
 use Rattle.tpol_digest.specs.Paths.{paths_of}
 use Rattle.tpol_cert.specs.Certificates.{Certifies, certificate_of, digests_along}
-use Rattle.tpol_cert.specs.Choices.{GoesOn, choices_of, element_list_choices}
+use Rattle.tpol_cert.specs.Going.{GoesOn}
+use Rattle.tpol_cert.specs.Choices.{choices_of, element_list_choices}
 use Rattle.tpol_cert.specs.Spelling.{magic, spelled, spelled_choices, spelled_digests}
 use Rattle.tpol_cert.specs.declared.choice.Choice.{Choice}
+use Rattle.tpol_cert.proofs.Along.{length-digests_along}
 use Rattle.tpol_cert.proofs.Beside.{beside-at, beside-length, choices_beside}
 use Rattle.tpol_cert.proofs.certifying.certify.Goals as goal
 
@@ -78,6 +80,11 @@ returns c =
         counted = c.requires.positions.0;
         chosen = way.is_there;
         is_there = c.in_ok-way.ensures.path;
+        fits = record {
+          steps = omega (arith, few_steps c.args.policy.now c.args.approvals.now (c.args.path - 1) c.push_elements.new.choices path c.requires.within c.in_ok-way.ensures.path way, ap length way.follows);
+          numbers = way.fits;
+          digests = omega (arith, short c.args.policy.now c.args.approvals.now (c.args.path - 1) path c.requires.within c.in_ok-way.ensures.path, length-digests_along zero_digest path.moves);
+        };
         spells = written c.extend_from_slice.new.self c.write_choices.new.bytes c.write_digests.new.bytes way.choices path start first second;
       };
     }

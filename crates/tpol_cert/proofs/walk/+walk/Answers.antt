@@ -1,10 +1,11 @@
-use Rattle.std.proofs.Common.{◌≡◌, ◌≢◌, ◌+◌, ◌-◌, ◌/◌, ◌%◌, ◌<◌, ◌≤◌, ◌++◌, min, [], ◌∷◌, length, refl, subst, sym, ap, ◌∙◌, length-append, arith}
+use Rattle.std.proofs.Common.{◌≡◌, ◌≢◌, ◌+◌, ◌-◌, ◌/◌, ◌%◌, ◌<◌, ◌≤◌, ◌^◌, ◌++◌, min, [], ◌∷◌, length, refl, subst, sym, ap, ◌∙◌, length-append, arith}
 use Rattle.std.proofs.lemmas.List.{length-map}
 use Rattle.std.proofs.lemmas.Result.{on_ok_weaker}
 use Rattle.tpol_tree.specs.declared.closed.ClosedBranch.{ClosedBranch}
 use Rattle.tpol_digest.proofs.Weights.{weight, weight_of_element, weight_of_branches, greatest, weight-lt-greatest, level_less}
 use Rattle.tpol_cert.specs.declared.choice.Choice.TheVariants.{Branch, Document, Outside}
-use Rattle.tpol_cert.specs.Choices.{GoesOn, approval_choices, behind, branch_choices, element_choices, element_list_choices}
+use Rattle.tpol_cert.specs.Going.{GoesOn}
+use Rattle.tpol_cert.specs.Choices.{approval_choices, behind, branch_choices, element_choices, element_list_choices}
 use Rattle.tpol_cert.proofs.Going.{Parted, choices_from, counted, counted_first, from_entered, from_none, from_passed, goes_behind, goes_first, goes_later, goes_nowhere, goes_outside, goes_through, no_documents, parted}
 use Rattle.tpol_cert.proofs.walk.+walk.Goals as goal
 use Rattle.tpol_cert.proofs.walk.+walk.Goals.{push_approval-then-accepts+else-left-count+in_ok-number, push_approval-else-accepts, push_approval-then-scope-gt0+else-loop-document-test, push_approval-else-scope-gt0}
@@ -106,7 +107,7 @@ push_branch-push_branch-requires t c =
     let same = ap (λ (b : ClosedBranch). b.policy.elements) c.deref.ensures in
     let count = subst (λ e. c.count_ways-count.result ≡ min (length (element_list_choices documents levels e)) 65537) same (counted documents levels c.deref.result.now.policy.elements c.count_ways-count.result c.count_ways-count.ensures.ways) in
     let exact = counted_first c.count_ways-count.result (Branch c.args.position) inner others count (rw c.in-More.is at c.requires.few) in
-    let ways = ap (λ n. length (branch_choices documents levels c.deref-else-index-count.result.now n)) c.in_ok-next_number-in-More.ensures ∙ ap (λ r. length (branch_choices documents levels r (c.args.position + 1))) c.deref-else-index-count.ensures in (
+    let ways = ap (λ n. length (branch_choices documents levels c.deref-else-index-count.result.now n)) c.in_ok-next_number-in-More.ensures.next ∙ ap (λ r. length (branch_choices documents levels r (c.args.position + 1))) c.deref-else-index-count.ensures in (
       omega (arith, rw c.in-More.is at c.decreases, ap weight_of_branches c.deref-else-index-count.ensures),
       (
         omega (arith, ways, exact.1, rw c.in-More.is at c.requires.few),
@@ -124,7 +125,7 @@ push_branch-returns-in_ok-push-in-More t c =
     rw c.in-More.is
     (on_ok_weaker c.push_elements.result
     (λ g. goes_first c.args.choices.now c.push_elements.new.choices (behind (Branch c.args.position) inner) others c.args.index
-    (goes_behind c.args.choices.now c.push.new.self c.push_elements.new.choices (Branch c.args.position) inner c.args.index c.in_ok-push-in-More.ensures.ok
+    (goes_behind c.args.choices.now c.push.new.self c.push_elements.new.choices (Branch c.args.position) inner c.args.index (omega (arith, c.ranges.position.fits)) c.in_ok-push-in-More.ensures.ok
     (subst (λ e. GoesOn c.push.new.self (element_list_choices documents levels e) c.args.index c.push_elements.new.choices) same g)))
     c.push_elements.ensures)
 
@@ -142,7 +143,7 @@ push_branch-returns-in_ok-next_number-in-More t c =
     (on_ok_weaker c.push_branch.result
     (λ g. goes_later c.args.choices.now c.push_branch.new.choices (behind (Branch c.args.position) inner) others (c.args.index - c.count_ways-count.result) c.args.index split
     (subst (λ r. GoesOn c.args.choices.now (branch_choices documents levels r (c.args.position + 1)) (c.args.index - c.count_ways-count.result) c.push_branch.new.choices) c.deref-else-index-count.ensures
-    (subst (λ n. GoesOn c.args.choices.now (branch_choices documents levels c.deref-else-index-count.result.now n) (c.args.index - c.count_ways-count.result) c.push_branch.new.choices) c.in_ok-next_number-in-More.ensures g)))
+    (subst (λ n. GoesOn c.args.choices.now (branch_choices documents levels c.deref-else-index-count.result.now n) (c.args.index - c.count_ways-count.result) c.push_branch.new.choices) c.in_ok-next_number-in-More.ensures.next g)))
     c.push_branch.ensures)
 
 -- ---- approvals
@@ -191,11 +192,11 @@ push_approval-returns-then-left-count t c =
     (λ g. c.loop-document.invariant.leads before after
     (subst (λ l. GoesOn before l left after) (sym entered)
     (goes_first before after (behind (Document number) inner) others left
-    (goes_behind before c.push.new.self after (Document number) inner left pushed g))))
+    (goes_behind before c.push.new.self after (Document number) inner left c.loop-document.invariant.fits pushed g))))
     c.push_elements.ensures
 
 pub push_approval-loop-document-init : goal.push_approval-loop-document-init
-push_approval-loop-document-init t c = record { same = refl; few = c.requires.few; inside = c.requires.inside; leads = λ before after g. g }
+push_approval-loop-document-init t c = record { same = refl; fits = omega arith; few = c.requires.few; inside = c.requires.inside; leads = λ before after g. g }
 
 pub push_approval-loop-document-preserved : goal.push_approval-loop-document-preserved
 push_approval-loop-document-preserved t c =
@@ -219,9 +220,10 @@ push_approval-loop-document-preserved t c =
           let whole = ap length entered in
           let less : left - w.count_ways-count.result < length others = omega (arith, exact.0, exact.1, whole, invariant.inside, w.if-left-count.false) in
           let split : left ≡ length firsts + (left - w.count_ways-count.result) = omega (arith, exact.0, w.if-left-count.false, length-map inner (λ rest. Document number ∷ rest)) in
-          let next : c.if-accepts.number ≡ number + 1 = w.number-is ∙ w.in_ok-number.ensures in
+          let next : c.if-accepts.number ≡ number + 1 = w.number-is ∙ w.in_ok-number.ensures.next in
           record {
             same = invariant.same;
+            fits = subst (λ n. n < 2 ^ 32) (sym w.number-is) w.in_ok-number.ensures.fits;
             few = subst (λ n. length (choices_from documents levels element n (index + 1)) ≤ 65536) (sym next) (omega (arith, exact.1, whole, invariant.few));
             inside = subst (λ n. c.if-accepts.left < length (choices_from documents levels element n (index + 1))) (sym next) (subst (λ n. n < length others) (sym w.left-is) less);
             leads = λ before after g.
@@ -236,6 +238,7 @@ push_approval-loop-document-preserved t c =
           let whole = ap length passed in
           record {
             same = invariant.same;
+            fits = subst (λ n. n < 2 ^ 32) (sym w.number-is) invariant.fits;
             few = subst (λ n. length (choices_from documents levels element n (index + 1)) ≤ 65536) (sym w.number-is) (omega (arith, whole, invariant.few));
             inside = subst (λ n. c.if-accepts.left < length (choices_from documents levels element n (index + 1))) (sym w.number-is) (omega (arith, whole, invariant.inside, w.left-is));
             leads = λ before after g.

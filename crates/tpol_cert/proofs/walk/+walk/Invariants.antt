@@ -1,6 +1,7 @@
-use Rattle.std.proofs.Common.{◌≡◌, ◌+◌, ◌*◌, ◌<◌, ◌≤◌, length, List}
+use Rattle.std.proofs.Common.{◌≡◌, ◌+◌, ◌*◌, ◌<◌, ◌≤◌, ◌^◌, length, List}
 use Rattle.tpol_cert.specs.declared.choice.Choice.{Choice}
-use Rattle.tpol_cert.specs.Choices.{GoesOn, approval_choices}
+use Rattle.tpol_cert.specs.Going.{GoesOn}
+use Rattle.tpol_cert.specs.Choices.{approval_choices}
 use Rattle.tpol_cert.proofs.Going.{choices_from}
 use Rattle.tpol_digest.proofs.Weights.{weight, weight_of_element, weight_of_branches, greatest}
 use Rattle.tpol_cert.proofs.walk.+walk.Given as goal
@@ -21,6 +22,7 @@ decreases-push_approval l = 2 * (l.scope.now.levels * greatest l.scope.now.appro
 abbrev pub invariant-push_approval-loop-document : goal.invariant-push_approval-loop-document
 invariant-push_approval-loop-document l = record {
   same : l.choices ≡ l.initial.choices;
+  fits : l.number < 2 ^ 32;
   few : length (choices_from l.scope.approvals.now l.scope.levels l.element l.number l.document-index) ≤ 65536;
   inside : l.left < length (choices_from l.scope.approvals.now l.scope.levels l.element l.number l.document-index);
   leads : (before after : List Choice) → GoesOn before (choices_from l.scope.approvals.now l.scope.levels l.element l.number l.document-index) l.left after
