@@ -2,13 +2,17 @@
 use Rattle.std.proofs.Common.{◌≡◌, ◌≢◌, ℕ, zero, suc, ◌+◌, ◌-◌, ◌*◌, ◌<◌, ◌≤◌, min, max, Bool, true, false, List, [], ◌∷◌, ◌++◌, map, length, Option, Some, None, nat_eq, refl, sym, ap, ◌∙◌, subst, append_assoc, length-append, inl, inr, arith}
 use Rattle.std.specs.Prelude.{⊤, ◌⊎◌, if◌then◌else◌}
 use Rattle.std.specs.List.{AllByRecursion, slice_get}
+use Rattle.std.proofs.Math.Nat.{mul-le-mul_left}
 use Rattle.std.proofs.lemmas.Bool.Decides.{nat_tests}
 use Rattle.std.proofs.lemmas.List.{append-nil, length-map}
 use Rattle.std.proofs.lemmas.Option.{slice_get_within}
 use Rattle.tpol_cert.specs.declared.choice.Choice.{Choice}
 use Rattle.tpol_cert.specs.declared.choice.Choice.TheVariants.{Branch, Document, Outside}
 use Rattle.tpol_cert.specs.Choices.{behind, each_with, same_choice}
-use Rattle.tpol_cert.specs.Following.{Leads, Misses, Strays, common, most}
+use Rattle.tpol_cert.specs.declared.follow.Stray.{Stray}
+use Rattle.tpol_cert.specs.declared.follow.Stray.TheVariants.{At, NoMemory}
+use Rattle.tpol_cert.specs.Following.{IsStray, Leads, Misses, Strays, common, most}
+use Rattle.tpol_digest.proofs.Extents.{mul_bounds}
 use Rattle.tpol_cert.proofs.Apart.{AllPart, BeginsAtBranch, BeginsAtDocument, Part, at_index, each_append, same_itself}
 use Rattle.tpol_cert.proofs.Going.{at_first, at_later, at_map, at_product, length-product}
 
@@ -253,3 +257,24 @@ strays_past s left xs others away h = record {
 
 pub leads_within : (all : List (List Choice)) (s left : List Choice) (i : ℕ) → Leads all s i left → i < length all
 leads_within all s left i g = slice_get_within all i g.choices g.is_there
+
+pub stray_by : (some all : List (List Choice)) (s t : List Choice) (stray : Stray) → ((left : List Choice) → Strays some s left → Strays all t left) → IsStray some s stray → IsStray all t stray
+stray_by some all s t NoMemory f h = tt
+stray_by some all s t (At left) f h = f left.now h
+
+-- what is counted of two parts
+pub fits_two : (i j first rest : ℕ) → first * rest ≤ 65536 → i < first → j < rest → (i * rest ≤ 65536) × (i * rest + j ≤ 65536)
+fits_two i j first rest few h k =
+    let row : (i + 1) * rest ≤ first * rest = more_of (i + 1) first rest (omega arith) in
+    (omega (arith, row, few), omega (arith, row, few, k))
+  where
+    more_of : (a b c : ℕ) → a ≤ b → a * c ≤ b * c
+    more_of a b c le = let h = mul-le-mul_left c le in omega (arith, h)
+
+pub few_first : (first rest : ℕ) → 0 < rest → first * rest ≤ 65536 → first ≤ 65536
+few_first zero rest some few = omega arith
+few_first (suc first) rest some few = (mul_bounds (suc first) rest 65536 (omega arith) (omega arith) few).0
+
+pub few_second : (first rest : ℕ) → 0 < first → first * rest ≤ 65536 → rest ≤ 65536
+few_second first zero some few = omega arith
+few_second first (suc rest) some few = (mul_bounds first (suc rest) 65536 (omega arith) (omega arith) few).1

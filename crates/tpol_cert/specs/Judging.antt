@@ -1,5 +1,5 @@
 -- What is told of a certificate.
-use Rattle.std.specs.Prelude.{◌≡◌, ℕ, ◌+◌, ◌-◌, ◌≤◌, ⊤, List, [], ◌∷◌, Option, Some, None, Result, Ok, Err, if◌then◌else◌}
+use Rattle.std.specs.Prelude.{◌≡◌, ℕ, ◌+◌, ◌-◌, ◌≤◌, ◌⊎◌, ⊤, List, [], ◌∷◌, Option, Some, None, Result, Ok, Err, if◌then◌else◌}
 use Rattle.std.specs.List.{slice_get}
 use Rattle.tpol_base.specs.declared.digest.Digest32.{Digest32}
 use Rattle.tpol_base.specs.Digest.{is_same_digest}
@@ -15,6 +15,7 @@ use Rattle.tpol_cert.specs.declared.fault.CertFault.TheVariants as faults
 use Rattle.tpol_cert.specs.Certificates.{digests_along}
 use Rattle.tpol_cert.specs.Choices.{choices_of}
 use Rattle.tpol_cert.specs.Following.{most}
+use Rattle.tpol_cert.specs.Spelling.{Fits, spelled}
 
 -- The number of the first step that names no choice where the earlier ones lead, that is one too many, or that is
 -- missing, where the steps are the choices of no path: one more than the most that they have in common with those of one.
@@ -60,3 +61,18 @@ Judged policy approvals c (Err faults.NoMemory) = ⊤
 Judged policy approvals c (Err faults.Malformed) = ⊥
 Judged policy approvals c (Err (faults.NoStep number)) = IsNoStep (choices_of policy approvals) c.steps number
 Judged policy approvals c (Err (faults.Differs number)) = IsDifferent policy approvals c number
+
+-- an answer on where steps lead
+abbrev pub IsLost : List (List Choice) → List Choice → CertFault → Type 0
+IsLost all steps faults.NoMemory = ⊤
+IsLost all steps faults.Malformed = ⊥
+IsLost all steps (faults.NoStep number) = IsNoStep all steps number
+IsLost all steps (faults.Differs number) = ⊥
+
+-- the bytes are no certificate
+abbrev pub AreNoCertificate : List ℕ → Type 0
+AreNoCertificate bytes = (c : Certificate) → Fits c → bytes ≡ spelled c → ⊥
+
+-- this is answered, unless memory ran out
+abbrev pub AnswersUnlessNoMemory : Result ℕ CertFault → Result ℕ CertFault → Type 0
+AnswersUnlessNoMemory result wanted = (result ≡ Err faults.NoMemory) ⊎ (result ≡ wanted)

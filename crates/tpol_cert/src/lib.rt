@@ -7,6 +7,7 @@
 
 mod certificate;
 mod certifying;
+mod checking;
 mod choice;
 mod fault;
 mod follow;
@@ -15,5 +16,6 @@ mod walk;
 
 pub use certificate::Certificate;
 pub use certifying::certify;
+pub use checking::check;
 pub use choice::{Choice, Choices};
 pub use fault::CertFault;
