@@ -3,6 +3,7 @@ use Rattle.std.proofs.Common.{◌≡◌, ◌≢◌, ℕ, zero, suc, ◌+◌, ◌
 use Rattle.std.specs.Prelude.{⊤, ◌⊎◌, if◌then◌else◌}
 use Rattle.std.specs.List.{AllByRecursion, slice_get}
 use Rattle.std.proofs.Math.Nat.{mul-le-mul_left}
+use Rattle.std.proofs.lemmas.Bool.{false≢true}
 use Rattle.std.proofs.lemmas.Bool.Decides.{nat_tests}
 use Rattle.std.proofs.lemmas.List.{append-nil, length-map}
 use Rattle.std.proofs.lemmas.Option.{slice_get_within}
@@ -13,6 +14,7 @@ use Rattle.tpol_cert.specs.declared.follow.Stray.{Stray}
 use Rattle.tpol_cert.specs.declared.follow.Stray.TheVariants.{At, NoMemory}
 use Rattle.tpol_cert.specs.Following.{IsStray, Leads, Misses, Strays, common, most}
 use Rattle.tpol_digest.proofs.Extents.{mul_bounds}
+use Rattle.tpol_cert.specs.Judging.{IsNoStep}
 use Rattle.tpol_cert.proofs.Apart.{AllPart, BeginsAtBranch, BeginsAtDocument, Part, at_index, each_append, same_itself}
 use Rattle.tpol_cert.proofs.Going.{at_first, at_later, at_map, at_product, length-product}
 
@@ -278,3 +280,66 @@ few_first (suc first) rest some few = (mul_bounds (suc first) rest 65536 (omega 
 pub few_second : (first rest : ℕ) → 0 < first → first * rest ≤ 65536 → rest ≤ 65536
 few_second first zero some few = omega arith
 few_second first (suc rest) some few = (mul_bounds first (suc rest) 65536 (omega arith) (omega arith) few).1
+
+-- ---- the choices of no path
+
+common_itself : (xs : List Choice) → common xs xs ≡ length xs
+common_itself [] = refl
+common_itself (x ∷ xs) = ap (λ b. if b then common xs xs + 1 else 0) (same_itself x) ∙ ap (λ n. n + 1) (common_itself xs) ∙ omega arith
+
+common_front : (xs s : List Choice) → common (xs ++ s) xs ≡ length xs
+common_front [] s = by s
+  where
+    by : (t : List Choice) → common t [] ≡ 0
+    by [] = refl
+    by (a ∷ t) = refl
+common_front (x ∷ xs) s = ap (λ b. if b then common (xs ++ s) xs + 1 else 0) (same_itself x) ∙ ap (λ n. n + 1) (common_front xs s) ∙ omega arith
+
+short_excludes : (all : List (List Choice)) (s : List Choice) (i : ℕ) → Short s all → slice_get all i ≡ Some s → ⊥
+short_excludes all s i h e = let less = at_index (λ choices. common s choices < length choices) all i s h e in let same = common_itself s in absurd (omega (arith, less, same))
+
+pub strays_nowhere : (all : List (List Choice)) (s left : List Choice) (number : ℕ) → number ≡ length s - length left + 1 → Strays all s left → IsNoStep all s number
+strays_nowhere all s left number e h = record {
+  none = λ i is. short_excludes all s i h.none is;
+  first = omega (arith, e, h.reached);
+}
+
+others_most : (xs s : List Choice) (others : List (List Choice)) → AllByRecursion (Part xs) others → most (xs ++ s) others ≤ length xs
+others_most xs s [] h = omega arith
+others_most xs s (x ∷ others) h = let here = common_part x xs s h.0 in let later = others_most xs s others h.1 in omega (arith, here.0, later)
+
+leads_most : (all : List (List Choice)) (xs s : List Choice) (i : ℕ) → AllPart all → slice_get all i ≡ Some xs → most (xs ++ s) all ≡ length xs
+leads_most [] xs s i part is = absurd cc
+leads_most (x ∷ all) xs s zero part is =
+    let same : x ≡ xs = cc in
+    let others = others_most xs s all (subst (λ z. AllByRecursion (Part z) all) same part.0) in
+    let here = ap (λ z. common (xs ++ s) z) same ∙ common_front xs s in
+    omega (arith, here, others)
+leads_most (x ∷ all) xs s (suc i) part is =
+    let here = common_part x xs s (part_sym x xs (at_index (Part x) all i xs part.0 is)) in
+    let later = leads_most all xs s i part.1 is in
+    omega (arith, here.0, later)
+
+part_front : (xs s : List Choice) → Part xs (xs ++ s) → ⊥
+part_front [] s h = h
+part_front (x ∷ xs) s (inl e) = false≢true (sym e ∙ same_itself x)
+part_front (x ∷ xs) s (inr h) = part_front xs s h
+
+leads_excludes : (all : List (List Choice)) (xs s : List Choice) (i j : ℕ) → 0 < length s → AllPart all → slice_get all i ≡ Some xs → slice_get all j ≡ Some (xs ++ s) → ⊥
+leads_excludes [] xs s i j some part is at = absurd cc
+leads_excludes (x ∷ all) xs s zero zero some part is at =
+    let same : xs ≡ xs ++ s = cc in
+    absurd (omega (arith, ap length same, length-append xs s, some))
+leads_excludes (x ∷ all) xs s zero (suc j) some part is at =
+    let same : x ≡ xs = cc in
+    part_front xs s (subst (λ z. Part z (xs ++ s)) same (at_index (Part x) all j (xs ++ s) part.0 at))
+leads_excludes (x ∷ all) xs s (suc i) zero some part is at =
+    let same : x ≡ xs ++ s = cc in
+    part_front xs s (part_sym (xs ++ s) xs (subst (λ z. Part z xs) same (at_index (Part x) all i xs part.0 is)))
+leads_excludes (x ∷ all) xs s (suc i) (suc j) some part is at = leads_excludes all xs s i j some part.1 is at
+
+pub leads_too_far : (all : List (List Choice)) (s left : List Choice) (i number : ℕ) → AllPart all → 0 < length left → number ≡ length s - length left + 1 → Leads all s i left → IsNoStep all s number
+leads_too_far all s left i number part some e g = record {
+  none = λ j is. leads_excludes all g.choices left i j some part g.is_there (is ∙ ap (λ x. Some x) g.follows);
+  first = omega (arith, e, ap (λ x. most x all) g.follows, leads_most all g.choices left i part g.is_there, ap length g.follows, length-append g.choices left);
+}

@@ -62,6 +62,9 @@ pub record Checks (policy : Closed) (approvals : List ApprovedDoc) (bytes : List
   pub no_certificate : AreNoCertificate bytes → AnswersUnlessNoMemory result (Err faults.Malformed)
   pub judged : (c : Certificate) → Fits c → bytes ≡ spelled c → Judged policy approvals c result
 
+abbrev certificate : List Choice → List Digest32 → Certificate
+certificate steps digests = record { steps = steps; digests = digests }
+
 module _ (policy : Closed) (approvals : List ApprovedDoc) (bytes : List ℕ) where
   accepted_certifies : (c : Certificate) (position : ℕ) → Fits c → bytes ≡ spelled c → IsAccepted policy approvals c position → Certifies bytes policy approvals position
   accepted_certifies c position fits is a =
@@ -75,9 +78,6 @@ module _ (policy : Closed) (approvals : List ApprovedDoc) (bytes : List ℕ) whe
         fits = subst Fits same fits;
         spells = is ∙ ap spelled same;
       }
-    where
-      abbrev certificate : List Choice → List Digest32 → Certificate
-      certificate steps digests = record { steps = steps; digests = digests }
 
   certified_only : (c : Certificate) (result : Result ℕ CertFault) (position : ℕ) → certificate_in bytes ≡ Some c → Judged policy approvals c result → Certifies bytes policy approvals position → AnswersUnlessNoMemory result (Ok position)
   certified_only c (Ok n) position e judged w =
@@ -99,7 +99,7 @@ module _ (policy : Closed) (approvals : List ApprovedDoc) (bytes : List ℕ) whe
       absurd cc
 
   not_malformed : (c : Certificate) (result : Result ℕ CertFault) → Judged policy approvals c result → IsErrOf result faults.Malformed → ⊥
-  not_malformed c (Ok n) judged h = h
+  not_malformed c (Ok n) judged h = cc
   not_malformed c (Err faults.NoMemory) judged h = cc
   not_malformed c (Err faults.Malformed) judged h = judged
   not_malformed c (Err (faults.NoStep number)) judged h = cc
