@@ -1,11 +1,10 @@
 -- Where choices lead, part by part.
-use Rattle.std.proofs.Common.{◌≡◌, ◌≢◌, ℕ, zero, suc, ◌+◌, ◌-◌, ◌*◌, ◌<◌, ◌≤◌, min, max, Bool, true, false, List, [], ◌∷◌, ◌++◌, map, length, Option, Some, None, nat_eq, refl, sym, ap, ◌∙◌, subst, append_assoc, length-append, inl, inr, arith}
-use Rattle.std.specs.Prelude.{⊤, ◌⊎◌, if◌then◌else◌}
+use Rattle.std.proofs.Common.{◌≡◌, ℕ, zero, suc, ◌+◌, ◌-◌, ◌*◌, ◌<◌, ◌≤◌, max, Bool, true, false, List, [], ◌∷◌, ◌++◌, map, length, Some, nat_eq, refl, sym, ap, ◌∙◌, subst, append_assoc, length-append, inl, inr, arith}
+use Rattle.std.specs.Prelude.{if◌then◌else◌}
 use Rattle.std.specs.List.{AllByRecursion, slice_get}
 use Rattle.std.proofs.Math.Nat.{mul-le-mul_left}
 use Rattle.std.proofs.lemmas.Bool.{false≢true}
 use Rattle.std.proofs.lemmas.Bool.Decides.{nat_tests}
-use Rattle.std.proofs.lemmas.List.{append-nil, length-map}
 use Rattle.std.proofs.lemmas.Option.{slice_get_within}
 use Rattle.tpol_cert.specs.declared.choice.Choice.{Choice}
 use Rattle.tpol_cert.specs.declared.choice.Choice.TheVariants.{Branch, Document, Outside}
@@ -152,8 +151,7 @@ first_strays s [] rests h some = (refl, tt)
 first_strays s (x ∷ firsts) rests h some =
     let later = first_strays s firsts rests h.1 some in
     let here = most_short_some s x rests h.0 some in
-    let whole = most-append s (map (λ y. x ++ y) rests) (each_with firsts rests) in
-    (
+    let whole = most-append s (map (λ y. x ++ y) rests) (each_with firsts rests) in (
       omega (arith, later.0, here, whole),
       each_append (λ choices. common s choices < length choices) (map (λ y. x ++ y) rests) (each_with firsts rests) (short_under s x rests h.0) later.1,
     )
@@ -179,8 +177,7 @@ beside_most xs s (x ∷ others) rests h =
     let here = common_part x xs s h.0 in
     let later = beside_most xs s others rests h.1 in
     let first = most_short (xs ++ s) x rests here.1 in
-    let whole = most-append (xs ++ s) (map (λ y. x ++ y) rests) (each_with others rests) in
-    (
+    let whole = most-append (xs ++ s) (map (λ y. x ++ y) rests) (each_with others rests) in (
       omega (arith, later.0, first, here.0, whole),
       each_append (λ choices. common (xs ++ s) choices < length choices) (map (λ y. x ++ y) rests) (each_with others rests) (short_under (xs ++ s) x rests here.1) later.1,
     )
@@ -192,8 +189,7 @@ second_strays xs s (x ∷ firsts) rests zero part is h some =
     let beside = beside_most xs s firsts rests (subst (λ z. AllByRecursion (Part z) firsts) same part.0) in
     let here = most_under xs s rests some in
     let whole = most-append (xs ++ s) (map (λ y. xs ++ y) rests) (each_with firsts rests) in
-    subst (λ z. (most (xs ++ s) (map (λ y. z ++ y) rests ++ each_with firsts rests) ≡ length xs + most s rests) × Short (xs ++ s) (map (λ y. z ++ y) rests ++ each_with firsts rests)) (sym same)
-    (
+    subst (λ z. (most (xs ++ s) (map (λ y. z ++ y) rests ++ each_with firsts rests) ≡ length xs + most s rests) × Short (xs ++ s) (map (λ y. z ++ y) rests ++ each_with firsts rests)) (sym same) (
       omega (arith, beside.0, here, whole),
       each_append (λ choices. common (xs ++ s) choices < length choices) (map (λ y. xs ++ y) rests) (each_with firsts rests) (under_short xs s rests h) beside.1,
     )
@@ -202,8 +198,7 @@ second_strays xs s (x ∷ firsts) rests (suc i) part is h some =
     let parted = part_sym x xs (at_index (Part x) firsts i xs part.0 is) in
     let here = common_part x xs s parted in
     let first = most_short (xs ++ s) x rests here.1 in
-    let whole = most-append (xs ++ s) (map (λ y. x ++ y) rests) (each_with firsts rests) in
-    (
+    let whole = most-append (xs ++ s) (map (λ y. x ++ y) rests) (each_with firsts rests) in (
       omega (arith, later.0, first, here.0, whole),
       each_append (λ choices. common (xs ++ s) choices < length choices) (map (λ y. x ++ y) rests) (each_with firsts rests) (short_under (xs ++ s) x rests here.1) later.1,
     )
@@ -343,3 +338,14 @@ leads_too_far all s left i number part some e g = record {
   none = λ j is. leads_excludes all g.choices left i j some part g.is_there (is ∙ ap (λ x. Some x) g.follows);
   first = omega (arith, e, ap (λ x. most x all) g.follows, leads_most all g.choices left i part g.is_there, ap length g.follows, length-append g.choices left);
 }
+
+pub part_apart : (all : List (List Choice)) (m n : ℕ) (xs more : List Choice) → AllPart all → slice_get all m ≡ Some xs → slice_get all n ≡ Some (xs ++ more) → m ≡ n
+part_apart [] m n xs more part is at = absurd cc
+part_apart (x ∷ all) zero zero xs more part is at = refl
+part_apart (x ∷ all) zero (suc n) xs more part is at =
+    let same : x ≡ xs = cc in
+    absurd (part_front xs more (subst (λ z. Part z (xs ++ more)) same (at_index (Part x) all n (xs ++ more) part.0 at)))
+part_apart (x ∷ all) (suc m) zero xs more part is at =
+    let same : x ≡ xs ++ more = cc in
+    absurd (part_front xs more (part_sym (xs ++ more) xs (subst (λ z. Part z xs) same (at_index (Part x) all m xs part.0 is))))
+part_apart (x ∷ all) (suc m) (suc n) xs more part is at = ap suc (part_apart all m n xs more part.1 is at)

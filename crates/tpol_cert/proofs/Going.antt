@@ -1,5 +1,5 @@
 -- The choices at an index, part by part.
-use Rattle.std.proofs.Common.{◌≡◌, ◌≢◌, ℕ, zero, suc, ◌+◌, ◌-◌, ◌*◌, ◌/◌, ◌%◌, ◌<◌, ◌≤◌, min, Bool, true, false, List, [], ◌∷◌, ◌++◌, map, length, get_or, take, drop, Option, Some, None, refl, sym, ap, ◌∙◌, subst, append_assoc, length-append, arith}
+use Rattle.std.proofs.Common.{◌≡◌, ◌≢◌, ℕ, zero, suc, ◌+◌, ◌-◌, ◌*◌, ◌/◌, ◌%◌, ◌<◌, ◌≤◌, min, Bool, true, false, List, [], ◌∷◌, ◌++◌, map, length, get_or, drop, Some, refl, sym, ap, ◌∙◌, subst, append_assoc, length-append, arith}
 use Rattle.std.specs.Prelude.{is_some, if◌then◌else◌}
 use Rattle.std.specs.List.{AllByRecursion, slice_get}
 use Rattle.std.proofs.lemmas.Nat.{div-add-mod', div_below}
@@ -16,7 +16,7 @@ use Rattle.tpol_digest.proofs.Extents.{mul_bounds, parts_positive}
 use Rattle.tpol_cert.specs.declared.choice.Choice.{Choice}
 use Rattle.tpol_cert.specs.declared.choice.Choice.TheVariants.{Document, Outside}
 use Rattle.tpol_cert.specs.Going.{GoesOn}
-use Rattle.tpol_cert.specs.Choices.{approval_choices, approved_choices, behind, document_choices, each_with, element_choices, element_list_choices}
+use Rattle.tpol_cert.specs.Choices.{approval_choices, approved_choices, behind, document_choices, each_with, element_list_choices}
 use Rattle.tpol_cert.specs.Spelling.{ChoiceFits}
 use Rattle.tpol_cert.proofs.Beside.{beside-length, ways_beside}
 

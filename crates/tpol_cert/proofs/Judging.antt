@@ -1,6 +1,6 @@
 -- What is told of a certificate, of what was read.
-use Rattle.std.proofs.Common.{◌≡◌, ℕ, zero, suc, ◌+◌, ◌-◌, ◌<◌, ◌≤◌, Bool, true, false, List, [], ◌∷◌, length, Option, Some, None, Result, Ok, Err, refl, sym, ap, ◌∙◌, subst, inl, inr, arith}
-use Rattle.std.specs.Prelude.{⊤, ◌⊎◌, IfOk, IsErrOf, if◌then◌else◌}
+use Rattle.std.proofs.Common.{◌≡◌, ℕ, ◌+◌, ◌-◌, ◌≤◌, Bool, true, false, List, [], ◌∷◌, Some, None, Result, Ok, Err, refl, sym, ap, ◌∙◌, subst, inl, inr, arith}
+use Rattle.std.specs.Prelude.{IfOk, IsErrOf, if◌then◌else◌}
 use Rattle.std.specs.List.{slice_get}
 use Rattle.std.proofs.lemmas.Slice.Eq.{bytes_eq-Decides}
 use Rattle.tpol_base.specs.declared.digest.Digest32.{Digest32}
@@ -17,7 +17,7 @@ use Rattle.tpol_cert.specs.declared.fault.CertFault.{CertFault}
 use Rattle.tpol_cert.specs.declared.fault.CertFault.TheVariants as faults
 use Rattle.tpol_cert.specs.Certificates.{Certifies, certificate_of, digests_along}
 use Rattle.tpol_cert.specs.Choices.{choices_of}
-use Rattle.tpol_cert.specs.Judging.{AnswersUnlessNoMemory, AreNoCertificate, IsAccepted, IsAt, Judged, first_difference}
+use Rattle.tpol_cert.specs.Judging.{AnswersUnlessNoMemory, AreNoCertificate, IsAccepted, Judged, first_difference}
 use Rattle.tpol_cert.specs.Reading.{GivesWhole, certificate_in}
 use Rattle.tpol_cert.specs.Spelling.{Fits, spelled}
 use Rattle.tpol_cert.proofs.Apart.{choices_part, one_index}

@@ -3,6 +3,7 @@ pub mod Choices
 pub mod Following
 pub mod Going
 pub mod Judging
+pub mod Laws
 pub mod Reading
 pub mod Spelling
 pub mod Steps

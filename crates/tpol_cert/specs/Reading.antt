@@ -45,7 +45,7 @@ list_in read bytes = option_and_then (λ n. many_in read n.0 n.1) (number_in w16
 unfoldable pub certificate_in : List ℕ → Option Certificate
 certificate_in bytes =
     if bytes_eq (take 4 bytes) magic then
-      option_and_then (λ steps. option_and_then (λ digests. if length digests.1 == 0 then Some (record { steps = steps.0; digests = digests.0 }) else None) (list_in digest_in steps.1)) (list_in choice_in (drop 4 bytes))
+    option_and_then (λ steps. option_and_then (λ digests. if length digests.1 == 0 then Some (record { steps = steps.0; digests = digests.0 }) else None) (list_in digest_in steps.1)) (list_in choice_in (drop 4 bytes))
     else None
 
 -- ---- what a function answers that reads

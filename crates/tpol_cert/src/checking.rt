@@ -85,11 +85,7 @@ fn judge(
 }
 
 // The position of the path that steps lead to.
-fn position_of(
-    policy: &Closed,
-    approvals: &Approvals,
-    steps: &[Choice],
-) -> Result<u32, CertFault>
+fn position_of(policy: &Closed, approvals: &Approvals, steps: &[Choice]) -> Result<u32, CertFault>
     requires ways { length (choices_of policy.now approvals.now) ≤ 65536 }
     requires few { length steps.now < 2 ^ 16 }
     ensures leads { IfOk result (λ position. (1 ≤ position) × (slice_get (choices_of policy.now approvals.now) (position - 1) ≡ Some steps.now)) }

@@ -19,7 +19,7 @@ pub enum Choice {
 
 impl Choice {
     // Whether this is that choice.
-    pub fn is_same(self, other: Choice) -> bool
+    pub(crate) fn is_same(self, other: Choice) -> bool
         ensures test { result ≡ same_choice self other }
         ensures same { IsTrue result → self ≡ other }
     {

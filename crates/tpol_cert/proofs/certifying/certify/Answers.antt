@@ -1,6 +1,6 @@
-use Rattle.std.proofs.Common.{◌≡◌, ℕ, ◌+◌, ◌-◌, ◌<◌, ◌≤◌, ◌++◌, append_assoc, List, [], length, sym, ap, subst, ◌∙◌, refl, arith}
+use Rattle.std.proofs.Common.{◌≡◌, ℕ, ◌-◌, ◌<◌, ◌≤◌, ◌++◌, append_assoc, List, [], length, ap, subst, ◌∙◌, arith}
 use Rattle.std.specs.List.{slice_get}
-use Rattle.std.specs.Prelude.{Some, All}
+use Rattle.std.specs.Prelude.{Some}
 use Rattle.tpol_tree.specs.declared.path.Path.{Path}
 use Rattle.tpol_tree.specs.declared.path.ApprovedDoc.{ApprovedDoc}
 use Rattle.tpol_tree.specs.declared.closed.Closed.{Closed}
@@ -8,7 +8,7 @@ use Rattle.tpol_digest.proofs.Positions.{found_has}
 use Rattle.tpol_digest.specs.Digest.{zero_digest}
 use Rattle.tpol_digest.specs.Limits.{AreWithinLimits}
 use Rattle.tpol_digest.specs.Paths.{paths_of}
-use Rattle.tpol_cert.specs.Certificates.{Certifies, certificate_of, digests_along}
+use Rattle.tpol_cert.specs.Certificates.{certificate_of, digests_along}
 use Rattle.tpol_cert.specs.Going.{GoesOn}
 use Rattle.tpol_cert.specs.Choices.{choices_of, element_list_choices}
 use Rattle.tpol_cert.specs.Spelling.{magic, spelled, spelled_choices, spelled_digests}

@@ -1,7 +1,7 @@
-use Rattle.std.proofs.Common.{◌≡◌, ℕ, zero, suc, ◌+◌, ◌-◌, ◌<◌, Bool, false, ap, length, refl, subst, sym, ◌∙◌, arith}
+use Rattle.std.proofs.Common.{◌≡◌, ℕ, zero, suc, ◌+◌, ◌-◌, ◌<◌, false, ap, length, subst, sym, ◌∙◌, arith}
 use Rattle.std.specs.Prelude.{◌==◌}
 use Rattle.tpol_cert.specs.Choices.{choices_of, element_list_choices}
-use Rattle.tpol_cert.specs.Following.{IsStray, Leads, Strays}
+use Rattle.tpol_cert.specs.Following.{Leads, Strays}
 use Rattle.tpol_cert.proofs.Apart.{choices_part}
 use Rattle.tpol_cert.proofs.Following.{leads_too_far, strays_nowhere}
 use Rattle.tpol_cert.proofs.checking.position_of.Goals as goal

@@ -10,7 +10,7 @@ use Rattle.tpol_cert.specs.declared.choice.Choice.TheVariants.{Branch, Document,
 use Rattle.tpol_cert.specs.Choices.{approval_choices, approved_choices, behind, branch_choices, document_choices, each_with, element_choices, element_list_choices}
 use Rattle.tpol_cert.specs.Following.{IsStray, Leads, Strays}
 use Rattle.tpol_cert.proofs.Apart.{branches_part, documents_are_apart, documents_from, element_part}
-use Rattle.tpol_cert.proofs.Following.{Untouched, few_first, few_second, fits_two, leads_behind, leads_nowhere, leads_past, leads_through, leads_within, stray_by, strays_behind, strays_empty, strays_first, strays_past, strays_second, strays_untouched, strays_without, untouched_append, untouched_behind, untouched_branches, untouched_documents}
+use Rattle.tpol_cert.proofs.Following.{Untouched, few_first, few_second, fits_two, leads_behind, leads_past, leads_through, leads_within, stray_by, strays_behind, strays_empty, strays_first, strays_past, strays_second, strays_untouched, strays_without, untouched_append, untouched_behind, untouched_branches, untouched_documents}
 use Rattle.tpol_cert.proofs.Going.{choices_from, counted, counted_first, from_entered, from_none, from_passed, length-product, no_documents}
 use Rattle.tpol_cert.proofs.follow.+follow.Goals as goal
 use Rattle.tpol_cert.proofs.follow.+follow.Goals.{follow_approval-then-accepts+in_default+in_ok-number, follow_approval-else-accepts, follow_approval-then-scope-gt0+else-loop-document-test, follow_approval-else-scope-gt0}
@@ -166,8 +166,7 @@ follow_branch-follow_elements-requires t c =
     let same = ap (λ (b : ClosedBranch). b.policy.elements) c.deref.ensures in
     let inner = element_list_choices documents levels c.in-More.branch.value.policy.elements in
     let others = branch_choices documents levels c.in-More.others.value (c.args.position + 1) in
-    let ways = ap (λ e. length (element_list_choices documents levels e)) same in
-    (
+    let ways = ap (λ e. length (element_list_choices documents levels e)) same in (
       omega (arith, rw c.in-More.is at c.decreases, ap weight same),
       omega (arith, ways, length-append (behind (Branch c.args.position) inner) others, length-map inner (λ rest. Branch c.args.position ∷ rest), rw c.in-More.is at c.requires.few),
     )
@@ -211,8 +210,7 @@ follow_branch-follow_branch-requires t c =
     let levels = c.args.scope.now.levels in
     let inner = element_list_choices documents levels c.in-More.branch.value.policy.elements in
     let others = branch_choices documents levels c.in-More.others.value (c.args.position + 1) in
-    let ways = ap (λ n. length (branch_choices documents levels c.deref-in-None.result.now n)) c.in_ok-next-in-None.ensures.next ∙ ap (λ r. length (branch_choices documents levels r (c.args.position + 1))) c.deref-in-None.ensures in
-    (
+    let ways = ap (λ n. length (branch_choices documents levels c.deref-in-None.result.now n)) c.in_ok-next-in-None.ensures.next ∙ ap (λ r. length (branch_choices documents levels r (c.args.position + 1))) c.deref-in-None.ensures in (
       omega (arith, rw c.in-More.is at c.decreases, ap weight_of_branches c.deref-in-None.ensures),
       omega (arith, ways, length-append (behind (Branch c.args.position) inner) others, rw c.in-More.is at c.requires.few),
     )
@@ -307,8 +305,7 @@ follow_approval-follow_elements-requires t c =
     let less = level_less levels (greatest documents) (weight document.closed.elements) (omega (arith, c.if-scope-gt0.true)) lighter in
     let inner = element_list_choices documents (levels - 1) document.closed.elements in
     let later = choices_from documents levels element (number + 1) (index + 1) in
-    let entered = from_entered documents levels element number index document c.loop-document-test.true c.document-item.is level (sym c.accepts.ensures ∙ c.if-accepts.true) in
-    (
+    let entered = from_entered documents levels element number index document c.loop-document-test.true c.document-item.is level (sym c.accepts.ensures ∙ c.if-accepts.true) in (
       omega (arith, less, c.decreases),
       omega (arith, ap length entered, length-append (behind (Document number) inner) later, length-map inner (λ rest. Document number ∷ rest), c.loop-document.invariant.few),
     )

@@ -1,4 +1,4 @@
-use Rattle.std.proofs.Common.{◌≡◌, ◌≤◌, ◌<◌, ap, inl, inr, length, arith}
+use Rattle.std.proofs.Common.{ap, inl, inr, length, arith}
 use Rattle.std.proofs.lemmas.Bool.{cases_lt, true≢false}
 use Rattle.std.proofs.lemmas.List.{length-take}
 use Rattle.tpol_cert.proofs.reading.read_digest.Goals as goal

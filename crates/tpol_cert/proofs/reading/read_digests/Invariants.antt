@@ -1,4 +1,4 @@
-use Rattle.std.proofs.Common.{◌≡◌, ◌-◌, ◌+◌, length}
+use Rattle.std.proofs.Common.{◌≡◌, ◌-◌}
 use Rattle.tpol_cert.specs.Reading.{digest_in, list_in, many_in}
 use Rattle.tpol_cert.proofs.Loop.{with_front}
 use Rattle.tpol_cert.proofs.reading.read_digests.Given as goal

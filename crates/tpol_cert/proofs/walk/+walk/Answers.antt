@@ -1,12 +1,12 @@
-use Rattle.std.proofs.Common.{◌≡◌, ◌≢◌, ◌+◌, ◌-◌, ◌/◌, ◌%◌, ◌<◌, ◌≤◌, ◌^◌, ◌++◌, min, [], ◌∷◌, length, refl, subst, sym, ap, ◌∙◌, length-append, arith}
+use Rattle.std.proofs.Common.{◌≡◌, ◌≢◌, ◌+◌, ◌-◌, ◌/◌, ◌%◌, ◌<◌, ◌≤◌, ◌^◌, ◌++◌, min, [], ◌∷◌, length, refl, subst, sym, ap, ◌∙◌, arith}
 use Rattle.std.proofs.lemmas.List.{length-map}
 use Rattle.std.proofs.lemmas.Result.{on_ok_weaker}
 use Rattle.tpol_tree.specs.declared.closed.ClosedBranch.{ClosedBranch}
 use Rattle.tpol_digest.proofs.Weights.{weight, weight_of_element, weight_of_branches, greatest, weight-lt-greatest, level_less}
 use Rattle.tpol_cert.specs.declared.choice.Choice.TheVariants.{Branch, Document, Outside}
 use Rattle.tpol_cert.specs.Going.{GoesOn}
-use Rattle.tpol_cert.specs.Choices.{approval_choices, behind, branch_choices, element_choices, element_list_choices}
-use Rattle.tpol_cert.proofs.Going.{Parted, choices_from, counted, counted_first, from_entered, from_none, from_passed, goes_behind, goes_first, goes_later, goes_nowhere, goes_outside, goes_through, no_documents, parted}
+use Rattle.tpol_cert.specs.Choices.{behind, branch_choices, element_choices, element_list_choices}
+use Rattle.tpol_cert.proofs.Going.{choices_from, counted, counted_first, from_entered, from_none, from_passed, goes_behind, goes_first, goes_later, goes_outside, goes_through, no_documents, parted}
 use Rattle.tpol_cert.proofs.walk.+walk.Goals as goal
 use Rattle.tpol_cert.proofs.walk.+walk.Goals.{push_approval-then-accepts+else-left-count+in_ok-number, push_approval-else-accepts, push_approval-then-scope-gt0+else-loop-document-test, push_approval-else-scope-gt0}
 
