@@ -22,8 +22,8 @@ use tpol_base::Digest32;
 use tpol_digest::{MAX_LEVELS, digest_after_move, path_at, zero_digest};
 use tpol_tree::{Approvals, Closed, Move};
 
-/// The position, from 1, of the path that these bytes certify. It follows the choices, and so is as fast on a policy
-/// of many ways as on one of two. The path gives the policy's digest, which is its certificate's last.
+/// The position, from 1, of the path that these bytes certify. It follows the choices, counts the ways that they pass
+/// over, and lists none. The path gives the policy's digest, which is its certificate's last.
 ///
 /// `Malformed` comes exactly where the bytes are no certificate. `NoStep` comes where the choices are those of no
 /// path, and has the number, from 1, of the first that names none where the earlier ones lead, that is one too
