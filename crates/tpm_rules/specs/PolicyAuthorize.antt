@@ -4,12 +4,11 @@
 use Rattle.std.specs.Prelude.{ℕ, ◌+◌, Bool, List, ◌++◌, Option, None}
 use Rattle.tpol_base.specs.declared.digest.Digest32.{Digest32}
 use Rattle.tpol_base.specs.declared.name.Name.{Name}
-use Rattle.tpol_base.specs.Digest.{zero_digest}
+use Rattle.tpol_base.specs.Digest.{zero_digest, is_same_digest}
 use Rattle.tpol_base.specs.ResponseCode.{of_parameter, rc_value}
 use Rattle.tpol_hash.specs.Sha256.{sha256_digest}
 use Rattle.tpol_tree.specs.declared.facts.Fact.{Fact}
 use Rattle.tpol_tree.specs.declared.path.Move.TheVariants.{Approve}
-use Rattle.tpm_bindings.specs.Facts.{same_digest}
 use Rattle.tpm_bindings.specs.Merged.{fact_of}
 use Rattle.tpm_bindings.specs.State.{SessionState}
 use Rattle.tpm_rules.specs.Rule.{or_else, unless}
@@ -22,7 +21,7 @@ approval_hash approved policy_ref = sha256_digest (approved.bytes ++ policy_ref)
 -- `right` says whether the ticket is right: its tag, its hierarchy and its digest
 abbrev pub policy_authorize_rule : SessionState → Digest32 → Bool → Option ℕ
 policy_authorize_rule session approved right =
-    or_else (unless (same_digest (policy_digest_of session) approved) (rc_value + of_parameter 1))
+    or_else (unless (is_same_digest (policy_digest_of session) approved) (rc_value + of_parameter 1))
     (unless right (rc_value + of_parameter 4))
 
 -- what the session keeps of it

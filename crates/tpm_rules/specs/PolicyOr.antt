@@ -6,7 +6,7 @@ use Rattle.tpol_base.specs.declared.digest.Digest32.{Digest32}
 use Rattle.tpol_base.specs.ResponseCode.{of_parameter, rc_value}
 use Rattle.tpol_tree.specs.declared.facts.Fact.{Fact}
 use Rattle.tpol_tree.specs.declared.path.Move.TheVariants.{Or}
-use Rattle.tpm_bindings.specs.Facts.{same_digest}
+use Rattle.tpol_base.specs.Digest.{is_same_digest}
 use Rattle.tpm_bindings.specs.Merged.{fact_of}
 use Rattle.tpm_bindings.specs.State.{SessionState}
 use Rattle.tpm_rules.specs.Rule.{unless}
@@ -14,7 +14,7 @@ use Rattle.tpm_rules.specs.Session.{policy_digest_of}
 
 abbrev pub policy_or_rule : SessionState → List Digest32 → Option ℕ
 policy_or_rule session digests =
-    unless (list_any (same_digest (policy_digest_of session)) digests) (rc_value + of_parameter 1)
+    unless (list_any (is_same_digest (policy_digest_of session)) digests) (rc_value + of_parameter 1)
 
 -- what the session keeps of it
 abbrev pub policy_or_fact : ℕ → List Digest32 → Fact

@@ -7,7 +7,7 @@ use Rattle.tpol_base.specs.ResponseCode.{of_parameter, rc_pcr_changed, rc_value}
 use Rattle.tpol_tree.specs.declared.closed.Assertion.TheVariants.{Pcr}
 use Rattle.tpol_tree.specs.declared.facts.Fact.{Fact}
 use Rattle.tpol_tree.specs.declared.path.Move.TheVariants.{Assert}
-use Rattle.tpm_bindings.specs.Facts.{same_digest}
+use Rattle.tpol_base.specs.Digest.{is_same_digest}
 use Rattle.tpm_bindings.specs.Merged.{fact_of}
 use Rattle.tpm_bindings.specs.State.{SessionState}
 use Rattle.tpm_rules.specs.Rule.{or_else, unless}
@@ -16,7 +16,7 @@ use Rattle.tpm_rules.specs.Session.{is_counter_now}
 -- whether a digest is this one, or is left out
 abbrev pub is_digest_or_none : Digest32 → Option Digest32 → Bool
 is_digest_or_none digest None = true
-is_digest_or_none digest (Some given) = same_digest given digest
+is_digest_or_none digest (Some given) = is_same_digest given digest
 
 -- `counter` is the PCR counter, `selected` the digest of the selected PCRs as they are now
 abbrev pub policy_pcr_rule : SessionState → ℕ → Digest32 → Option Digest32 → Option ℕ

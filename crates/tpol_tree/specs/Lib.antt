@@ -3,3 +3,4 @@ pub mod Closed
 pub mod ClosedErased
 pub mod Elements
 pub mod Erased
+pub mod Facts
