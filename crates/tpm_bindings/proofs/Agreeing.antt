@@ -16,7 +16,8 @@ use Rattle.tpol_tree.specs.declared.path.Move.{Move}
 use Rattle.tpm_bindings.specs.Agreement.{Agree}
 use Rattle.tpm_bindings.specs.declared.disagreement.Disagreement.{Disagreement}
 use Rattle.tpm_bindings.specs.declared.disagreement.Disagreement.TheVariants.{Code, Locality, CpHash, NameHash, Kinds, NvWritten}
-use Rattle.tpm_bindings.specs.Facts.{codes_of, cp_hashes_of, localities_of, name_hashes_of, parent_hashes_of, written_of, same_digest, in_assertion, code_in, locality_in, cp_hash_in, name_hash_in, parent_hash_in, written_in}
+use Rattle.tpm_bindings.specs.Facts.{codes_of, cp_hashes_of, localities_of, name_hashes_of, parent_hashes_of, written_of, in_assertion, code_in, locality_in, cp_hash_in, name_hash_in, parent_hash_in, written_in}
+use Rattle.tpol_base.specs.Digest.{is_same_digest}
 use Rattle.tpm_bindings.specs.Held.{all_are, any_of, are_one, each_of, listed}
 use Rattle.tpm_bindings.proofs.Merging.{each_of-push}
 
@@ -27,8 +28,8 @@ use Rattle.tpm_bindings.proofs.Merging.{each_of-push}
 pub record AreOne (codes localities : List ℕ) (cp_hashes name_hashes parents : List Digest32) (written : List Bool) : Type 0 where
   pub codes-one : are_one nat_eq codes ≡ true
   pub together : (fold bit_and 0xff localities == 0) ≡ false
-  pub cp_hashes-one : are_one same_digest cp_hashes ≡ true
-  pub name_hashes-one : are_one same_digest name_hashes ≡ true
+  pub cp_hashes-one : are_one is_same_digest cp_hashes ≡ true
+  pub name_hashes-one : are_one is_same_digest name_hashes ≡ true
   pub one_kind : (any_of cp_hashes && (any_of name_hashes || any_of parents)) ≡ false
   pub written-one : are_one beq written ≡ true
 
@@ -102,7 +103,7 @@ are_one-push same swap (first ∷ rest) x one all =
 pub nat_eq-swap : (a b : ℕ) → nat_eq a b ≡ true → nat_eq b a ≡ true
 nat_eq-swap a b e = (Decides-eqb b a).1 (sym ((Decides-eqb a b).0 e))
 
-pub digest-swap : (a b : Digest32) → same_digest a b ≡ true → same_digest b a ≡ true
+pub digest-swap : (a b : Digest32) → is_same_digest a b ≡ true → is_same_digest b a ≡ true
 digest-swap a b e = (bytes_eq-Decides b.bytes a.bytes).1 (sym ((bytes_eq-Decides a.bytes b.bytes).0 e))
 
 pub beq-swap : (a b : Bool) → beq a b ≡ true → beq b a ≡ true
@@ -158,8 +159,8 @@ are_one-first : (codes more_codes localities more_localities : List ℕ) (cp_has
 are_one-first codes more_codes localities more_localities cp_hashes more_cp_hashes name_hashes more_name_hashes parents more_parents written more_written keep = record {
   codes-one = one-first nat_eq codes more_codes keep.codes-one;
   together = together-first localities more_localities keep.together;
-  cp_hashes-one = one-first same_digest cp_hashes more_cp_hashes keep.cp_hashes-one;
-  name_hashes-one = one-first same_digest name_hashes more_name_hashes keep.name_hashes-one;
+  cp_hashes-one = one-first is_same_digest cp_hashes more_cp_hashes keep.cp_hashes-one;
+  name_hashes-one = one-first is_same_digest name_hashes more_name_hashes keep.name_hashes-one;
   one_kind = kinds-first (any_of cp_hashes) (any_of name_hashes) (any_of parents) _ _ _
       (any-first cp_hashes more_cp_hashes) (any-first name_hashes more_name_hashes) (any-first parents more_parents) keep.one_kind;
   written-one = one-first beq written more_written keep.written-one;
@@ -212,11 +213,11 @@ one_told told (x ∷ xs) one = all_told xs one
         both_true (nat_eq (told x) (told y)) (list_all (nat_eq (told x)) (map told ys)) (same y (and_left (nat_eq x y) (list_all (nat_eq x) ys) all))
         (all_told ys (and_right (nat_eq x y) (list_all (nat_eq x) ys) all))
 
-same_all : (d : Digest32) (xs : List Digest32) → list_all (same_digest d) xs ≡ list_all (bytes_eq d.bytes) (map bytes_of xs)
+same_all : (d : Digest32) (xs : List Digest32) → list_all (is_same_digest d) xs ≡ list_all (bytes_eq d.bytes) (map bytes_of xs)
 same_all d [] = refl
 same_all d (x ∷ xs) = ap (λ b. bytes_eq d.bytes x.bytes && b) (same_all d xs)
 
-same_one : (xs : List Digest32) → are_one same_digest xs ≡ are_one bytes_eq (map bytes_of xs)
+same_one : (xs : List Digest32) → are_one is_same_digest xs ≡ are_one bytes_eq (map bytes_of xs)
 same_one [] = refl
 same_one (x ∷ xs) = same_all x xs
 

@@ -15,7 +15,8 @@ use Rattle.tpol_tree.specs.declared.facts.Fact.{Fact}
 use Rattle.tpm_bindings.specs.declared.last_auth.LastAuth.{LastAuth}
 use Rattle.tpm_bindings.specs.declared.last_auth.LastAuth.TheVariants.{Neither}
 use Rattle.tpm_bindings.specs.Held.{each_of, listed, held}
-use Rattle.tpm_bindings.specs.Facts.{moves_of, codes_of, common_localities, localities_of, cp_hashes_of, limits_of, name_hashes_of, parent_hashes_of, written_of, deadlines_of, auths_of, asks_presence, last_auth, has_pcr, same_digest, in_assertion, is_before, code_in, locality_in, cp_hash_in, name_hash_in, parent_hash_in, written_in, auth_in, is_pcr, is_presence}
+use Rattle.tpm_bindings.specs.Facts.{moves_of, codes_of, common_localities, localities_of, cp_hashes_of, limits_of, name_hashes_of, parent_hashes_of, written_of, deadlines_of, auths_of, asks_presence, last_auth, has_pcr, in_assertion, is_before, code_in, locality_in, cp_hash_in, name_hash_in, parent_hash_in, written_in, auth_in, is_pcr, is_presence}
+use Rattle.tpol_base.specs.Digest.{is_same_digest}
 use Rattle.tpm_bindings.specs.Merged.{fact_of, least, merged}
 
 pub each_of-push : {A B : Type 0} (f : A → Option B) (xs : List A) (x : A) → each_of f (xs ++ x ∷ []) ≡ each_of f xs ++ listed (f x)
@@ -38,10 +39,10 @@ any_move-push f facts fact = ap (list_any f) (moves_of-push facts fact) ∙ (lis
 pub merged-push : (facts : List Fact) (fact : Fact) → merged (facts ++ fact ∷ []) ≡ record {
   codes = held nat_eq (codes_of (moves_of facts) ++ listed (in_assertion code_in fact.act));
   localities = fold bit_and (common_localities (moves_of facts)) (listed (in_assertion locality_in fact.act));
-  cp_hash = held same_digest (cp_hashes_of (moves_of facts) ++ listed (in_assertion cp_hash_in fact.act));
-  limit = held same_digest (limits_of facts ++ listed fact.cp_hash);
-  name_hash = held same_digest (name_hashes_of (moves_of facts) ++ listed (in_assertion name_hash_in fact.act));
-  parent_hash = held same_digest (parent_hashes_of (moves_of facts) ++ listed (in_assertion parent_hash_in fact.act));
+  cp_hash = held is_same_digest (cp_hashes_of (moves_of facts) ++ listed (in_assertion cp_hash_in fact.act));
+  limit = held is_same_digest (limits_of facts ++ listed fact.cp_hash);
+  name_hash = held is_same_digest (name_hashes_of (moves_of facts) ++ listed (in_assertion name_hash_in fact.act));
+  parent_hash = held is_same_digest (parent_hashes_of (moves_of facts) ++ listed (in_assertion parent_hash_in fact.act));
   written = held beq (written_of (moves_of facts) ++ listed (in_assertion written_in fact.act));
   deadline = least (deadlines_of facts ++ listed fact.deadline);
   presence = asks_presence facts || is_presence fact.act;
@@ -99,10 +100,10 @@ merged-event facts event other act cp_hash deadline =
 nothing_more : (facts : List Fact) → record {
   codes = held nat_eq (codes_of (moves_of facts) ++ []);
   localities = common_localities (moves_of facts);
-  cp_hash = held same_digest (cp_hashes_of (moves_of facts) ++ []);
-  limit = held same_digest (limits_of facts ++ []);
-  name_hash = held same_digest (name_hashes_of (moves_of facts) ++ []);
-  parent_hash = held same_digest (parent_hashes_of (moves_of facts) ++ []);
+  cp_hash = held is_same_digest (cp_hashes_of (moves_of facts) ++ []);
+  limit = held is_same_digest (limits_of facts ++ []);
+  name_hash = held is_same_digest (name_hashes_of (moves_of facts) ++ []);
+  parent_hash = held is_same_digest (parent_hashes_of (moves_of facts) ++ []);
   written = held beq (written_of (moves_of facts) ++ []);
   deadline = least (deadlines_of facts ++ []);
   presence = asks_presence facts || false;

@@ -4,7 +4,8 @@ use Rattle.std.specs.Bool.{beq}
 use Rattle.tpol_tree.specs.declared.path.Move.{Move}
 use Rattle.tpm_bindings.specs.declared.disagreement.Disagreement.{Disagreement}
 use Rattle.tpm_bindings.specs.declared.disagreement.Disagreement.TheVariants.{Code, Locality, CpHash, NameHash, Kinds, NvWritten}
-use Rattle.tpm_bindings.specs.Facts.{codes_of, common_localities, cp_hashes_of, name_hashes_of, parent_hashes_of, written_of, same_digest}
+use Rattle.tpm_bindings.specs.Facts.{codes_of, common_localities, cp_hashes_of, name_hashes_of, parent_hashes_of, written_of}
+use Rattle.tpol_base.specs.Digest.{is_same_digest}
 use Rattle.tpm_bindings.specs.Held.{any_of, are_one}
 
 -- the first rule that the moves break: all codes are one, a locality is allowed by all, all digests of
@@ -14,8 +15,8 @@ abbrev pub disagreement : List Move → Option Disagreement
 disagreement moves =
     if not (are_one nat_eq (codes_of moves)) then Some Code else
     (if common_localities moves == 0 then Some Locality else
-    (if not (are_one same_digest (cp_hashes_of moves)) then Some CpHash else
-    (if not (are_one same_digest (name_hashes_of moves)) then Some NameHash else
+    (if not (are_one is_same_digest (cp_hashes_of moves)) then Some CpHash else
+    (if not (are_one is_same_digest (name_hashes_of moves)) then Some NameHash else
     (if any_of (cp_hashes_of moves) && (any_of (name_hashes_of moves) || any_of (parent_hashes_of moves)) then Some Kinds else
     (if not (are_one beq (written_of moves)) then Some NvWritten else None)))))
 

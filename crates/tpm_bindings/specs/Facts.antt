@@ -1,12 +1,12 @@
 -- What the facts of a policy session bind a later use to, each as one list or one word over the facts
 -- (TPM 2.0 Part 1, "Policy Session"; Part 3, the policy commands). No word looks at a fact's event.
-use Rattle.std.specs.Prelude.{ℕ, ◌/◌, ◌%◌, ◌^◌, ◌==◌, ◌&&◌, ◌||◌, Bool, true, false, List, ◌++◌, fold, map, bit_and, nat_eq, nat_le, nat_lt, Option, Some, None}
+use Rattle.std.specs.Prelude.{ℕ, ◌/◌, ◌%◌, ◌^◌, ◌==◌, ◌&&◌, ◌||◌, Bool, true, false, List, ◌++◌, fold, bit_and, nat_eq, nat_le, nat_lt, Option, Some, None}
 use Rattle.std.specs.List.{list_all, list_any}
 use Rattle.std.specs.Bool.{beq}
-use Rattle.std.specs.Str.{bytes_eq}
 use Rattle.tpol_base.specs.declared.command_code.CommandCode.TheVariants.{Duplicate}
 use Rattle.tpol_base.specs.CommandCode.{number_of_code}
 use Rattle.tpol_base.specs.declared.digest.Digest32.{Digest32}
+use Rattle.tpol_base.specs.Digest.{is_same_digest}
 use Rattle.tpol_base.specs.declared.name.Name.{Name}
 use Rattle.tpol_base.specs.Name.{name_bytes}
 use Rattle.tpol_hash.specs.Sha256.{sha256_digest}
@@ -15,17 +15,10 @@ use Rattle.tpol_tree.specs.declared.closed.Assertion.TheVariants.{Pcr, CommandCo
 use Rattle.tpol_tree.specs.declared.path.Move.{Move}
 use Rattle.tpol_tree.specs.declared.path.Move.TheVariants.{Assert, Or, Approve, ApproveNv}
 use Rattle.tpol_tree.specs.declared.facts.Fact.{Fact}
+pub use Rattle.tpol_tree.specs.Facts.{moves_of}
 use Rattle.tpm_bindings.specs.Held.{all_are, any_of, each_of}
 use Rattle.tpm_bindings.specs.declared.last_auth.LastAuth.{LastAuth}
 use Rattle.tpm_bindings.specs.declared.last_auth.LastAuth.TheVariants.{Neither, AuthValue as LastAuthValue, Password as LastPassword}
-
--- the moves of facts
-abbrev pub moves_of : List Fact → List Move
-moves_of facts = map (λ fact. fact.act) facts
-
--- whether two digests are the same
-abbrev pub same_digest : Digest32 → Digest32 → Bool
-same_digest a b = bytes_eq a.bytes b.bytes
 
 -- what f gives of a move that is an assertion
 abbrev pub in_assertion : {A : Type 0} → (Assertion → Option A) → Move → Option A
@@ -138,7 +131,7 @@ sets_cp_hash facts = any_of (cp_hashes_of (moves_of facts)) || any_of (limits_of
 -- whether each cpHash that is set is this one
 abbrev pub every_cp_hash : List Fact → Digest32 → Bool
 every_cp_hash facts digest =
-    all_are same_digest digest (cp_hashes_of (moves_of facts)) && all_are same_digest digest (limits_of facts)
+    all_are is_same_digest digest (cp_hashes_of (moves_of facts)) && all_are is_same_digest digest (limits_of facts)
 
 -- whether a nameHash is set, by PolicyNameHash or by PolicyDuplicationSelect
 abbrev pub sets_name_hash : List Fact → Bool
@@ -147,7 +140,7 @@ sets_name_hash facts = any_of (name_hashes_of (moves_of facts)) || any_of (paren
 -- whether each nameHash that is set is this one
 abbrev pub every_name_hash : List Fact → Digest32 → Bool
 every_name_hash facts digest =
-    all_are same_digest digest (name_hashes_of (moves_of facts)) && all_are same_digest digest (parent_hashes_of (moves_of facts))
+    all_are is_same_digest digest (name_hashes_of (moves_of facts)) && all_are is_same_digest digest (parent_hashes_of (moves_of facts))
 
 -- whether an index's state is asked for
 abbrev pub sets_written : List Fact → Bool

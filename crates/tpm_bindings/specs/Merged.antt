@@ -5,7 +5,8 @@ use Rattle.std.specs.Bool.{beq}
 use Rattle.tpol_tree.specs.declared.path.Move.{Move}
 use Rattle.tpol_tree.specs.declared.facts.Fact.{Fact}
 use Rattle.tpm_bindings.specs.declared.bindings.Bindings.{Bindings}
-use Rattle.tpm_bindings.specs.Facts.{moves_of, same_digest, codes_of, common_localities, cp_hashes_of, limits_of, name_hashes_of, parent_hashes_of, written_of, deadlines_of, asks_presence, last_auth, has_pcr}
+use Rattle.tpm_bindings.specs.Facts.{moves_of, codes_of, common_localities, cp_hashes_of, limits_of, name_hashes_of, parent_hashes_of, written_of, deadlines_of, asks_presence, last_auth, has_pcr}
+use Rattle.tpol_base.specs.Digest.{is_same_digest}
 use Rattle.tpm_bindings.specs.Held.{held}
 
 -- the least of the numbers
@@ -19,10 +20,10 @@ merged facts =
     record {
       codes = held nat_eq (codes_of (moves_of facts));
       localities = common_localities (moves_of facts);
-      cp_hash = held same_digest (cp_hashes_of (moves_of facts));
-      limit = held same_digest (limits_of facts);
-      name_hash = held same_digest (name_hashes_of (moves_of facts));
-      parent_hash = held same_digest (parent_hashes_of (moves_of facts));
+      cp_hash = held is_same_digest (cp_hashes_of (moves_of facts));
+      limit = held is_same_digest (limits_of facts);
+      name_hash = held is_same_digest (name_hashes_of (moves_of facts));
+      parent_hash = held is_same_digest (parent_hashes_of (moves_of facts));
       written = held beq (written_of (moves_of facts));
       deadline = least (deadlines_of facts);
       presence = asks_presence facts;

@@ -1,6 +1,6 @@
 ghost use Rattle.std.specs.Prelude.{◌≡◌, ℕ, List, [], ◌∷◌, ◌++◌, bit_and, fold, ◌&&◌, None};
 ghost use Rattle.tpm_bindings.specs.Facts as spec;
-ghost use Rattle.tpm_bindings.specs.Facts.{same_digest};
+ghost use Rattle.tpol_base.specs.Digest.{is_same_digest};
 ghost use Rattle.tpm_bindings.specs.Merged.{merged, fact_of, least};
 ghost use Rattle.tpm_bindings.specs.Held.{all_are, held, listed};
 ghost use Rattle.tpm_bindings.specs.Agreement.{disagreement};
@@ -251,8 +251,8 @@ fn later(before: LastAuth, auth: Option<LastAuth>) -> LastAuth
 
 // Whether each of the digests that two bindings hold is this one.
 fn both_are(first: Held<Digest32>, second: Held<Digest32>, digest: Digest32) -> bool
-    ensures { (xs ys : List OneDigest) → first ≡ held same_digest xs → second ≡ held same_digest ys
-        → result ≡ (all_are same_digest digest xs && all_are same_digest digest ys) }
+    ensures { (xs ys : List OneDigest) → first ≡ held is_same_digest xs → second ≡ held is_same_digest ys
+        → result ≡ (all_are is_same_digest digest xs && all_are is_same_digest digest ys) }
 {
     first.all_are(digest) && second.all_are(digest)
 }

@@ -11,7 +11,7 @@ use Rattle.tpol_base.specs.ResponseCode.{of_parameter, rc_handle, rc_integrity}
 use Rattle.tpol_name.specs.declared.setup.Setup.{Setup}
 use Rattle.tpol_tree.specs.declared.facts.Fact.{Fact}
 use Rattle.tpol_wire.specs.declared.command.Command.TheVariants as commands
-use Rattle.tpm_bindings.specs.Facts.{same_digest}
+use Rattle.tpol_base.specs.Digest.{is_same_digest}
 use Rattle.tpm_bindings.specs.State.{SessionState}
 use Rattle.tpm_context.specs.Saved.{has_sequence}
 use Rattle.tpm_rules.specs.Rule.{or_else, unless}
@@ -60,7 +60,7 @@ load-finds setup past event session answered loads =
     let rule : session_rule (view_of setup past) (commands.ContextLoad load.sequence session load.digest) ≡ None = ap (own_rule (view_of setup past)) (sym load.is) ∙ own in
     let found : has_sequence (content_at (view_of setup past).saved session) load.sequence ≡ true =
     unless-none (has_sequence (content_at (view_of setup past).saved session) load.sequence) (rc_handle + of_parameter 1)
-    (or_else-none (unless (same_digest load.digest (context_mac (proof_of (view_of setup past).world.seed) load.sequence session)) (rc_integrity + of_parameter 1))
+    (or_else-none (unless (is_same_digest load.digest (context_mac (proof_of (view_of setup past).world.seed) load.sequence session)) (rc_integrity + of_parameter 1))
     (unless (has_sequence (content_at (view_of setup past).saved session) load.sequence) (rc_handle + of_parameter 1)) rule).1 in
     let parts = saved-slot-is (is_slot_handle session) (is_held past session) (sequence_of past session) (session_state setup past session) load.sequence
     (ap (λ content. has_sequence content load.sequence) (sym (content-table (saved_at setup past) session)) ∙ found) in

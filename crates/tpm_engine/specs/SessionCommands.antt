@@ -3,13 +3,12 @@
 use Rattle.std.specs.Prelude.{ℕ, ◌+◌, ◌||◌, Bool, true, false, Option, None, is_some}
 use Rattle.std.specs.Option.{option_map_or}
 use Rattle.tpol_base.specs.declared.digest.Digest32.{Digest32}
-use Rattle.tpol_base.specs.Digest.{zero_digest}
+use Rattle.tpol_base.specs.Digest.{zero_digest, is_same_digest}
 use Rattle.tpol_base.specs.ResponseCode.{of_parameter, rc_handle, rc_integrity, rc_reference_h0, rc_session_memory}
 use Rattle.tpol_wire.specs.declared.command.Command.{Command}
 use Rattle.tpol_wire.specs.declared.command.Command.TheVariants as commands
 use Rattle.tpol_wire.specs.declared.reply.Reply.{Reply}
 use Rattle.tpol_wire.specs.declared.reply.Reply.TheVariants as replies
-use Rattle.tpm_bindings.specs.Facts.{same_digest}
 use Rattle.tpm_context.specs.Saved.{has_sequence, is_saved}
 use Rattle.tpm_rules.specs.Rule.{or_else, unless}
 use Rattle.tpm_rules.specs.Session.{policy_digest_of}
@@ -46,7 +45,7 @@ flush_rule tables session = unless (is_live tables.sessions session || is_saved 
 -- that the context to be loaded is one of this machine, and that its session is saved under its sequence number
 abbrev pub load_rule : TableState → ℕ → ℕ → Digest32 → Option ℕ
 load_rule tables sequence session digest =
-    or_else (unless (same_digest digest (context_mac (proof_of tables.world.seed) sequence session)) (rc_integrity + of_parameter 1))
+    or_else (unless (is_same_digest digest (context_mac (proof_of tables.world.seed) sequence session)) (rc_integrity + of_parameter 1))
     (unless (has_sequence (content_at tables.saved session) sequence) (rc_handle + of_parameter 1))
 
 -- the first rule that one of them breaks

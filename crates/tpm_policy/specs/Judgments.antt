@@ -4,17 +4,16 @@ use Rattle.std.specs.Str.{bytes_eq}
 use Rattle.tpol_base.specs.declared.digest.Digest32.{Digest32}
 use Rattle.tpol_base.specs.declared.name.Name.{Name}
 use Rattle.tpol_base.specs.Constants.{st_auth_secret, st_auth_signed}
-use Rattle.tpol_base.specs.Digest.{optional_bytes}
+use Rattle.tpol_base.specs.Digest.{optional_bytes, is_same_digest}
 use Rattle.tpol_base.specs.Handle.{rh_owner}
 use Rattle.tpm_auth.specs.Signatures.{signature_of, signed_hash}
 use Rattle.tpm_auth.specs.Tickets.{auth_ticket, is_verified_ticket}
-use Rattle.tpm_bindings.specs.Facts.{same_digest}
 use Rattle.tpm_rules.specs.PolicyAuthorize.{approval_hash}
 
 -- whether a signature for PolicySigned is the key's, over the nonce, the expiration, cpHashA and policyRef
 abbrev pub is_signature : List ℕ → List ℕ → ℤ → Option Digest32 → List ℕ → Digest32 → Bool
 is_signature secret nonce expiration cp_hash policy_ref signature =
-    same_digest signature (signature_of secret (signed_hash nonce expiration (optional_bytes cp_hash) policy_ref))
+    is_same_digest signature (signature_of secret (signed_hash nonce expiration (optional_bytes cp_hash) policy_ref))
 
 -- whether a ticket for PolicyAuthorize is this machine's, for the approval and the key
 abbrev pub is_approval_ticket : Digest32 → Digest32 → List ℕ → Name → List ℕ → Bool
