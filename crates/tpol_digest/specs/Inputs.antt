@@ -18,7 +18,7 @@ use Rattle.tpol_tree.specs.declared.path.ApprovedDoc.{ApprovedDoc}
 use Rattle.tpol_tree.specs.declared.path.Move.{Move}
 use Rattle.tpol_digest.specs.Update.{Update, joined, update_of, update_of_assertion, update_of_or, update_of_approve, update_of_approve_nv}
 use Rattle.tpol_digest.specs.Digest.{zero_digest, first_string, digest_after, digest_at_element, branch_digests}
-use Rattle.tpol_digest.specs.Sound.{moves_of_facts}
+use Rattle.tpol_tree.specs.Facts.{moves_of}
 
 -- the string of the second hash, if there is one
 abbrev pub second_string : Update → Digest32 → Option (List ℕ) → List (List ℕ)
@@ -36,7 +36,7 @@ inputs_of_moves d (act ∷ rest) = strings_of (update_of act) d ++ inputs_of_mov
 
 -- the strings of facts; a fact has no values of PCRs
 abbrev pub inputs_of_facts : List Fact → List (List ℕ)
-inputs_of_facts facts = inputs_of_moves zero_digest (moves_of_facts facts)
+inputs_of_facts facts = inputs_of_moves zero_digest (moves_of facts)
 
 -- the PCR values joined, which a policy hashes for a PCR assertion
 abbrev pub pcr_values : Assertion → List (List ℕ)

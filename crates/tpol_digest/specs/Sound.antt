@@ -1,9 +1,8 @@
 -- Moves that a session can have made: each OR and each approval met the digest before it.
-use Rattle.std.specs.Prelude.{◌≡◌, List, [], ◌∷◌, ◌⊎◌, ⊤, map}
+use Rattle.std.specs.Prelude.{◌≡◌, List, [], ◌∷◌, ◌⊎◌, ⊤}
 use Rattle.tpol_base.specs.declared.digest.Digest32.{Digest32}
 use Rattle.tpol_tree.specs.declared.path.Move.{Move}
 use Rattle.tpol_tree.specs.declared.path.Move.TheVariants.{Assert, Or, Approve, ApproveNv}
-use Rattle.tpol_tree.specs.declared.facts.Fact.{Fact}
 use Rattle.tpol_digest.specs.Digest.{zero_digest, digest_after}
 
 -- the digest is among these
@@ -26,7 +25,3 @@ IsSoundFrom d (act ∷ rest) = Meets d act × IsSoundFrom (digest_after act d) r
 -- the same from 32 zero bytes
 abbrev pub IsSound : List Move → Type 0
 IsSound moves = IsSoundFrom zero_digest moves
-
--- the moves of facts
-abbrev pub moves_of_facts : List Fact → List Move
-moves_of_facts facts = map (λ fact. fact.act) facts

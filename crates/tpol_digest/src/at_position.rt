@@ -78,8 +78,9 @@ fn empty_path(alloc: Global) -> Path
     }
 }
 
-// Whether an OR stands among elements, those of approved documents aside.
-fn has_or(elements: &ClosedElements) -> bool
+/// Whether an OR stands among elements, those of approved documents aside. Where none does, the ways through
+/// them are the same from any digest.
+pub fn has_or(elements: &ClosedElements) -> bool
     ensures { result ≡ at.has_or elements.now }
 {
     match elements {
@@ -213,7 +214,7 @@ fn push_element(
         ClosedElement::Or(branches) => {
             let mut digests = Digests::new(walk.alloc);
             push_branch(walk, path, &mut digests, branches, before, 1, index)?;
-            let after = or_digest(&digests);
+            let after = or_digest(digests.as_slice());
             path.moves.push(Move::Or(digests))?;
             Ok(after)
         }

@@ -4,7 +4,7 @@ ghost use Rattle.std.specs.Prelude.{◌≡◌, ◌++◌, IfOk, OnOk};
 ghost use Rattle.std.specs.Option.{option_map, option_to_list};
 ghost use Rattle.tpol_digest.specs.Digest as digest;
 ghost use Rattle.tpol_digest.specs.Inputs as spec;
-ghost use Rattle.tpol_digest.specs.Sound.{moves_of_facts};
+ghost use Rattle.tpol_tree.specs.Facts.{moves_of};
 ghost use Rattle.tpol_digest.specs.Update.{joined, update_of};
 ghost use Rattle.tpol_digest.specs.UpdateBytes.{update_value};
 
@@ -241,7 +241,7 @@ fn push_facts(
     facts: &[Fact],
     before: Digest32,
 ) -> Result<(), NoMemory>
-    ensures { OnOk result (inputs.new ≡ inputs.old ++ spec.inputs_of_moves before (moves_of_facts facts.now)) }
+    ensures { OnOk result (inputs.new ≡ inputs.old ++ spec.inputs_of_moves before (moves_of facts.now)) }
 {
     match facts.split_first() {
         None => Ok(()),

@@ -23,15 +23,16 @@ mod update_bytes;
 
 pub use approval::{accepts, is_by_index, signature_of_key};
 pub use assertion::extend;
-pub use at_position::path_at;
+pub use at_position::{has_or, path_at};
 pub use inputs::{inputs_of, inputs_of_facts};
 pub use laws::{boxes_are_ignored, paths_have_bounds, paths_have_pcr_digests};
-pub use limits::{MAX_LEVELS, PathLimit, check_paths, count_paths, count_ways};
+pub use limits::{MAX_LEVELS, PathLimit, check_paths, count_element_ways, count_paths, count_ways};
 pub use moves::{digest_after_move, run_facts, run_path};
 pub use policy::{
     approve_digest, approve_nv_digest, digest_after_element, digest_after_elements, digest_of,
     or_digest, push_branch_digests, zero_digest,
 };
+pub use update::hash_twice;
 pub use update_bytes::{
     UpdateBytes, update_of_approve, update_of_approve_nv, update_of_assertion, update_of_move,
     update_of_or,

@@ -2,12 +2,12 @@ ghost use Rattle.tpol_base.specs.declared.digest.Digest32.{Digest32 as OneDigest
 ghost use Rattle.std.specs.Prelude.{◌≡◌, ◌<◌, ◌≤◌, ◌↔◌, Any, IfOk, IsErrOf, length, min};
 ghost use Rattle.tpol_digest.specs.Limits.{AreWithinLimits};
 ghost use Rattle.tpol_digest.specs.Paths.{paths_of};
-ghost use Rattle.tpol_digest.specs.Positions.{element_list_ways};
+ghost use Rattle.tpol_digest.specs.Positions.{element_list_ways, element_ways};
 
-use crate::counting::extent_of_elements;
+use crate::counting::{extent_of_element, extent_of_elements};
 use crate::extent::{MAX_MOVES, MAX_PATHS};
 use thiserror::Error;
-use tpol_tree::{Approvals, ApprovedDoc, Closed, ClosedElements};
+use tpol_tree::{Approvals, ApprovedDoc, Closed, ClosedElement, ClosedElements};
 
 /// How many approvals may lie inside one another.
 pub const MAX_LEVELS: u8 = 4;
@@ -59,4 +59,12 @@ pub fn count_ways(approvals: &[ApprovedDoc], levels: u8, elements: &ClosedElemen
     ensures ways { (before : OneDigest) → result ≡ min (length (element_list_ways approvals.now levels elements.now before)) 65537 }
 {
     extent_of_elements(approvals, levels, elements).paths
+}
+
+/// The number of ways through one element, or 65,537 where there are more than 65,536. The number of ways through
+/// elements is that of the first times that of the rest. It takes no memory.
+pub fn count_element_ways(approvals: &[ApprovedDoc], levels: u8, element: &ClosedElement) -> u64
+    ensures ways { (before : OneDigest) → result ≡ min (length (element_ways approvals.now levels element.now before)) 65537 }
+{
+    extent_of_element(approvals, levels, element).paths
 }

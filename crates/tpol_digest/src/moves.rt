@@ -1,6 +1,6 @@
 ghost use Rattle.std.specs.Prelude.{◌≡◌};
 ghost use Rattle.tpol_digest.specs.Digest as spec;
-ghost use Rattle.tpol_digest.specs.Sound.{moves_of_facts};
+ghost use Rattle.tpol_tree.specs.Facts.{moves_of};
 ghost use Rattle.tpol_digest.specs.Term.{bytes_of_term, term_of_moves};
 
 use crate::assertion::extend;
@@ -19,8 +19,8 @@ pub fn run_path(path: &Path) -> Digest32
 /// The digest after the moves of facts, from 32 zero bytes: what a session's policyDigest is after these
 /// policy commands.
 pub fn run_facts(facts: &Facts) -> Digest32
-    ensures digest { result ≡ spec.digest_of_moves (moves_of_facts facts.now) }
-    ensures term { result ≡ bytes_of_term (term_of_moves (moves_of_facts facts.now)) }
+    ensures digest { result ≡ spec.digest_of_moves (moves_of facts.now) }
+    ensures term { result ≡ bytes_of_term (term_of_moves (moves_of facts.now)) }
 {
     digest_after_facts(Digest32::ZERO, facts.as_slice())
 }
@@ -36,7 +36,7 @@ fn digest_after_moves(before: Digest32, moves: &[Move]) -> Digest32
 
 // The digest after the moves of facts.
 fn digest_after_facts(before: Digest32, facts: &[Fact]) -> Digest32
-    ensures { result ≡ spec.digest_from before (moves_of_facts facts.now) }
+    ensures { result ≡ spec.digest_from before (moves_of facts.now) }
 {
     facts.iter().fold(before, |digest, fact| digest_after_move(digest, &fact.act))
 }
@@ -47,7 +47,7 @@ pub fn digest_after_move(before: Digest32, act: &Move) -> Digest32
 {
     match act {
         Move::Assert(assertion) => extend(before, assertion),
-        Move::Or(digests) => or_digest(digests),
+        Move::Or(digests) => or_digest(digests.as_slice()),
         Move::Approve {
             key,
             policy_ref,

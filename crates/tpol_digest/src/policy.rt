@@ -11,12 +11,12 @@ use tpol_hash::Hasher;
 use tpol_tree::{Closed, ClosedBranches, ClosedElement, ClosedElements};
 
 /// The digest after PolicyOR with these digests (TPM 2.0 Part 3, PolicyOR).
-pub fn or_digest(digests: &Digests) -> Digest32
+pub fn or_digest(digests: &[Digest32]) -> Digest32
     ensures digest { result ≡ spec.or_digest digests.now }
     ensures term { result ≡ bytes_of_term (term_of_or digests.now) }
 {
     let mut hasher = start(&Digest32::ZERO, CommandCode::PolicyOr.number());
-    for digest in digests.as_slice() {
+    for digest in digests {
         hasher.put(&digest.bytes);
     }
     hasher.done()

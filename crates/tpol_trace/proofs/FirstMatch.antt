@@ -14,7 +14,7 @@ use Rattle.tpol_tree.specs.declared.path.Path.{Path}
 use Rattle.tpol_digest.specs.Digest.{zero_digest}
 use Rattle.tpol_digest.specs.Limits.{AreWithinLimits}
 use Rattle.tpol_digest.specs.Paths.{empty_path, product, paths_at, document_paths, paths_of}
-use Rattle.tpol_digest.specs.Sound.{moves_of_facts}
+use Rattle.tpol_tree.specs.Facts.{moves_of}
 use Rattle.tpol_digest.proofs.Products.{product_empty}
 use Rattle.tpol_trace.specs.declared.ways.Ways.{Ways}
 use Rattle.tpol_trace.specs.Matching.{matches_by, matches}
@@ -40,34 +40,34 @@ whole_by approvals facts way true = refl
 whole_by approvals facts way false = refl
 
 module _ (policy : Closed) (approvals : List ApprovedDoc) (facts : List Fact) (within : AreWithinLimits (paths_of policy approvals)) where
-  wholes : (some : List Path) → AllByRecursion (λ way. goes approvals 4 (moves_of_facts facts) 0 way ≡ matches approvals way (moves_of_facts facts)) some
+  wholes : (some : List Path) → AllByRecursion (λ way. goes approvals 4 (moves_of facts) 0 way ≡ matches approvals way (moves_of facts)) some
   wholes [] = tt
-  wholes (way ∷ rest) = (whole_by approvals (moves_of_facts facts) way way.outside, wholes rest)
+  wholes (way ∷ rest) = (whole_by approvals (moves_of facts) way way.outside, wholes rest)
 
-  first_of_table : (ways : Ways) → IsTable approvals 4 (moves_of_facts facts) ways (paths_of policy approvals) → get_or ways.first.items 0 None ≡ first_match policy approvals facts
+  first_of_table : (ways : Ways) → IsTable approvals 4 (moves_of facts) ways (paths_of policy approvals) → get_or ways.first.items 0 None ≡ first_match policy approvals facts
   first_of_table ways t =
       t.first 0 (omega arith)
-      ∙ ap capped (first_index-kept true (goes approvals 4 (moves_of_facts facts) 0) (λ way. matches approvals way (moves_of_facts facts)) (paths_of policy approvals) (wholes (paths_of policy approvals)))
-      ∙ capped_exact (first_match policy approvals facts) (length (paths_of policy approvals)) within.few (first_bound (λ way. matches approvals way (moves_of_facts facts)) (paths_of policy approvals))
+      ∙ ap capped (first_index-kept true (goes approvals 4 (moves_of facts) 0) (λ way. matches approvals way (moves_of facts)) (paths_of policy approvals) (wholes (paths_of policy approvals)))
+      ∙ capped_exact (first_match policy approvals facts) (length (paths_of policy approvals)) within.few (first_bound (λ way. matches approvals way (moves_of facts)) (paths_of policy approvals))
 
-  pub first_is : (read : List ApprovedDoc) (moves : List Move) (d : Digest32) (ways : Ways) (result : Option ℕ) → read ≡ approvals → moves ≡ moves_of_facts facts → d.bytes ≡ zero_digest.bytes → IsTable read 4 moves ways (product (paths_at (document_paths read 4) read policy.elements d) (empty_path ∷ [])) → result ≡ get_or ways.first.items 0 result → result ≡ first_match policy approvals facts
+  pub first_is : (read : List ApprovedDoc) (moves : List Move) (d : Digest32) (ways : Ways) (result : Option ℕ) → read ≡ approvals → moves ≡ moves_of facts → d.bytes ≡ zero_digest.bytes → IsTable read 4 moves ways (product (paths_at (document_paths read 4) read policy.elements d) (empty_path ∷ [])) → result ≡ get_or ways.first.items 0 result → result ≡ first_match policy approvals facts
   first_is read moves d ways result a m z t is =
       let s = t.size in
       is
       ∙ get_or_default ways.first.items 0 result None (omega arith)
-      ∙ first_of_table ways (subst (λ x. IsTable x 4 (moves_of_facts facts) ways (paths_of policy x)) a (subst (λ x. IsTable read 4 x ways (paths_of policy read)) m (subst (IsTable read 4 moves ways) (product_empty (paths_at (document_paths read 4) read policy.elements d) ∙ ap (paths_at (document_paths read 4) read policy.elements) (same_digest d zero_digest z)) t)))
+      ∙ first_of_table ways (subst (λ x. IsTable x 4 (moves_of facts) ways (paths_of policy x)) a (subst (λ x. IsTable read 4 x ways (paths_of policy read)) m (subst (IsTable read 4 moves ways) (product_empty (paths_at (document_paths read 4) read policy.elements d) ∙ ap (paths_at (document_paths read 4) read policy.elements) (same_digest d zero_digest z)) t)))
 
   pub few_paths : (result : Option ℕ) → result ≡ first_match policy approvals facts → IfSome result (λ index. index < 65536)
   few_paths result e =
-      subst (λ o. IfSome o (λ index. index < 65536)) (sym e) (weaker (first_match policy approvals facts) (first_bound (λ way. matches approvals way (moves_of_facts facts)) (paths_of policy approvals)))
+      subst (λ o. IfSome o (λ index. index < 65536)) (sym e) (weaker (first_match policy approvals facts) (first_bound (λ way. matches approvals way (moves_of facts)) (paths_of policy approvals)))
     where
       weaker : (o : Option ℕ) → IfSome o (λ i. i < length (paths_of policy approvals)) → IfSome o (λ i. i < 65536)
       weaker None h = tt
       weaker (Some i) h = let few = within.few in omega arith
 
 -- one fact more
-pub moves_more : (facts : List Fact) (i : ℕ) (fact : Fact) → i < length facts → fact ≡ get_or facts i fact → moves_of_facts (take (i + 1) facts) ≡ moves_of_facts (take i facts) ++ fact.act ∷ []
+pub moves_more : (facts : List Fact) (i : ℕ) (fact : Fact) → i < length facts → fact ≡ get_or facts i fact → moves_of (take (i + 1) facts) ≡ moves_of (take i facts) ++ fact.act ∷ []
 moves_more facts i fact inside is =
-    ap moves_of_facts (take_more facts i fact inside)
-    ∙ ap (λ x. moves_of_facts (take i facts ++ x ∷ [])) (sym is)
+    ap moves_of (take_more facts i fact inside)
+    ∙ ap (λ x. moves_of (take i facts ++ x ∷ [])) (sym is)
     ∙ map-append (λ (f : Fact). f.act) (take i facts) (fact ∷ [])

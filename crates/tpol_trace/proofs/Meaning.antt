@@ -11,7 +11,7 @@ use Rattle.tpol_tree.specs.declared.facts.Fact.{Fact}
 use Rattle.tpol_tree.specs.declared.path.ApprovedDoc.{ApprovedDoc}
 use Rattle.tpol_tree.specs.declared.path.Path.{Path}
 use Rattle.tpol_digest.specs.Paths.{paths_of}
-use Rattle.tpol_digest.specs.Sound.{moves_of_facts}
+use Rattle.tpol_tree.specs.Facts.{moves_of}
 use Rattle.tpol_trace.specs.declared.answer.Opening.{Opening}
 use Rattle.tpol_trace.specs.declared.answer.Opening.TheVariants.{Branch, Clash, ZeroInput}
 use Rattle.tpol_trace.specs.Matching.{Matches, matches}
@@ -49,13 +49,13 @@ first_of {A} test (x ∷ rest) index e = by_test (test x) refl (first_index test
 
 module _ (policy : Closed) (approvals : List ApprovedDoc) (facts : List Fact) where
   abbrev test : Path → Bool
-  test path = matches approvals path (moves_of_facts facts)
+  test path = matches approvals path (moves_of facts)
 
-  not_matching : (path : Path) → test path ≡ false → Matches approvals path (moves_of_facts facts) → ⊥
+  not_matching : (path : Path) → test path ≡ false → Matches approvals path (moves_of facts) → ⊥
   not_matching path e =
-      not_from_Decides (test path) (matches_Decides approvals path (moves_of_facts facts)) e
+      not_from_Decides (test path) (matches_Decides approvals path (moves_of facts)) e
 
-  no_match : (paths : List Path) → first_index test paths ≡ None → AllByRecursion (λ path. Matches approvals path (moves_of_facts facts) → ⊥) paths
+  no_match : (paths : List Path) → first_index test paths ≡ None → AllByRecursion (λ path. Matches approvals path (moves_of facts) → ⊥) paths
   no_match [] none = tt
   no_match (path ∷ rest) none =
       let p = none_of_index (test path) (first_index test rest) none in
@@ -63,7 +63,7 @@ module _ (policy : Closed) (approvals : List ApprovedDoc) (facts : List Fact) wh
 
   nothing_matches : first_match policy approvals facts ≡ None → NoMatch policy approvals facts
   nothing_matches none =
-      All-from_recursion (λ path. Matches approvals path (moves_of_facts facts) → ⊥) (paths_of policy approvals) (no_match (paths_of policy approvals) none)
+      All-from_recursion (λ path. Matches approvals path (moves_of facts) → ⊥) (paths_of policy approvals) (no_match (paths_of policy approvals) none)
 
   matched : (index : ℕ) → first_match policy approvals facts ≡ Some index → IsFirstMatch policy approvals facts (index + 1)
   matched index e =
@@ -73,7 +73,7 @@ module _ (policy : Closed) (approvals : List ApprovedDoc) (facts : List Fact) wh
         path = f.item;
         counted = omega arith;
         listed = ap (slice_get (paths_of policy approvals)) n ∙ f.listed;
-        matching = (matches_Decides approvals f.item (moves_of_facts facts)).0 f.passes;
+        matching = (matches_Decides approvals f.item (moves_of facts)).0 f.passes;
         first = λ k earlier less at. not_matching earlier (f.first k earlier (omega arith) at);
       }
 

@@ -19,8 +19,8 @@ abbrev pub HasNoApproval : Closed → Type 0
 HasNoApproval policy = ApprovalsLead false policy.elements
 
 -- the moves of assertions
-abbrev pub moves_of : List Assertion → List Move
-moves_of assertions = map Assert assertions
+abbrev pub moves_of_assertions : List Assertion → List Move
+moves_of_assertions assertions = map Assert assertions
 
 -- A chain may end at the first of the two digests of a PolicySecret or a PolicySigned.
 abbrev pub EndsTwice : Option Assertion → Type 0
@@ -29,9 +29,9 @@ EndsTwice (Some last) = IsSome (update_of_assertion last).policy_ref
 
 -- its digest
 abbrev pub digest_of_chain : List Assertion → Option Assertion → Digest32
-digest_of_chain assertions None = digest_of_moves (moves_of assertions)
+digest_of_chain assertions None = digest_of_moves (moves_of_assertions assertions)
 digest_of_chain assertions (Some last) =
-    sha256_digest (first_string (update_of_assertion last) (digest_of_moves (moves_of assertions)))
+    sha256_digest (first_string (update_of_assertion last) (digest_of_moves (moves_of_assertions assertions)))
 
 -- the strings that are hashed for it
 abbrev pub half_inputs : Option Assertion → Digest32 → List (List ℕ)
@@ -41,7 +41,7 @@ half_inputs (Some last) d =
 
 abbrev pub inputs_of_chain : List Assertion → Option Assertion → List (List ℕ)
 inputs_of_chain assertions half =
-    inputs_of_moves zero_digest (moves_of assertions) ++ half_inputs half (digest_of_moves (moves_of assertions))
+    inputs_of_moves zero_digest (moves_of_assertions assertions) ++ half_inputs half (digest_of_moves (moves_of_assertions assertions))
 
 -- both chains are whole, or both end at a half digest of one command code and Name
 abbrev pub IsSameHalf : Option Assertion → Option Assertion → Type 0
@@ -59,4 +59,4 @@ AreBroken strings =
 -- two chains are the same in order, or their strings are broken
 abbrev pub ChainsAgree : List Assertion → Option Assertion → List Assertion → Option Assertion → Type 0
 ChainsAgree xs half ys other =
-    (AreSame (moves_of xs) (moves_of ys) × IsSameHalf half other) ⊎ AreBroken (inputs_of_chain xs half ++ inputs_of_chain ys other)
+    (AreSame (moves_of_assertions xs) (moves_of_assertions ys) × IsSameHalf half other) ⊎ AreBroken (inputs_of_chain xs half ++ inputs_of_chain ys other)

@@ -11,7 +11,7 @@ use Rattle.tpol_tree.specs.declared.path.Path.{Path}
 use Rattle.tpol_digest.specs.Digest.{zero_digest}
 use Rattle.tpol_digest.specs.Inputs.{inputs_of_policy, inputs_of_facts}
 use Rattle.tpol_digest.specs.Paths.{paths_of}
-use Rattle.tpol_digest.specs.Sound.{moves_of_facts}
+use Rattle.tpol_tree.specs.Facts.{moves_of}
 use Rattle.tpol_trace.specs.declared.answer.Opening.{Opening}
 use Rattle.tpol_trace.specs.declared.answer.Opening.TheVariants.{Branch, Clash, ZeroInput}
 use Rattle.tpol_trace.specs.Matching.{Matches, matches}
@@ -31,12 +31,12 @@ pub record IsFirstMatch (policy : Closed) (approvals : List ApprovedDoc) (facts 
   pub path : Path
   pub counted : 1 ≤ position
   pub listed : slice_get (paths_of policy approvals) (position - 1) ≡ Some path
-  pub matching : Matches approvals path (moves_of_facts facts)
-  pub first : (index : ℕ) (earlier : Path) → index + 1 < position → slice_get (paths_of policy approvals) index ≡ Some earlier → Matches approvals earlier (moves_of_facts facts) → ⊥
+  pub matching : Matches approvals path (moves_of facts)
+  pub first : (index : ℕ) (earlier : Path) → index + 1 < position → slice_get (paths_of policy approvals) index ≡ Some earlier → Matches approvals earlier (moves_of facts) → ⊥
 
 -- no path matches
 abbrev pub NoMatch : Closed → List ApprovedDoc → List Fact → Type 0
-NoMatch policy approvals facts = All (λ path. Matches approvals path (moves_of_facts facts) → ⊥) (paths_of policy approvals)
+NoMatch policy approvals facts = All (λ path. Matches approvals path (moves_of facts) → ⊥) (paths_of policy approvals)
 
 -- different strings of one digest, at two places of a list
 pub record IsClash (strings : List (List ℕ)) (i j : ℕ) (first second : List ℕ) : Type 0 where
@@ -119,7 +119,7 @@ opening_by None events strings = broken_opening (first_clash strings) (first_zer
 -- the index of the first path that matches
 abbrev pub first_match : Closed → List ApprovedDoc → List Fact → Option ℕ
 first_match policy approvals facts =
-    first_index (λ path. matches approvals path (moves_of_facts facts)) (paths_of policy approvals)
+    first_index (λ path. matches approvals path (moves_of facts)) (paths_of policy approvals)
 
 -- the opening of a policy by facts
 abbrev pub opening_of : Closed → List ApprovedDoc → List Fact → Option Opening

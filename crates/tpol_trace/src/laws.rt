@@ -6,7 +6,8 @@ ghost use Rattle.tpol_tree.specs.declared.closed.Closed.{Closed};
 ghost use Rattle.tpol_tree.specs.declared.facts.Fact.{Fact};
 ghost use Rattle.tpol_tree.specs.declared.path.ApprovedDoc.{ApprovedDoc};
 ghost use Rattle.tpol_digest.specs.Digest.{digest_of_moves, policy_digest};
-ghost use Rattle.tpol_digest.specs.Sound.{IsSound, moves_of_facts};
+ghost use Rattle.tpol_digest.specs.Sound.{IsSound};
+ghost use Rattle.tpol_tree.specs.Facts.{moves_of};
 ghost use Rattle.tpol_digest.specs.WellFormed.{IsWellFormed};
 ghost use Rattle.tpol_trace.specs.Chains.{digest_of_chain, ChainsAgree, EndsTwice, HasNoApproval};
 ghost use Rattle.tpol_trace.specs.Openings.{opening_of, IsOpening};
@@ -25,7 +26,7 @@ pub fn chains_agree()
 /// besides, nor of any approved document.
 pub fn facts_open_without_approvals()
     ensures { (policy : Closed) (approvals : List ApprovedDoc) (facts : List Fact) → HasNoApproval policy
-        → IsSound (moves_of_facts facts) → digest_of_moves (moves_of_facts facts) ≡ policy_digest policy
+        → IsSound (moves_of facts) → digest_of_moves (moves_of facts) ≡ policy_digest policy
         → IsSome (opening_of policy approvals facts) }
 {}
 
@@ -35,7 +36,7 @@ pub fn facts_open_without_approvals()
 /// policy, its approved documents and the session.
 pub fn facts_open()
     ensures opens { (policy : Closed) (approvals : List ApprovedDoc) (facts : List Fact) → IsWellFormed policy approvals
-        → IsSound (moves_of_facts facts) → digest_of_moves (moves_of_facts facts) ≡ policy_digest policy
+        → IsSound (moves_of facts) → digest_of_moves (moves_of facts) ≡ policy_digest policy
         → IsSome (opening_of policy approvals facts) }
     ensures means { (policy : Closed) (approvals : List ApprovedDoc) (facts : List Fact) (opening : Opening)
         → opening_of policy approvals facts ≡ Some opening → IsOpening policy approvals facts opening }

@@ -4,7 +4,8 @@ ghost use Rattle.std.specs.Prelude.{◌≡◌, ◌<◌, true, All, IfOk, IfSome}
 ghost use Rattle.tpol_digest.specs.Digest.{digest_of_moves, policy_digest};
 ghost use Rattle.tpol_digest.specs.Limits.{AreWithinLimits};
 ghost use Rattle.tpol_digest.specs.Paths.{paths_of};
-ghost use Rattle.tpol_digest.specs.Sound.{IsSound, moves_of_facts};
+ghost use Rattle.tpol_digest.specs.Sound.{IsSound};
+ghost use Rattle.tpol_tree.specs.Facts.{moves_of};
 ghost use Rattle.tpol_digest.specs.WellFormed.{IsWellFormed};
 ghost use Rattle.tpol_tree.specs.Closed.{ApprovalsLead};
 ghost use Rattle.tpol_trace.specs.Openings as spec;
@@ -36,8 +37,8 @@ pub fn opening(
 ) -> Result<Opening, NoMemory>
     requires within { AreWithinLimits (paths_of policy.now approvals.now) }
     requires well_formed { IsWellFormed policy.now approvals.now }
-    requires sound { IsSound (moves_of_facts facts.now) }
-    requires digest { digest_of_moves (moves_of_facts facts.now) ≡ policy_digest policy.now }
+    requires sound { IsSound (moves_of facts.now) }
+    requires digest { digest_of_moves (moves_of facts.now) ≡ policy_digest policy.now }
     ensures opening { IfOk result (λ opening. spec.opening_of policy.now approvals.now facts.now ≡ Some opening) }
     ensures means { IfOk result (λ opening. spec.IsOpening policy.now approvals.now facts.now opening) }
 {
@@ -80,7 +81,7 @@ fn first_match(
 
 // What the facts' moves hash and approve.
 fn asked_facts(alloc: Global, facts: &[Fact]) -> Result<Vec<Asked>, NoMemory>
-    ensures { IfOk result (λ asked. AllAsk asked.items (moves_of_facts facts.now)) }
+    ensures { IfOk result (λ asked. AllAsk asked.items (moves_of facts.now)) }
 {
     let mut asked = Vec::new(alloc);
     for fact in facts {

@@ -1,7 +1,9 @@
 // The walk through a policy and the facts together, from the end of both to their beginning.
 
-ghost use Rattle.std.specs.Prelude.{◌≡◌, ◌+◌, ◌++◌, true, length, map, nat_lt, All, List, ℕ, IfOk, OnOk};
-ghost use Rattle.tpol_digest.specs.Digest.{zero_digest};
+ghost use Rattle.std.specs.Prelude.{◌≡◌, ◌+◌, ◌++◌, true, false, length, map, nat_lt, All, List, ℕ, IfOk, OnOk};
+ghost use Rattle.tpol_base.specs.declared.digest.Digest32.{Digest32 as OneDigest};
+ghost use Rattle.tpol_digest.specs.Digest.{digest_at_element, zero_digest};
+ghost use Rattle.tpol_digest.specs.Positions as at;
 ghost use Rattle.tpol_digest.specs.Paths as spec;
 ghost use Rattle.tpol_digest.specs.UpdateBytes.{update_value};
 ghost use Rattle.tpol_digest.specs.Update.{update_of};
@@ -16,8 +18,8 @@ use crate::ways::Ways;
 use std::alloc::Global;
 use tpol_base::{Digest32, Digests, NoMemory};
 use tpol_digest::{
-    UpdateBytes, accepts, digest_after_element, push_branch_digests, update_of_approve,
-    update_of_approve_nv, update_of_assertion, update_of_or,
+    UpdateBytes, accepts, digest_after_element, has_or, push_branch_digests, update_of_approve,
+    update_of_approve_nv, update_of_assertion, update_of_or, zero_digest,
 };
 use tpol_tree::{ApprovedDoc, ClosedBranches, ClosedElement, ClosedElements};
 
@@ -51,9 +53,63 @@ pub fn ways_of_elements(
     match elements {
         ClosedElements::End => Ok(behind),
         ClosedElements::More(element, rest) => {
-            let after = digest_after_element(element, before);
-            let behind = ways_of_elements(walk, rest, after, behind)?;
+            let behind = ways_of_rest(walk, element, rest, before, behind)?;
             ways_of_element(walk, element, before, behind)
+        }
+    }
+}
+
+// The ways through the rest of a list behind an element, before which stands the digest `before`. A digest is
+// needed only before the branches of an OR, so where none comes behind the element none is hashed.
+#[cycle(walk)]
+fn ways_of_rest(
+    walk: &Walk<'_>,
+    element: &ClosedElement,
+    rest: &ClosedElements,
+    before: Digest32,
+    behind: Ways,
+) -> Result<Ways, NoMemory>
+    requires lead { ApprovalsLead true rest.now }
+    requires documents { All (λ document. ApprovalsLead true document.closed.elements) walk.now.approvals.now }
+    requires size { length behind.first.items ≡ length walk.now.facts.now + 1 }
+    ensures size { IfOk result (λ table. length table.first.items ≡ length walk.now.facts.now + 1) }
+    ensures table { (moves : List OneMove) (ways : List Path) → AllAsk walk.now.facts.now moves → AreInside ways
+        → IsTable walk.now.approvals.now walk.now.levels moves behind ways
+        → IfOk result (λ table. IsTable walk.now.approvals.now walk.now.levels moves table
+        (spec.product (spec.paths_at (spec.document_paths walk.now.approvals.now walk.now.levels) walk.now.approvals.now rest.now
+        (digest_at_element element.now before)) ways)) }
+{
+    if has_or(rest) {
+        let after = digest_after_element(element, before);
+        ways_of_elements(walk, rest, after, behind)
+    } else {
+        ways_of_unbranched(walk, rest, behind)
+    }
+}
+
+// The ways through elements among which no OR stands, each before one of the ways behind them. They are the
+// same from any digest.
+#[cycle(walk)]
+fn ways_of_unbranched(
+    walk: &Walk<'_>,
+    elements: &ClosedElements,
+    behind: Ways,
+) -> Result<Ways, NoMemory>
+    requires unbranched { at.has_or elements.now ≡ false }
+    requires lead { ApprovalsLead true elements.now }
+    requires documents { All (λ document. ApprovalsLead true document.closed.elements) walk.now.approvals.now }
+    requires size { length behind.first.items ≡ length walk.now.facts.now + 1 }
+    ensures size { IfOk result (λ table. length table.first.items ≡ length walk.now.facts.now + 1) }
+    ensures table { (moves : List OneMove) (before : OneDigest) (ways : List Path) → AllAsk walk.now.facts.now moves → AreInside ways
+        → IsTable walk.now.approvals.now walk.now.levels moves behind ways
+        → IfOk result (λ table. IsTable walk.now.approvals.now walk.now.levels moves table
+        (spec.product (spec.paths_at (spec.document_paths walk.now.approvals.now walk.now.levels) walk.now.approvals.now elements.now before) ways)) }
+{
+    match elements {
+        ClosedElements::End => Ok(behind),
+        ClosedElements::More(element, rest) => {
+            let behind = ways_of_unbranched(walk, rest, behind)?;
+            ways_of_element(walk, element, zero_digest(), behind)
         }
     }
 }

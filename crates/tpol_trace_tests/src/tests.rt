@@ -2,7 +2,8 @@
 //! the openings of whole scenes, as the built program prints them.
 
 ghost use Rattle.std.specs.Prelude.{◌≡◌, ◌+◌, true, false, All, IfOk, IsTrue};
-ghost use Rattle.tpol_digest.specs.Sound.{Among, IsSound, IsSoundFrom, Meets, moves_of_facts};
+ghost use Rattle.tpol_digest.specs.Sound.{Among, IsSound, IsSoundFrom, Meets};
+ghost use Rattle.tpol_tree.specs.Facts.{moves_of as moves_of_facts};
 ghost use Rattle.tpol_digest.specs.Digest.{digest_of_moves, policy_digest, zero_digest};
 ghost use Rattle.tpol_digest.specs.Update.{joined};
 ghost use Rattle.tpol_digest.specs.WellFormed.{HasPcrDigest, IsWellFormed, IsWellFormedDocument, IsWellFormedPolicy};

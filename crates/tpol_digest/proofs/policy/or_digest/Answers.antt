@@ -10,5 +10,5 @@ use Rattle.tpol_digest.proofs.policy.or_digest.Goals as goal
 pub loop-digest-preserved : goal.loop-digest-preserved
 loop-digest-preserved c =
     subst (Holds c.put.new.self)
-    (joined_more (spec.zero_digest.bytes ++ to_be_bytes w32 (number_of_code PolicyOr)) c.as_slice-digest-items.result.now c.loop-digest.digest-index c.digest-item.result c.loop-digest-test.true c.digest-item.is)
+    (joined_more (spec.zero_digest.bytes ++ to_be_bytes w32 (number_of_code PolicyOr)) c.args.digests.now c.loop-digest.digest-index c.digest-item.result c.loop-digest-test.true c.digest-item.is)
     (c.put.ensures.longer _ c.loop-digest.invariant)

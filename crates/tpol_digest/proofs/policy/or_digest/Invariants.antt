@@ -9,4 +9,4 @@ use Rattle.tpol_digest.proofs.policy.or_digest.Given as goal
 
 abbrev pub invariant-loop-digest : goal.invariant-loop-digest
 invariant-loop-digest l =
-    Holds l.hasher ((spec.zero_digest.bytes ++ to_be_bytes w32 (number_of_code PolicyOr)) ++ joined (take l.digest-index l.digest-items))
+    Holds l.hasher ((spec.zero_digest.bytes ++ to_be_bytes w32 (number_of_code PolicyOr)) ++ joined (take l.digest-index l.digests))

@@ -1,11 +1,14 @@
 use Rattle.std.proofs.Common.{◌≡◌, suc, ◌+◌, ◌-◌, ◌<◌, ◌≤◌, ◌++◌, [], true, false, map, take, length, inl, inr, refl, sym, ap, ◌∙◌, subst, arith}
 use Rattle.std.specs.Prelude.{IfOk}
+use Rattle.std.proofs.lemmas.Bool.{or_parts}
 use Rattle.std.proofs.lemmas.List.{take_all}
 use Rattle.std.proofs.lemmas.Result.{IfOk-weaker, on_ok_weaker}
 use Rattle.tpol_tree.specs.Closed.{ApprovalsLead}
 use Rattle.tpol_tree.specs.declared.closed.ClosedBranch.{ClosedBranch}
 use Rattle.tpol_tree.specs.declared.path.Move.TheVariants.{Assert, Or}
 use Rattle.tpol_digest.specs.Digest.{digest_at_element, branch_digests}
+use Rattle.tpol_digest.specs.Positions.{has_or, is_or}
+use Rattle.tpol_digest.proofs.Positions.{unbranched_element_ways}
 use Rattle.tpol_digest.specs.Paths.{approval_of, approved_paths, document_paths, followed_by, outside_paths, path_of_move, paths_at, paths_by_approval, product, between}
 use Rattle.tpol_tree.specs.declared.path.PathStep.TheVariants.{Branch}
 use Rattle.tpol_digest.specs.Update.{update_of_or}
@@ -16,8 +19,8 @@ use Rattle.tpol_trace.proofs.Walked.{approval_paths, approval_table, branch_tabl
 use Rattle.tpol_trace.proofs.walk.+walk.Goals as goal
 use Rattle.tpol_trace.proofs.walk.+walk.Goals.{add_documents-then-accepts+in_ok-behind+in_ok-update+in_ok-ways, add_documents-else-accepts}
 
-pub ways_of_elements-ways_of_elements-requires : goal.ways_of_elements-ways_of_elements-requires
-ways_of_elements-ways_of_elements-requires t c =
+pub ways_of_elements-ways_of_rest-requires : goal.ways_of_elements-ways_of_rest-requires
+ways_of_elements-ways_of_rest-requires t c =
     let lead = (rw c.in-More.is at c.requires.lead).1 in
     let small = rw c.in-More.is at c.decreases in (
       rw c.deref-in-More.ensures (omega (arith, small)),
@@ -34,12 +37,61 @@ ways_of_elements-returns-in_ok-behind-in-More-clause-table t c =
     let levels = c.args.walk.now.levels in
     let within = document_paths approvals levels in
     let d = c.args.before in
-    let after = c.digest_after_element-after.result in
+    let after = digest_at_element c.deref.result.now d in
     let others = c.deref-in-More.result.now in
     let element = c.in-More.element.value in
     let lead : ApprovalsLead false others = subst (ApprovalsLead false) (sym c.deref-in-More.ensures) (rw c.in-More.is at c.requires.lead).1 in
-    let after_is : after ≡ digest_at_element element d = c.digest_after_element-after.ensures ∙ ap (λ e. digest_at_element e d) c.deref.ensures in
+    let after_is : after ≡ digest_at_element element d = ap (λ e. digest_at_element e d) c.deref.ensures in
     rw c.in-More.is (λ moves ways asks inside table. IfOk-weaker c.ways_of_element.result _ _ (λ found h. more_table approvals moves levels within element c.deref-in-More-2.result.now c.in-More.rest.value others d after found ways c.deref-in-More-2.ensures c.deref-in-More.ensures after_is h) (c.ways_of_element.ensures.table moves (product (paths_at within approvals others after) ways) asks (inside_product (paths_at within approvals others after) ways (inside_at within approvals others after lead) inside) (c.in_ok-behind-in-More.ensures.table moves ways asks inside table)))
+
+pub ways_of_rest-ways_of_elements-requires : goal.ways_of_rest-ways_of_elements-requires
+ways_of_rest-ways_of_elements-requires t c = (omega (arith, c.decreases), (c.requires.lead, (c.requires.documents, c.requires.size)))
+
+pub ways_of_rest-ways_of_unbranched-requires : goal.ways_of_rest-ways_of_unbranched-requires
+ways_of_rest-ways_of_unbranched-requires t c =
+    (omega (arith, c.decreases), (sym c.has_or.ensures ∙ c.if-has_or.false, (c.requires.lead, (c.requires.documents, c.requires.size))))
+
+pub ways_of_rest-returns-then-has_or-clause-table : goal.ways_of_rest-returns-then-has_or-clause-table
+ways_of_rest-returns-then-has_or-clause-table t c = λ moves ways asks inside table.
+    let approvals = c.args.walk.now.approvals.now in
+    let levels = c.args.walk.now.levels in
+    subst (λ d. IfOk c.ways_of_elements.result (λ found. IsTable approvals levels moves found (product (paths_at (document_paths approvals levels) approvals c.args.rest.now d) ways))) c.digest_after_element-after.ensures (c.ways_of_elements.ensures.table moves ways asks inside table)
+
+pub ways_of_rest-returns-else-has_or-clause-table : goal.ways_of_rest-returns-else-has_or-clause-table
+ways_of_rest-returns-else-has_or-clause-table t c = λ moves ways asks inside table.
+    c.ways_of_unbranched.ensures.table moves (digest_at_element c.args.element.now c.args.before) ways asks inside table
+
+pub ways_of_unbranched-ways_of_unbranched-requires : goal.ways_of_unbranched-ways_of_unbranched-requires
+ways_of_unbranched-ways_of_unbranched-requires t c =
+    let lead = (rw c.in-More.is at c.requires.lead).1 in
+    let none = or_parts (is_or c.in-More.element.value) (has_or c.in-More.rest.value) (rw c.in-More.is at c.requires.unbranched) in
+    let small = rw c.in-More.is at c.decreases in (
+      rw c.deref.ensures (omega (arith, small)),
+      (
+        rw c.deref.ensures none.1,
+        (rw c.deref.ensures (lead_weaker c.in-More.rest.value lead), (c.requires.documents, c.requires.size)),
+      ),
+    )
+
+pub ways_of_unbranched-returns-in-End-clause-table : goal.ways_of_unbranched-returns-in-End-clause-table
+ways_of_unbranched-returns-in-End-clause-table t c =
+    rw c.in-End.is (λ moves before ways asks inside table. subst (IsTable c.args.walk.now.approvals.now c.args.walk.now.levels moves c.args.behind) (sym (empty_product ways)) table)
+
+pub ways_of_unbranched-returns-in_ok-behind-in-More-clause-table : goal.ways_of_unbranched-returns-in_ok-behind-in-More-clause-table
+ways_of_unbranched-returns-in_ok-behind-in-More-clause-table t c =
+    let approvals = c.args.walk.now.approvals.now in
+    let levels = c.args.walk.now.levels in
+    let within = document_paths approvals levels in
+    let others = c.deref.result.now in
+    let read = c.deref-in-More.result.now in
+    let element = c.in-More.element.value in
+    let lead : ApprovalsLead false others = subst (ApprovalsLead false) (sym c.deref.ensures) (rw c.in-More.is at c.requires.lead).1 in
+    let none : is_or read ≡ false = subst (λ e. is_or e ≡ false) (sym c.deref-in-More.ensures) (or_parts (is_or element) (has_or c.in-More.rest.value) (rw c.in-More.is at c.requires.unbranched)).0 in
+    rw c.in-More.is (λ moves d ways asks inside table.
+    let after = digest_at_element element d in
+    let behind = product (paths_at within approvals others after) ways in
+    let found = c.ways_of_element.ensures.table moves behind asks (inside_product (paths_at within approvals others after) ways (inside_at within approvals others after lead) inside) (c.in_ok-behind-in-More.ensures.table moves after ways asks inside table) in
+    IfOk-weaker c.ways_of_element.result _ _ (λ found h. more_table approvals moves levels within element read c.in-More.rest.value others d after found ways c.deref-in-More.ensures c.deref.ensures refl h) (subst (λ firsts. IfOk c.ways_of_element.result (λ x. IsTable approvals levels moves x (product firsts behind))) (unbranched_element_ways approvals levels read c.zero_digest.result d none) found))
 
 pub ways_of_element-returns-in_ok-update-in-Assert-clause-table : goal.ways_of_element-returns-in_ok-update-in-Assert-clause-table
 ways_of_element-returns-in_ok-update-in-Assert-clause-table t c =

@@ -9,6 +9,12 @@ use Rattle.tpol_trace.proofs.walk.+walk.Given as goal
 abbrev pub decreases-ways_of_elements : goal.decreases-ways_of_elements
 decreases-ways_of_elements l = 2 * (l.walk.now.levels * greatest l.walk.now.approvals.now) + 2 * weight l.elements.now
 
+abbrev pub decreases-ways_of_rest : goal.decreases-ways_of_rest
+decreases-ways_of_rest l = 2 * (l.walk.now.levels * greatest l.walk.now.approvals.now) + 2 * weight l.rest.now + 1
+
+abbrev pub decreases-ways_of_unbranched : goal.decreases-ways_of_unbranched
+decreases-ways_of_unbranched l = 2 * (l.walk.now.levels * greatest l.walk.now.approvals.now) + 2 * weight l.elements.now
+
 abbrev pub decreases-ways_of_element : goal.decreases-ways_of_element
 decreases-ways_of_element l = 2 * (l.walk.now.levels * greatest l.walk.now.approvals.now) + 2 * weight_of_element l.element.now
 

@@ -1,5 +1,6 @@
 use Rattle.std.proofs.Common.{subst}
-use Rattle.tpol_digest.specs.Sound.{IsSound, IsSoundFrom, moves_of_facts}
+use Rattle.tpol_digest.specs.Sound.{IsSound, IsSoundFrom}
+use Rattle.tpol_tree.specs.Facts.{moves_of as moves_of_facts}
 use Rattle.tpol_trace_tests.proofs.tests.is_sound.Goals as goal
 
 pub returns : goal.returns
