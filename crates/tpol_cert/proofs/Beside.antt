@@ -121,6 +121,10 @@ pub ways_beside : (documents : List ApprovedDoc) (levels : ℕ) (elements : Clos
 ways_beside documents levels elements d =
     elements_beside (document_choices documents levels) (document_paths documents levels) documents (document_beside documents levels) elements d
 
+pub element_ways_beside : (documents : List ApprovedDoc) (levels : ℕ) (element : ClosedElement) (d : Digest32) → Beside (choices_at_element (document_choices documents levels) documents element) (paths_at_element (document_paths documents levels) documents element d)
+element_ways_beside documents levels element d =
+    element_beside (document_choices documents levels) (document_paths documents levels) documents (document_beside documents levels) element d
+
 pub choices_beside : (policy : Closed) (documents : List ApprovedDoc) → Beside (choices_of policy documents) (paths_of policy documents)
 choices_beside policy documents = ways_beside documents 4 policy.elements zero_digest
 

@@ -12,7 +12,6 @@ use Rattle.tpol_cert.specs.Choices.{behind, each_with, same_choice}
 use Rattle.tpol_cert.specs.declared.follow.Stray.{Stray}
 use Rattle.tpol_cert.specs.declared.follow.Stray.TheVariants.{At, NoMemory}
 use Rattle.tpol_cert.specs.Following.{IsStray, Leads, Misses, Strays, common, most}
-use Rattle.tpol_digest.proofs.Extents.{mul_bounds}
 use Rattle.tpol_cert.specs.Judging.{IsNoStep}
 use Rattle.tpol_cert.proofs.Apart.{AllPart, BeginsAtBranch, BeginsAtDocument, Part, at_index, each_append, same_itself}
 use Rattle.tpol_cert.proofs.Going.{at_first, at_later, at_map, at_product, length-product}
@@ -209,12 +208,9 @@ strays_second s left rest firsts rests i part some g h =
     subst (λ t. Strays (each_with firsts rests) t rest) (sym g.follows)
     (record { reached = omega (arith, both.0, h.reached, length-append g.choices left); none = both.1 })
 
-pub strays_without : (s : List Choice) (firsts rests : List (List Choice)) → length rests ≡ 0 → Strays (each_with firsts rests) s s
-strays_without s firsts rests none = by (each_with firsts rests) (length-product firsts rests ∙ ap (λ n. length firsts * n) none ∙ omega arith)
-  where
-    by : (all : List (List Choice)) → length all ≡ 0 → Strays all s s
-    by [] e = strays_untouched s [] tt
-    by (x ∷ all) e = absurd (omega (arith, e))
+pub strays_none : (s : List Choice) (all : List (List Choice)) → length all ≡ 0 → Strays all s s
+strays_none s [] e = strays_untouched s [] tt
+strays_none s (x ∷ all) e = absurd (omega (arith, e))
 
 -- ---- behind a choice, and past others
 
@@ -267,14 +263,6 @@ fits_two i j first rest few h k =
   where
     more_of : (a b c : ℕ) → a ≤ b → a * c ≤ b * c
     more_of a b c le = let h = mul-le-mul_left c le in omega (arith, h)
-
-pub few_first : (first rest : ℕ) → 0 < rest → first * rest ≤ 65536 → first ≤ 65536
-few_first zero rest some few = omega arith
-few_first (suc first) rest some few = (mul_bounds (suc first) rest 65536 (omega arith) (omega arith) few).0
-
-pub few_second : (first rest : ℕ) → 0 < first → first * rest ≤ 65536 → rest ≤ 65536
-few_second first zero some few = omega arith
-few_second first (suc rest) some few = (mul_bounds first (suc rest) 65536 (omega arith) (omega arith) few).1
 
 -- ---- the choices of no path
 

@@ -1,8 +1,7 @@
 -- The choices at an index, part by part.
-use Rattle.std.proofs.Common.{◌≡◌, ◌≢◌, ℕ, zero, suc, ◌+◌, ◌-◌, ◌*◌, ◌/◌, ◌%◌, ◌<◌, ◌≤◌, min, Bool, true, false, List, [], ◌∷◌, ◌++◌, map, length, get_or, drop, Some, refl, sym, ap, ◌∙◌, subst, append_assoc, length-append, arith}
+use Rattle.std.proofs.Common.{◌≡◌, ◌≢◌, ℕ, zero, suc, ◌+◌, ◌-◌, ◌*◌, ◌<◌, ◌≤◌, min, Bool, true, false, List, [], ◌∷◌, ◌++◌, map, length, get_or, drop, Some, refl, sym, ap, ◌∙◌, subst, append_assoc, length-append, arith}
 use Rattle.std.specs.Prelude.{is_some, if◌then◌else◌}
 use Rattle.std.specs.List.{AllByRecursion, slice_get}
-use Rattle.std.proofs.lemmas.Nat.{div-add-mod', div_below}
 use Rattle.std.proofs.lemmas.List.{append-nil, drop_more, length-map}
 use Rattle.std.proofs.Math.ListN.{drop_of_length-le}
 use Rattle.tpol_tree.specs.declared.closed.ClosedElements.{ClosedElements}
@@ -11,14 +10,14 @@ use Rattle.tpol_tree.specs.declared.path.ApprovedDoc.{ApprovedDoc}
 use Rattle.tpol_base.specs.declared.digest.Digest32.{Digest32}
 use Rattle.tpol_digest.specs.Digest.{zero_digest}
 use Rattle.tpol_digest.specs.Paths.{approval_of}
-use Rattle.tpol_digest.specs.Positions.{element_list_ways}
-use Rattle.tpol_digest.proofs.Extents.{mul_bounds, parts_positive}
+use Rattle.tpol_digest.specs.Positions.{element_list_ways, element_ways}
+use Rattle.tpol_digest.proofs.Positions.{Parted, parted as parted_by}
 use Rattle.tpol_cert.specs.declared.choice.Choice.{Choice}
 use Rattle.tpol_cert.specs.declared.choice.Choice.TheVariants.{Document, Outside}
 use Rattle.tpol_cert.specs.Going.{GoesOn}
-use Rattle.tpol_cert.specs.Choices.{approval_choices, approved_choices, behind, document_choices, each_with, element_list_choices}
+use Rattle.tpol_cert.specs.Choices.{approval_choices, approved_choices, behind, document_choices, each_with, element_choices, element_list_choices}
 use Rattle.tpol_cert.specs.Spelling.{ChoiceFits}
-use Rattle.tpol_cert.proofs.Beside.{beside-length, ways_beside}
+use Rattle.tpol_cert.proofs.Beside.{beside-length, element_ways_beside, ways_beside}
 
 -- ---- at an index of a list that is made of parts
 
@@ -103,39 +102,16 @@ pub counted : (documents : List ApprovedDoc) (levels : ℕ) (elements : ClosedEl
 counted documents levels elements count h =
     h zero_digest ∙ ap (λ n. min n 65537) (sym (beside-length (element_list_choices documents levels elements) (element_list_ways documents levels elements zero_digest) (ways_beside documents levels elements zero_digest)))
 
--- an index among the choices of two parts, one after the other
-pub record Parted (behind index first rest : ℕ) : Type 0 where
-  pub positive : 0 < behind
-  pub is : behind ≡ rest
-  pub first_few : first ≤ 65536
-  pub rest_few : rest ≤ 65536
-  pub first_inside : index / behind < first
-  pub rest_inside : index % behind < rest
-  pub whole : index ≡ (index / behind) * rest + index % behind
+counted_element : (documents : List ApprovedDoc) (levels : ℕ) (element : ClosedElement) (count : ℕ) → ((before : Digest32) → count ≡ min (length (element_ways documents levels element before)) 65537) → count ≡ min (length (element_choices documents levels element)) 65537
+counted_element documents levels element count h =
+    h zero_digest ∙ ap (λ n. min n 65537) (sym (beside-length (element_choices documents levels element) (element_ways documents levels element zero_digest) (element_ways_beside documents levels element zero_digest)))
 
-parted_by : (index first rest : ℕ) → first * rest ≤ 65536 → index < first * rest → Parted rest index first rest
-parted_by index first rest few inside =
-    let each = parts_positive first rest (omega (arith, inside)) in
-    let bounds = mul_bounds first rest 65536 each.0 each.1 few in
-    let some : 0 < rest = let r = each.1 in omega arith in
-    record {
-      positive = some;
-      is = refl;
-      first_few = bounds.0;
-      rest_few = bounds.1;
-      first_inside = div_below index rest first some (omega (arith, inside));
-      rest_inside = omega (arith, some);
-      whole = sym (div-add-mod' index rest);
-    }
-
-pub parted : (behind index : ℕ) (firsts rests : List (List Choice)) → length (each_with firsts rests) ≤ 65536 → index < length (each_with firsts rests) → behind ≡ min (length rests) 65537 → Parted behind index (length firsts) (length rests)
-parted behind index firsts rests few inside count =
-    let product = length-product firsts rests in
-    let less : index < length firsts * length rests = omega (arith, product, inside) in
-    let most : length firsts * length rests ≤ 65536 = omega (arith, product, few) in
-    let each = parted_by index (length firsts) (length rests) most less in
-    let same : length rests ≡ behind = let small = each.rest_few in omega arith in
-    subst (λ n. Parted n index (length firsts) (length rests)) same each
+-- an index among the ways of elements, where those of the first, `lent` to the count, are counted
+pub parted : (documents : List ApprovedDoc) (levels : ℕ) (element lent : ClosedElement) (rest : ClosedElements) (ways count index : ℕ) → lent ≡ element → ((before : Digest32) → ways ≡ min (length (element_ways documents levels lent before)) 65537) → count ≡ length (each_with (element_choices documents levels element) (element_list_choices documents levels rest)) → count ≤ 65536 → index < count → Parted ways count index (length (element_choices documents levels element)) (length (element_list_choices documents levels rest))
+parted documents levels element lent rest ways count index same first counted few inside =
+    let firsts = element_choices documents levels element in
+    let rests = element_list_choices documents levels rest in
+    parted_by ways count index (length firsts) (length rests) (counted ∙ length-product firsts rests) few (subst (λ e. ways ≡ min (length (element_choices documents levels e)) 65537) same (counted_element documents levels lent ways first)) inside
 
 -- a branch, or a document, and what stands behind it
 pub counted_first : (count : ℕ) (choice : Choice) (xs others : List (List Choice)) → count ≡ min (length xs) 65537 → length (behind choice xs ++ others) ≤ 65536 → (count ≡ length xs) × (length (behind choice xs ++ others) ≡ count + length others)

@@ -20,7 +20,8 @@ use Rattle.tpol_cert.specs.Choices.{choices_of}
 use Rattle.tpol_cert.specs.Judging.{AnswersUnlessNoMemory, AreNoCertificate, IsAccepted, Judged, first_difference}
 use Rattle.tpol_cert.specs.Reading.{GivesWhole, certificate_in}
 use Rattle.tpol_cert.specs.Spelling.{Fits, spelled}
-use Rattle.tpol_cert.proofs.Apart.{choices_part, one_index}
+use Rattle.tpol_cert.specs.Judgement.{judgement_of}
+use Rattle.tpol_cert.proofs.Judged.{none_where_same, one_position, some_is, told_read, told_unread}
 use Rattle.tpol_cert.proofs.ReadingLaws.{IsBytes, certificate_again, certificate_takes}
 
 -- ---- digests
@@ -35,20 +36,7 @@ same_where_none n (x ∷ xs) (y ∷ ys) e = by (is_same_digest x y) (bytes_eq-De
     by true same later h = ap (λ d. d ∷ xs) (same_digest x y (same refl)) ∙ ap (λ l. y ∷ l) (later h)
     by false same later h = absurd cc
 
-pub none_where_same : (n : ℕ) (xs : List Digest32) → first_difference n xs xs ≡ None
-none_where_same n [] = refl
-none_where_same n (x ∷ xs) =
-    ap (λ b. if b then first_difference (n + 1) xs xs else Some n) ((bytes_eq-Decides x.bytes x.bytes).1 refl) ∙ none_where_same (n + 1) xs
-
--- ---- positions
-
-one_position : (policy : Closed) (approvals : List ApprovedDoc) (m n : ℕ) (choices : List Choice) → 1 ≤ m → 1 ≤ n → slice_get (choices_of policy approvals) (m - 1) ≡ Some choices → slice_get (choices_of policy approvals) (n - 1) ≡ Some choices → m ≡ n
-one_position policy approvals m n choices h k e f =
-    let same = one_index (choices_of policy approvals) (m - 1) (n - 1) choices (choices_part policy approvals) e f in
-    omega (arith, same, h, k)
-
-some_is : {A : Type 0} (x y : A) → Some x ≡ Some y → x ≡ y
-some_is x y e = cc
+-- ---- certificates
 
 one_certificate : (bytes : List ℕ) (c d : Certificate) → certificate_in bytes ≡ Some c → Fits d → bytes ≡ spelled d → c ≡ d
 one_certificate bytes c d e fits is = some_is c d (sym e ∙ ap certificate_in is ∙ certificate_again d fits)
@@ -61,6 +49,7 @@ pub record Checks (policy : Closed) (approvals : List ApprovedDoc) (bytes : List
   pub malformed : IsErrOf result faults.Malformed → AreNoCertificate bytes
   pub no_certificate : AreNoCertificate bytes → AnswersUnlessNoMemory result (Err faults.Malformed)
   pub judged : (c : Certificate) → Fits c → bytes ≡ spelled c → Judged policy approvals c result
+  pub told : AnswersUnlessNoMemory result (judgement_of policy approvals bytes)
 
 abbrev certificate : List Choice → List Digest32 → Certificate
 certificate steps digests = record { steps = steps; digests = digests }
@@ -114,6 +103,7 @@ module _ (policy : Closed) (approvals : List ApprovedDoc) (bytes : List ℕ) whe
         malformed = λ h. absurd (not_malformed c result judged h);
         no_certificate = λ none. absurd (none c read.0 read.1);
         judged = λ d fit is. subst (λ x. Judged policy approvals x result) (one_certificate bytes c d e fit is) judged;
+        told = told_read policy approvals bytes c result e judged;
       }
     where
       certifies : (r : Result ℕ CertFault) → Judged policy approvals c r → IfOk r (λ position. Certifies bytes policy approvals position)
@@ -129,13 +119,14 @@ module _ (policy : Closed) (approvals : List ApprovedDoc) (bytes : List ℕ) whe
           cc
 
       by : (f : CertFault) → GivesWhole {A = Certificate} (Err f) (certificate_in bytes) → Checks policy approvals bytes (Err f)
-      by faults.NoMemory g = record { certifies = tt; only = λ position w. inl refl; malformed = λ m. absurd cc; no_certificate = λ none. inl refl; judged = λ d fit is. tt }
+      by faults.NoMemory g = record { certifies = tt; only = λ position w. inl refl; malformed = λ m. absurd cc; no_certificate = λ none. inl refl; judged = λ d fit is. tt; told = inl refl }
       by faults.Malformed g = record {
         certifies = tt;
         only = λ position w. absurd (nothing (certificate_of w.choices w.path) g w.fits w.spells);
         malformed = λ m d fit is. nothing d g fit is;
         no_certificate = λ none. inr refl;
         judged = λ d fit is. nothing d g fit is;
+        told = inr (told_unread policy approvals bytes g);
       }
       by (faults.NoStep number) g = absurd g
       by (faults.Differs number) g = absurd g

@@ -1,8 +1,11 @@
 pub mod Along
 pub mod Apart
 pub mod Beside
+pub mod ChoicesErased
+pub mod Fitting
 pub mod Following
 pub mod Going
+pub mod Judged
 pub mod Judging
 pub mod Loop
 pub mod ReadingLaws

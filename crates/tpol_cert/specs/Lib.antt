@@ -2,6 +2,7 @@ pub mod Certificates
 pub mod Choices
 pub mod Following
 pub mod Going
+pub mod Judgement
 pub mod Judging
 pub mod Laws
 pub mod Reading

@@ -13,7 +13,7 @@ use crate::walk::{Scope, push_elements};
 use crate::{Choice, Choices};
 use std::alloc::Global;
 use tpol_base::{Blob, Digest32, NoMemory};
-use tpol_digest::{MAX_LEVELS, digest_after_move, path_at, zero_digest};
+use tpol_digest::{MAX_LEVELS, count_ways, digest_after_move, path_at, zero_digest};
 use tpol_tree::{Approvals, Closed, Move};
 
 /// The certificate of the path that has a position, from 1: `46504331`, the number of choices in 2 bytes, the choices,
@@ -34,8 +34,10 @@ pub fn certify(
         approvals: approvals.as_slice(),
         levels: MAX_LEVELS,
     };
+    let count = count_ways(scope.approvals, scope.levels, &policy.elements);
+    let index = u64::from(path - 1);
     let mut choices = Choices::new(alloc);
-    push_elements(&scope, &mut choices, &policy.elements, u64::from(path - 1))?;
+    push_elements(&scope, &mut choices, &policy.elements, index, count)?;
     let way = path_at(alloc, policy, approvals, path)?;
     let mut bytes = Blob::new(alloc);
     bytes.extend_from_slice(b"FPC1")?;

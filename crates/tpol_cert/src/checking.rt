@@ -4,6 +4,7 @@ ghost use Rattle.std.specs.Prelude.{◌≡◌, ◌+◌, ◌-◌, ◌<◌, ◌≤
 ghost use Rattle.std.specs.List.{slice_get};
 ghost use Rattle.tpol_cert.specs.Certificates.{Certifies, digests_along};
 ghost use Rattle.tpol_cert.specs.Choices.{choices_of};
+ghost use Rattle.tpol_cert.specs.Judgement.{judgement_of};
 ghost use Rattle.tpol_cert.specs.Judging as judging;
 ghost use Rattle.tpol_cert.specs.Judging.{AnswersUnlessNoMemory, AreNoCertificate, IsLost, Judged};
 ghost use Rattle.tpol_cert.specs.Spelling.{Fits, spelled};
@@ -19,7 +20,7 @@ use crate::walk::Scope;
 use crate::{CertFault, Certificate, Choice};
 use std::alloc::Global;
 use tpol_base::Digest32;
-use tpol_digest::{MAX_LEVELS, digest_after_move, path_at, zero_digest};
+use tpol_digest::{MAX_LEVELS, count_ways, digest_after_move, path_at, zero_digest};
 use tpol_tree::{Approvals, Closed, Move};
 
 /// The position, from 1, of the path that these bytes certify. It follows the choices, counts the ways that they pass
@@ -51,6 +52,9 @@ pub fn check(
         → AnswersUnlessNoMemory result (Err CertFault.Malformed) }
     ensures judged { (c : OneCertificate) → Fits c → bytes.now ≡ spelled c
         → Judged policy.now approvals.now c result }
+
+    // The same as one value.
+    ensures told { AnswersUnlessNoMemory result (judgement_of policy.now approvals.now bytes.now) }
 {
     let certificate = read_certificate(alloc, bytes)?;
     judge(alloc, policy, approvals, &certificate)
@@ -95,7 +99,8 @@ fn position_of(policy: &Closed, approvals: &Approvals, steps: &[Choice]) -> Resu
         approvals: approvals.as_slice(),
         levels: MAX_LEVELS,
     };
-    let left = match follow_elements(&scope, &policy.elements, steps) {
+    let count = count_ways(scope.approvals, scope.levels, &policy.elements);
+    let left = match follow_elements(&scope, &policy.elements, count, steps) {
         Ok(led) => {
             if led.left.is_empty() {
                 return Ok(led.index as u32 + 1);

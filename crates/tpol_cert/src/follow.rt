@@ -8,7 +8,7 @@ ghost use Rattle.tpol_cert.specs.declared.follow.Stray.TheVariants as strays;
 use crate::Choice;
 use crate::walk::{Scope, next_number};
 use tpol_base::NoMemory;
-use tpol_digest::{accepts, count_ways};
+use tpol_digest::{accepts, count_element_ways, count_ways};
 use tpol_tree::{ClosedBranches, ClosedElement, ClosedElements};
 
 // A way that steps lead to: its index among those of a part, from 0, and the steps behind it.
@@ -34,14 +34,16 @@ impl From<NoMemory> for Stray<'_> {
     }
 }
 
-// Follows steps through elements.
+// Follows steps through elements, which have `count` ways.
 #[cycle(follow)]
 pub fn follow_elements<'a>(
     scope: &Scope<'_>,
     elements: &ClosedElements,
+    count: u64,
     steps: &'a [Choice],
 ) -> Result<Led<'a>, Stray<'a>>
-    requires few { length (element_list_choices scope.now.approvals.now scope.now.levels elements.now) ≤ 65536 }
+    requires counted { count ≡ length (element_list_choices scope.now.approvals.now scope.now.levels elements.now) }
+    requires few { count ≤ 65536 }
     ensures leads { IfOk result (λ led. Leads (element_list_choices scope.now.approvals.now scope.now.levels elements.now) steps.now led.index led.left.now) }
     ensures strays { IfErr result (λ stray. IsStray (element_list_choices scope.now.approvals.now scope.now.levels elements.now) steps.now stray) }
 {
@@ -51,12 +53,13 @@ pub fn follow_elements<'a>(
             left: steps,
         }),
         ClosedElements::More(element, rest) => {
-            let behind = count_ways(scope.approvals, scope.levels, rest);
-            if behind == 0 {
+            if count == 0 {
                 return Err(Stray::At(steps));
             }
+            let ways = count_element_ways(scope.approvals, scope.levels, element);
+            let behind = count / ways;
             let first = follow_element(scope, element, steps)?;
-            let second = follow_elements(scope, rest, first.left)?;
+            let second = follow_elements(scope, rest, behind, first.left)?;
             Ok(Led {
                 index: first.index * behind + second.index,
                 left: second.left,
@@ -110,7 +113,7 @@ fn follow_branch<'a>(
                     if count == 0 {
                         return Err(Stray::At(steps));
                     }
-                    follow_elements(scope, elements, rest)
+                    follow_elements(scope, elements, count, rest)
                 }
                 None => {
                     let next = next_number(position)?;
@@ -151,7 +154,7 @@ fn follow_approval<'a>(
                     if count == 0 {
                         return Err(Stray::At(steps));
                     }
-                    let led = follow_elements(&inside, elements, rest)?;
+                    let led = follow_elements(&inside, elements, count, rest)?;
                     return Ok(Led {
                         index: passed + led.index,
                         left: led.left,

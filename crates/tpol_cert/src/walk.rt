@@ -6,7 +6,7 @@ ghost use Rattle.tpol_cert.specs.Going.{GoesOn};
 
 use crate::{Choice, Choices};
 use tpol_base::NoMemory;
-use tpol_digest::{accepts, count_ways};
+use tpol_digest::{accepts, count_element_ways, count_ways};
 use tpol_tree::{ApprovedDoc, ClosedBranches, ClosedElement, ClosedElements};
 
 // The approved documents, which may be entered `levels` deep where the walk is.
@@ -16,24 +16,27 @@ pub struct Scope<'a> {
     pub levels: u8,
 }
 
-// Adds the choices of the way through elements that has an index among them, from 0.
+// Adds the choices of the way through elements that has an index among their `count` ways, from 0.
 #[cycle(walk)]
 pub fn push_elements(
     scope: &Scope<'_>,
     choices: &mut Choices,
     elements: &ClosedElements,
     index: u64,
+    count: u64,
 ) -> Result<(), NoMemory>
-    requires few { length (element_list_choices scope.now.approvals.now scope.now.levels elements.now) ≤ 65536 }
-    requires inside { index < length (element_list_choices scope.now.approvals.now scope.now.levels elements.now) }
+    requires counted { count ≡ length (element_list_choices scope.now.approvals.now scope.now.levels elements.now) }
+    requires few { count ≤ 65536 }
+    requires inside { index < count }
     ensures { OnOk result (GoesOn choices.old (element_list_choices scope.now.approvals.now scope.now.levels elements.now) index choices.new) }
 {
     match elements {
         ClosedElements::End => Ok(()),
         ClosedElements::More(element, rest) => {
-            let behind = count_ways(scope.approvals, scope.levels, rest);
+            let ways = count_element_ways(scope.approvals, scope.levels, element);
+            let behind = count / ways;
             push_element(scope, choices, element, index / behind)?;
-            push_elements(scope, choices, rest, index % behind)
+            push_elements(scope, choices, rest, index % behind, behind)
         }
     }
 }
@@ -79,7 +82,7 @@ fn push_branch(
             let count = count_ways(scope.approvals, scope.levels, elements);
             if index < count {
                 choices.push(Choice::Branch(position))?;
-                push_elements(scope, choices, elements, index)
+                push_elements(scope, choices, elements, index, count)
             } else {
                 push_branch(scope, choices, rest, next_number(position)?, index - count)
             }
@@ -120,7 +123,7 @@ fn push_approval(
                 let count = count_ways(scope.approvals, inside.levels, elements);
                 if left < count {
                     choices.push(Choice::Document(number))?;
-                    return push_elements(&inside, choices, elements, left);
+                    return push_elements(&inside, choices, elements, left, count);
                 }
                 left -= count;
                 number = next_number(number)?;

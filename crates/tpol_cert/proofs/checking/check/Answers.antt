@@ -34,6 +34,11 @@ returns-in_err-certificate-clause-judged c =
     let p = err_from_is_err_and c.from_residual.result c.from_residual.ensures.1 in
     (unread c.args.policy.now c.args.approvals.now c.args.bytes.now c.read_certificate.result c.from_residual.result c.in_err-certificate.field-0.0 p.0 p.1 p.2 c.in_err-certificate.was c.read_certificate.ensures.read).judged
 
+pub returns-in_err-certificate-clause-told : goal.returns-in_err-certificate-clause-told
+returns-in_err-certificate-clause-told c =
+    let p = err_from_is_err_and c.from_residual.result c.from_residual.ensures.1 in
+    (unread c.args.policy.now c.args.approvals.now c.args.bytes.now c.read_certificate.result c.from_residual.result c.in_err-certificate.field-0.0 p.0 p.1 p.2 c.in_err-certificate.was c.read_certificate.ensures.read).told
+
 pub judge-requires-clause-few : goal.judge-requires-clause-few
 judge-requires-clause-few c = (certificate_takes c.args.bytes.now c.in_ok-certificate.certificate (λ i. omega (arith, c.type_inv.bytes i)) c.in_ok-certificate.ensures.read).0.steps
 
@@ -56,3 +61,7 @@ returns-clause-no_certificate c =
 pub returns-clause-judged : goal.returns-clause-judged
 returns-clause-judged c =
     (checked c.args.policy.now c.args.approvals.now c.args.bytes.now c.in_ok-certificate.certificate c.judge.result (λ i. omega (arith, c.type_inv.bytes i)) c.in_ok-certificate.ensures.read c.judge.ensures.judged).judged
+
+pub returns-clause-told : goal.returns-clause-told
+returns-clause-told c =
+    (checked c.args.policy.now c.args.approvals.now c.args.bytes.now c.in_ok-certificate.certificate c.judge.result (λ i. omega (arith, c.type_inv.bytes i)) c.in_ok-certificate.ensures.read c.judge.ensures.judged).told

@@ -4,12 +4,22 @@ use Rattle.tpol_cert.specs.Choices.{choices_of, element_list_choices}
 use Rattle.tpol_cert.specs.Following.{Leads, Strays}
 use Rattle.tpol_cert.proofs.Apart.{choices_part}
 use Rattle.tpol_cert.proofs.Following.{leads_too_far, strays_nowhere}
+use Rattle.tpol_cert.proofs.Going.{counted}
 use Rattle.tpol_cert.proofs.checking.position_of.Goals as goal
 use Rattle.tpol_cert.proofs.checking.position_of.Goals.{in-Ok+else-is_empty, in-Err-At}
 
 some_left : (n : ℕ) → (n == 0) ≡ false → 0 < n
 some_left zero e = absurd cc
 some_left (suc n) e = omega arith
+
+pub follow_elements-requires : goal.follow_elements-requires
+follow_elements-requires c =
+    let lent = c.as_slice.result.now in
+    let policy = c.args.policy.now in
+    let few = c.requires.ways in
+    let ways = ap (λ l. length (element_list_choices l 4 policy.elements)) c.as_slice.ensures in
+    let count = counted lent 4 policy.elements c.count_ways-count.result c.count_ways-count.ensures.ways in
+    record { counted = omega (arith, count, ways, few); few = omega (arith, count, ways, few) }
 
 pub returns-clause-lost : goal.returns-clause-lost
 returns-clause-lost c =

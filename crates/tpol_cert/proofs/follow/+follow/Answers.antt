@@ -1,4 +1,4 @@
-use Rattle.std.proofs.Common.{◌≡◌, ◌≢◌, ℕ, drop, ◌+◌, ◌-◌, ◌*◌, ◌<◌, ◌≤◌, ◌++◌, List, min, [], ◌∷◌, length, refl, subst, sym, ap, ◌∙◌, length-append, arith}
+use Rattle.std.proofs.Common.{◌≡◌, ◌≢◌, ℕ, drop, ◌+◌, ◌-◌, ◌*◌, ◌/◌, ◌<◌, ◌≤◌, ◌++◌, List, min, [], ◌∷◌, length, refl, subst, sym, ap, ◌∙◌, length-append, arith}
 use Rattle.std.proofs.lemmas.List.{length-map}
 use Rattle.std.proofs.lemmas.Result.{IfOk-weaker, IfErr-weaker, err_from_is_err_and}
 use Rattle.tpol_tree.specs.declared.closed.ClosedElement.{ClosedElement}
@@ -10,140 +10,157 @@ use Rattle.tpol_cert.specs.declared.choice.Choice.TheVariants.{Branch, Document,
 use Rattle.tpol_cert.specs.Choices.{approval_choices, approved_choices, behind, branch_choices, document_choices, each_with, element_choices, element_list_choices}
 use Rattle.tpol_cert.specs.Following.{IsStray, Leads, Strays}
 use Rattle.tpol_cert.proofs.Apart.{branches_part, documents_are_apart, documents_from, element_part}
-use Rattle.tpol_cert.proofs.Following.{Untouched, few_first, few_second, fits_two, leads_behind, leads_past, leads_through, leads_within, stray_by, strays_behind, strays_empty, strays_first, strays_past, strays_second, strays_untouched, strays_without, untouched_append, untouched_behind, untouched_branches, untouched_documents}
-use Rattle.tpol_cert.proofs.Going.{choices_from, counted, counted_first, from_entered, from_none, from_passed, length-product, no_documents}
+use Rattle.tpol_cert.proofs.Following.{Untouched, fits_two, leads_behind, leads_past, leads_through, leads_within, stray_by, strays_behind, strays_empty, strays_first, strays_past, strays_none, strays_second, strays_untouched, untouched_append, untouched_behind, untouched_branches, untouched_documents}
+use Rattle.tpol_cert.proofs.Going.{choices_from, counted, counted_first, from_entered, from_none, from_passed, length-product, no_documents, parted}
 use Rattle.tpol_cert.proofs.follow.+follow.Goals as goal
 use Rattle.tpol_cert.proofs.follow.+follow.Goals.{follow_approval-then-accepts+in_default+in_ok-number, follow_approval-else-accepts, follow_approval-then-scope-gt0+else-loop-document-test, follow_approval-else-scope-gt0}
 
 -- ---- elements
 
-pub follow_elements-returns-then-behind-eq0-clause-strays : goal.follow_elements-returns-then-behind-eq0-clause-strays
-follow_elements-returns-then-behind-eq0-clause-strays t c =
+pub follow_elements-returns-then-count-eq0-clause-strays : goal.follow_elements-returns-then-count-eq0-clause-strays
+follow_elements-returns-then-count-eq0-clause-strays t c =
     let documents = c.args.scope.now.approvals.now in
     let levels = c.args.scope.now.levels in
-    let count = subst (λ e. c.count_ways-behind.result ≡ min (length (element_list_choices documents levels e)) 65537) c.deref.ensures (counted documents levels c.deref.result.now c.count_ways-behind.result c.count_ways-behind.ensures.ways) in
-    let none : length (element_list_choices documents levels c.in-More.rest.value) ≡ 0 = omega (arith, count, c.if-behind-eq0.true) in
-    rw c.in-More.is (strays_without c.args.steps.now (element_choices documents levels c.in-More.element.value) (element_list_choices documents levels c.in-More.rest.value) none)
+    let all = each_with (element_choices documents levels c.in-More.element.value) (element_list_choices documents levels c.in-More.rest.value) in
+    let counted : c.args.count ≡ length all = rw c.in-More.is at c.requires.counted in
+    rw c.in-More.is (strays_none c.args.steps.now all (omega (arith, counted, c.if-count-eq0.true)))
+
+pub follow_elements-nonzero_div-behind : goal.follow_elements-nonzero_div-behind
+follow_elements-nonzero_div-behind t c =
+    let documents = c.args.scope.now.approvals.now in
+    let levels = c.args.scope.now.levels in
+    let element = c.in-More.element.value in
+    let rest = c.in-More.rest.value in
+    let firsts = element_choices documents levels element in
+    let rests = element_list_choices documents levels rest in
+    let counted = rw c.in-More.is at c.requires.counted in
+    let p = parted documents levels element c.deref.result.now rest c.count_element_ways-ways.result c.args.count 0 c.deref.ensures c.count_element_ways-ways.ensures.ways counted c.requires.few (omega (arith, c.if-count-eq0.false)) in
+    p.divides
 
 pub follow_elements-follow_element-requires : goal.follow_elements-follow_element-requires
 follow_elements-follow_element-requires t c =
     let documents = c.args.scope.now.approvals.now in
     let levels = c.args.scope.now.levels in
-    let firsts = element_choices documents levels c.in-More.element.value in
-    let rests = element_list_choices documents levels c.in-More.rest.value in
-    let count = subst (λ e. c.count_ways-behind.result ≡ min (length (element_list_choices documents levels e)) 65537) c.deref.ensures (counted documents levels c.deref.result.now c.count_ways-behind.result c.count_ways-behind.ensures.ways) in
-    let some : 0 < length rests = omega (arith, count, c.if-behind-eq0.false) in
-    let few : length (each_with firsts rests) ≤ 65536 = rw c.in-More.is at c.requires.few in
-    let first = few_first (length firsts) (length rests) some (omega (arith, few, length-product firsts rests)) in
+    let element = c.in-More.element.value in
+    let rest = c.in-More.rest.value in
+    let firsts = element_choices documents levels element in
+    let rests = element_list_choices documents levels rest in
+    let counted = rw c.in-More.is at c.requires.counted in
+    let p = parted documents levels element c.deref.result.now rest c.count_element_ways-ways.result c.args.count 0 c.deref.ensures c.count_element_ways-ways.ensures.ways counted c.requires.few (omega (arith, c.if-count-eq0.false)) in
     let same = ap (λ e. length (element_choices documents levels e)) c.deref-in-More.ensures in
-    (omega (arith, rw c.in-More.is at c.decreases, ap weight_of_element c.deref-in-More.ensures), omega (arith, first, same))
+    (omega (arith, rw c.in-More.is at c.decreases, ap weight_of_element c.deref-in-More.ensures), omega (arith, p.first_few, same))
 
 pub follow_elements-returns-in_err-first-in-More-clause-strays : goal.follow_elements-returns-in_err-first-in-More-clause-strays
 follow_elements-returns-in_err-first-in-More-clause-strays t c =
     let documents = c.args.scope.now.approvals.now in
     let levels = c.args.scope.now.levels in
-    let firsts = element_choices documents levels c.in-More.element.value in
-    let rests = element_list_choices documents levels c.in-More.rest.value in
+    let element = c.in-More.element.value in
+    let rest = c.in-More.rest.value in
+    let firsts = element_choices documents levels element in
+    let rests = element_list_choices documents levels rest in
+    let counted = rw c.in-More.is at c.requires.counted in
+    let p = parted documents levels element c.deref.result.now rest c.count_element_ways-ways.result c.args.count 0 c.deref.ensures c.count_element_ways-ways.ensures.ways counted c.requires.few (omega (arith, c.if-count-eq0.false)) in
     let steps = c.args.steps.now in
     let stray = c.in_err-first-in-More.field-0.0 in
-    let count = subst (λ e. c.count_ways-behind.result ≡ min (length (element_list_choices documents levels e)) 65537) c.deref.ensures (counted documents levels c.deref.result.now c.count_ways-behind.result c.count_ways-behind.ensures.ways) in
-    let some : 0 < length rests = omega (arith, count, c.if-behind-eq0.false) in
+    let some : 0 < length rests = omega (arith, p.behind, p.behind_divides) in
     let here = subst (λ e. IsStray (element_choices documents levels e) steps stray) c.deref-in-More.ensures c.in_err-first-in-More.ensures.strays in
     let whole = stray_by firsts (each_with firsts rests) steps steps stray (λ left h. strays_first steps left firsts rests some h) here in
-    let p = err_from_is_err_and c.from_residual.result c.from_residual.ensures.1 in
-    rw (c.in-More.is, p.1, p.2) whole
+    let q = err_from_is_err_and c.from_residual.result c.from_residual.ensures.1 in
+    rw (c.in-More.is, q.1, q.2) whole
 
 pub follow_elements-follow_elements-requires : goal.follow_elements-follow_elements-requires
 follow_elements-follow_elements-requires t c =
     let documents = c.args.scope.now.approvals.now in
     let levels = c.args.scope.now.levels in
-    let firsts = element_choices documents levels c.in-More.element.value in
-    let rests = element_list_choices documents levels c.in-More.rest.value in
-    let led = c.in_ok-first-in-More.first in
-    let here = subst (λ e. Leads (element_choices documents levels e) c.args.steps.now led.index led.left.now) c.deref-in-More.ensures c.in_ok-first-in-More.ensures.leads in
-    let inside = leads_within firsts c.args.steps.now led.left.now led.index here in
-    let few : length (each_with firsts rests) ≤ 65536 = rw c.in-More.is at c.requires.few in
-    let second = few_second (length firsts) (length rests) (omega (arith, inside)) (omega (arith, few, length-product firsts rests)) in
-    let same = ap (λ e. length (element_list_choices documents levels e)) c.deref-in-More-2.ensures in
-    (omega (arith, rw c.in-More.is at c.decreases, ap weight c.deref-in-More-2.ensures), omega (arith, second, same))
+    let element = c.in-More.element.value in
+    let rest = c.in-More.rest.value in
+    let firsts = element_choices documents levels element in
+    let rests = element_list_choices documents levels rest in
+    let counted = rw c.in-More.is at c.requires.counted in
+    let p = parted documents levels element c.deref.result.now rest c.count_element_ways-ways.result c.args.count 0 c.deref.ensures c.count_element_ways-ways.ensures.ways counted c.requires.few (omega (arith, c.if-count-eq0.false)) in (
+      omega (arith, rw c.in-More.is at c.decreases, ap weight c.deref-in-More-2.ensures),
+      (p.behind ∙ ap (λ e. length (element_list_choices documents levels e)) (sym c.deref-in-More-2.ensures), p.rest_few),
+    )
 
 pub follow_elements-returns-in_err-second-in-More-clause-strays : goal.follow_elements-returns-in_err-second-in-More-clause-strays
 follow_elements-returns-in_err-second-in-More-clause-strays t c =
     let documents = c.args.scope.now.approvals.now in
     let levels = c.args.scope.now.levels in
     let element = c.in-More.element.value in
+    let rest = c.in-More.rest.value in
     let firsts = element_choices documents levels element in
-    let rests = element_list_choices documents levels c.in-More.rest.value in
+    let rests = element_list_choices documents levels rest in
+    let counted = rw c.in-More.is at c.requires.counted in
+    let p = parted documents levels element c.deref.result.now rest c.count_element_ways-ways.result c.args.count 0 c.deref.ensures c.count_element_ways-ways.ensures.ways counted c.requires.few (omega (arith, c.if-count-eq0.false)) in
     let steps = c.args.steps.now in
     let led = c.in_ok-first-in-More.first in
     let stray = c.in_err-second-in-More.field-0.0 in
-    let count = subst (λ e. c.count_ways-behind.result ≡ min (length (element_list_choices documents levels e)) 65537) c.deref.ensures (counted documents levels c.deref.result.now c.count_ways-behind.result c.count_ways-behind.ensures.ways) in
-    let some : 0 < length rests = omega (arith, count, c.if-behind-eq0.false) in
+    let some : 0 < length rests = omega (arith, p.behind, p.behind_divides) in
     let first = subst (λ e. Leads (element_choices documents levels e) steps led.index led.left.now) c.deref-in-More.ensures c.in_ok-first-in-More.ensures.leads in
     let apart = element_part (document_choices documents levels) documents (documents_are_apart documents levels) element in
     let here = subst (λ e. IsStray (element_list_choices documents levels e) led.left.now stray) c.deref-in-More-2.ensures c.in_err-second-in-More.ensures.strays in
     let whole = stray_by rests (each_with firsts rests) led.left.now steps stray (λ left h. strays_second steps led.left.now left firsts rests led.index apart some first h) here in
-    let p = err_from_is_err_and c.from_residual-in_err-second-in-More.result c.from_residual-in_err-second-in-More.ensures.1 in
-    rw (c.in-More.is, p.1, p.2) whole
+    let q = err_from_is_err_and c.from_residual-in_err-second-in-More.result c.from_residual-in_err-second-in-More.ensures.1 in
+    rw (c.in-More.is, q.1, q.2) whole
 
 pub follow_elements-overflow_mul-result : goal.follow_elements-overflow_mul-result
 follow_elements-overflow_mul-result t c =
     let documents = c.args.scope.now.approvals.now in
     let levels = c.args.scope.now.levels in
-    let firsts = element_choices documents levels c.in-More.element.value in
-    let rests = element_list_choices documents levels c.in-More.rest.value in
+    let element = c.in-More.element.value in
+    let rest = c.in-More.rest.value in
+    let firsts = element_choices documents levels element in
+    let rests = element_list_choices documents levels rest in
+    let counted = rw c.in-More.is at c.requires.counted in
+    let p = parted documents levels element c.deref.result.now rest c.count_element_ways-ways.result c.args.count 0 c.deref.ensures c.count_element_ways-ways.ensures.ways counted c.requires.few (omega (arith, c.if-count-eq0.false)) in
     let led = c.in_ok-first-in-More.first in
     let next = c.in_ok-second-in-More.second in
-    let count = subst (λ e. c.count_ways-behind.result ≡ min (length (element_list_choices documents levels e)) 65537) c.deref.ensures (counted documents levels c.deref.result.now c.count_ways-behind.result c.count_ways-behind.ensures.ways) in
+    let behind = c.args.count / c.count_element_ways-ways.result in
     let first = subst (λ e. Leads (element_choices documents levels e) c.args.steps.now led.index led.left.now) c.deref-in-More.ensures c.in_ok-first-in-More.ensures.leads in
     let second = subst (λ e. Leads (element_list_choices documents levels e) led.left.now next.index next.left.now) c.deref-in-More-2.ensures c.in_ok-second-in-More.ensures.leads in
     let i = leads_within firsts c.args.steps.now led.left.now led.index first in
     let j = leads_within rests led.left.now next.left.now next.index second in
-    let few : length (each_with firsts rests) ≤ 65536 = rw c.in-More.is at c.requires.few in
-    let most : length firsts * length rests ≤ 65536 = omega (arith, few, length-product firsts rests) in
-    let small = few_second (length firsts) (length rests) (omega (arith, i)) most in
-    let same : c.count_ways-behind.result ≡ length rests = omega (arith, count, small) in
-    let both = fits_two led.index next.index (length firsts) (length rests) most i j in
-    let whole : led.index * c.count_ways-behind.result ≤ 65536 = subst (λ n. led.index * n ≤ 65536) (sym same) both.0 in
+    let both = fits_two led.index next.index (length firsts) (length rests) (omega (arith, counted, c.requires.few, length-product firsts rests)) i j in
+    let whole : led.index * behind ≤ 65536 = subst (λ n. led.index * n ≤ 65536) (sym p.behind) both.0 in
     omega (arith, whole)
 
 pub follow_elements-overflow_add-result : goal.follow_elements-overflow_add-result
 follow_elements-overflow_add-result t c =
     let documents = c.args.scope.now.approvals.now in
     let levels = c.args.scope.now.levels in
-    let firsts = element_choices documents levels c.in-More.element.value in
-    let rests = element_list_choices documents levels c.in-More.rest.value in
+    let element = c.in-More.element.value in
+    let rest = c.in-More.rest.value in
+    let firsts = element_choices documents levels element in
+    let rests = element_list_choices documents levels rest in
+    let counted = rw c.in-More.is at c.requires.counted in
+    let p = parted documents levels element c.deref.result.now rest c.count_element_ways-ways.result c.args.count 0 c.deref.ensures c.count_element_ways-ways.ensures.ways counted c.requires.few (omega (arith, c.if-count-eq0.false)) in
     let led = c.in_ok-first-in-More.first in
     let next = c.in_ok-second-in-More.second in
-    let count = subst (λ e. c.count_ways-behind.result ≡ min (length (element_list_choices documents levels e)) 65537) c.deref.ensures (counted documents levels c.deref.result.now c.count_ways-behind.result c.count_ways-behind.ensures.ways) in
+    let behind = c.args.count / c.count_element_ways-ways.result in
     let first = subst (λ e. Leads (element_choices documents levels e) c.args.steps.now led.index led.left.now) c.deref-in-More.ensures c.in_ok-first-in-More.ensures.leads in
     let second = subst (λ e. Leads (element_list_choices documents levels e) led.left.now next.index next.left.now) c.deref-in-More-2.ensures c.in_ok-second-in-More.ensures.leads in
     let i = leads_within firsts c.args.steps.now led.left.now led.index first in
     let j = leads_within rests led.left.now next.left.now next.index second in
-    let few : length (each_with firsts rests) ≤ 65536 = rw c.in-More.is at c.requires.few in
-    let most : length firsts * length rests ≤ 65536 = omega (arith, few, length-product firsts rests) in
-    let small = few_second (length firsts) (length rests) (omega (arith, i)) most in
-    let same : c.count_ways-behind.result ≡ length rests = omega (arith, count, small) in
-    let both = fits_two led.index next.index (length firsts) (length rests) most i j in
-    let whole : led.index * c.count_ways-behind.result + next.index ≤ 65536 = subst (λ n. led.index * n + next.index ≤ 65536) (sym same) both.1 in
+    let both = fits_two led.index next.index (length firsts) (length rests) (omega (arith, counted, c.requires.few, length-product firsts rests)) i j in
+    let whole : led.index * behind + next.index ≤ 65536 = subst (λ n. led.index * n + next.index ≤ 65536) (sym p.behind) both.1 in
     omega (arith, whole)
 
 pub follow_elements-returns-in_ok-second-in-More-clause-leads : goal.follow_elements-returns-in_ok-second-in-More-clause-leads
 follow_elements-returns-in_ok-second-in-More-clause-leads t c =
     let documents = c.args.scope.now.approvals.now in
     let levels = c.args.scope.now.levels in
-    let firsts = element_choices documents levels c.in-More.element.value in
-    let rests = element_list_choices documents levels c.in-More.rest.value in
+    let element = c.in-More.element.value in
+    let rest = c.in-More.rest.value in
+    let firsts = element_choices documents levels element in
+    let rests = element_list_choices documents levels rest in
+    let counted = rw c.in-More.is at c.requires.counted in
+    let p = parted documents levels element c.deref.result.now rest c.count_element_ways-ways.result c.args.count 0 c.deref.ensures c.count_element_ways-ways.ensures.ways counted c.requires.few (omega (arith, c.if-count-eq0.false)) in
     let led = c.in_ok-first-in-More.first in
     let next = c.in_ok-second-in-More.second in
-    let count = subst (λ e. c.count_ways-behind.result ≡ min (length (element_list_choices documents levels e)) 65537) c.deref.ensures (counted documents levels c.deref.result.now c.count_ways-behind.result c.count_ways-behind.ensures.ways) in
+    let behind = c.args.count / c.count_element_ways-ways.result in
     let first = subst (λ e. Leads (element_choices documents levels e) c.args.steps.now led.index led.left.now) c.deref-in-More.ensures c.in_ok-first-in-More.ensures.leads in
     let second = subst (λ e. Leads (element_list_choices documents levels e) led.left.now next.index next.left.now) c.deref-in-More-2.ensures c.in_ok-second-in-More.ensures.leads in
-    let i = leads_within firsts c.args.steps.now led.left.now led.index first in
-    let few : length (each_with firsts rests) ≤ 65536 = rw c.in-More.is at c.requires.few in
-    let small = few_second (length firsts) (length rests) (omega (arith, i)) (omega (arith, few, length-product firsts rests)) in
-    let same : c.count_ways-behind.result ≡ length rests = omega (arith, count, small) in
-    rw c.in-More.is (leads_through c.args.steps.now led.left.now next.left.now firsts rests led.index next.index (led.index * c.count_ways-behind.result + next.index) first second (ap (λ n. led.index * n + next.index) same))
+    rw c.in-More.is (leads_through c.args.steps.now led.left.now next.left.now firsts rests led.index next.index (led.index * behind + next.index) first second (ap (λ n. led.index * n + next.index) p.behind))
 
 -- ---- branches
 
@@ -166,9 +183,11 @@ follow_branch-follow_elements-requires t c =
     let same = ap (λ (b : ClosedBranch). b.policy.elements) c.deref.ensures in
     let inner = element_list_choices documents levels c.in-More.branch.value.policy.elements in
     let others = branch_choices documents levels c.in-More.others.value (c.args.position + 1) in
-    let ways = ap (λ e. length (element_list_choices documents levels e)) same in (
+    let few = rw c.in-More.is at c.requires.few in
+    let count = subst (λ e. c.count_ways-count.result ≡ min (length (element_list_choices documents levels e)) 65537) same (counted documents levels c.deref.result.now.policy.elements c.count_ways-count.result c.count_ways-count.ensures.ways) in
+    let exact = counted_first c.count_ways-count.result (Branch c.args.position) inner others count few in (
       omega (arith, rw c.in-More.is at c.decreases, ap weight same),
-      omega (arith, ways, length-append (behind (Branch c.args.position) inner) others, length-map inner (λ rest. Branch c.args.position ∷ rest), rw c.in-More.is at c.requires.few),
+      (exact.0 ∙ ap (λ e. length (element_list_choices documents levels e)) (sym same), omega (arith, exact.1, few)),
     )
 
 pub follow_branch-returns-else-count-eq0-clause-leads : goal.follow_branch-returns-else-count-eq0-clause-leads
@@ -305,10 +324,11 @@ follow_approval-follow_elements-requires t c =
     let less = level_less levels (greatest documents) (weight document.closed.elements) (omega (arith, c.if-scope-gt0.true)) lighter in
     let inner = element_list_choices documents (levels - 1) document.closed.elements in
     let later = choices_from documents levels element (number + 1) (index + 1) in
-    let entered = from_entered documents levels element number index document c.loop-document-test.true c.document-item.is level (sym c.accepts.ensures ∙ c.if-accepts.true) in (
-      omega (arith, less, c.decreases),
-      omega (arith, ap length entered, length-append (behind (Document number) inner) later, length-map inner (λ rest. Document number ∷ rest), c.loop-document.invariant.few),
-    )
+    let entered = from_entered documents levels element number index document c.loop-document-test.true c.document-item.is level (sym c.accepts.ensures ∙ c.if-accepts.true) in
+    let few : length (behind (Document number) inner ++ later) ≤ 65536 = omega (arith, ap length entered, c.loop-document.invariant.few) in
+    let count = counted documents (levels - 1) document.closed.elements c.count_ways-count.result c.count_ways-count.ensures.ways in
+    let exact = counted_first c.count_ways-count.result (Document number) inner later count few in
+    (omega (arith, less, c.decreases), (exact.0, omega (arith, exact.1, few)))
 
 pub follow_approval-returns-in_err-led-clause-strays : goal.follow_approval-returns-in_err-led-clause-strays
 follow_approval-returns-in_err-led-clause-strays t c =

@@ -12,14 +12,23 @@ use Rattle.tpol_cert.proofs.walk.+walk.Goals.{push_approval-then-accepts+else-le
 
 -- ---- elements
 
+pub push_elements-nonzero_div-behind : goal.push_elements-nonzero_div-behind
+push_elements-nonzero_div-behind t c =
+    let documents = c.args.scope.now.approvals.now in
+    let levels = c.args.scope.now.levels in
+    let element = c.in-More.element.value in
+    let rest = c.in-More.rest.value in
+    let p = parted documents levels element c.deref.result.now rest c.count_element_ways-ways.result c.args.count c.args.index c.deref.ensures c.count_element_ways-ways.ensures.ways (rw c.in-More.is at c.requires.counted) c.requires.few c.requires.inside in
+    p.divides
+
 pub push_elements-nonzero_div-index : goal.push_elements-nonzero_div-index
 push_elements-nonzero_div-index t c =
     let documents = c.args.scope.now.approvals.now in
     let levels = c.args.scope.now.levels in
     let element = c.in-More.element.value in
     let rest = c.in-More.rest.value in
-    let count = subst (λ e. c.count_ways-behind.result ≡ min (length (element_list_choices documents levels e)) 65537) c.deref.ensures (counted documents levels c.deref.result.now c.count_ways-behind.result c.count_ways-behind.ensures.ways) in
-    (parted c.count_ways-behind.result c.args.index (element_choices documents levels element) (element_list_choices documents levels rest) (rw c.in-More.is at c.requires.few) (rw c.in-More.is at c.requires.inside) count).positive
+    let p = parted documents levels element c.deref.result.now rest c.count_element_ways-ways.result c.args.count c.args.index c.deref.ensures c.count_element_ways-ways.ensures.ways (rw c.in-More.is at c.requires.counted) c.requires.few c.requires.inside in
+    p.behind_divides
 
 pub push_elements-nonzero_rem-index : goal.push_elements-nonzero_rem-index
 push_elements-nonzero_rem-index t c =
@@ -27,8 +36,8 @@ push_elements-nonzero_rem-index t c =
     let levels = c.args.scope.now.levels in
     let element = c.in-More.element.value in
     let rest = c.in-More.rest.value in
-    let count = subst (λ e. c.count_ways-behind.result ≡ min (length (element_list_choices documents levels e)) 65537) c.deref.ensures (counted documents levels c.deref.result.now c.count_ways-behind.result c.count_ways-behind.ensures.ways) in
-    (parted c.count_ways-behind.result c.args.index (element_choices documents levels element) (element_list_choices documents levels rest) (rw c.in-More.is at c.requires.few) (rw c.in-More.is at c.requires.inside) count).positive
+    let p = parted documents levels element c.deref.result.now rest c.count_element_ways-ways.result c.args.count c.args.index c.deref.ensures c.count_element_ways-ways.ensures.ways (rw c.in-More.is at c.requires.counted) c.requires.few c.requires.inside in
+    p.behind_divides
 
 pub push_elements-push_element-requires : goal.push_elements-push_element-requires
 push_elements-push_element-requires t c =
@@ -36,12 +45,11 @@ push_elements-push_element-requires t c =
     let levels = c.args.scope.now.levels in
     let element = c.in-More.element.value in
     let rest = c.in-More.rest.value in
-    let count = subst (λ e. c.count_ways-behind.result ≡ min (length (element_list_choices documents levels e)) 65537) c.deref.ensures (counted documents levels c.deref.result.now c.count_ways-behind.result c.count_ways-behind.ensures.ways) in
-    let p = parted c.count_ways-behind.result c.args.index (element_choices documents levels element) (element_list_choices documents levels rest) (rw c.in-More.is at c.requires.few) (rw c.in-More.is at c.requires.inside) count in (
+    let p = parted documents levels element c.deref.result.now rest c.count_element_ways-ways.result c.args.count c.args.index c.deref.ensures c.count_element_ways-ways.ensures.ways (rw c.in-More.is at c.requires.counted) c.requires.few c.requires.inside in (
       omega (arith, rw c.in-More.is at c.decreases, ap weight_of_element c.deref-in-More.ensures),
       (
         subst (λ e. length (element_choices documents levels e) ≤ 65536) (sym c.deref-in-More.ensures) p.first_few,
-        subst (λ e. c.args.index / c.count_ways-behind.result < length (element_choices documents levels e)) (sym c.deref-in-More.ensures) p.first_inside,
+        subst (λ e. c.args.index / (c.args.count / c.count_element_ways-ways.result) < length (element_choices documents levels e)) (sym c.deref-in-More.ensures) p.first_inside,
       ),
     )
 
@@ -51,13 +59,9 @@ push_elements-push_elements-requires t c =
     let levels = c.args.scope.now.levels in
     let element = c.in-More.element.value in
     let rest = c.in-More.rest.value in
-    let count = subst (λ e. c.count_ways-behind.result ≡ min (length (element_list_choices documents levels e)) 65537) c.deref.ensures (counted documents levels c.deref.result.now c.count_ways-behind.result c.count_ways-behind.ensures.ways) in
-    let p = parted c.count_ways-behind.result c.args.index (element_choices documents levels element) (element_list_choices documents levels rest) (rw c.in-More.is at c.requires.few) (rw c.in-More.is at c.requires.inside) count in (
+    let p = parted documents levels element c.deref.result.now rest c.count_element_ways-ways.result c.args.count c.args.index c.deref.ensures c.count_element_ways-ways.ensures.ways (rw c.in-More.is at c.requires.counted) c.requires.few c.requires.inside in (
       omega (arith, rw c.in-More.is at c.decreases, ap weight c.deref-in-More-2.ensures),
-      (
-        subst (λ e. length (element_list_choices documents levels e) ≤ 65536) (sym c.deref-in-More-2.ensures) p.rest_few,
-        subst (λ e. c.args.index % c.count_ways-behind.result < length (element_list_choices documents levels e)) (sym c.deref-in-More-2.ensures) p.rest_inside,
-      ),
+      (p.behind ∙ ap (λ e. length (element_list_choices documents levels e)) (sym c.deref-in-More-2.ensures), (p.rest_few, p.rest_inside)),
     )
 
 pub push_elements-returns-in_ok-push_element-in-More : goal.push_elements-returns-in_ok-push_element-in-More
@@ -66,15 +70,15 @@ push_elements-returns-in_ok-push_element-in-More t c =
     let levels = c.args.scope.now.levels in
     let element = c.in-More.element.value in
     let rest = c.in-More.rest.value in
+    let p = parted documents levels element c.deref.result.now rest c.count_element_ways-ways.result c.args.count c.args.index c.deref.ensures c.count_element_ways-ways.ensures.ways (rw c.in-More.is at c.requires.counted) c.requires.few c.requires.inside in
     let firsts = element_choices documents levels element in
     let rests = element_list_choices documents levels rest in
-    let count = subst (λ e. c.count_ways-behind.result ≡ min (length (element_list_choices documents levels e)) 65537) c.deref.ensures (counted documents levels c.deref.result.now c.count_ways-behind.result c.count_ways-behind.ensures.ways) in
-    let p = parted c.count_ways-behind.result c.args.index firsts rests (rw c.in-More.is at c.requires.few) (rw c.in-More.is at c.requires.inside) count in
-    let first = subst (λ e. GoesOn c.args.choices.now (element_choices documents levels e) (c.args.index / c.count_ways-behind.result) c.push_element.new.choices) c.deref-in-More.ensures c.in_ok-push_element-in-More.ensures in
+    let behind = c.args.count / c.count_element_ways-ways.result in
+    let first = subst (λ e. GoesOn c.args.choices.now (element_choices documents levels e) (c.args.index / behind) c.push_element.new.choices) c.deref-in-More.ensures c.in_ok-push_element-in-More.ensures in
     rw c.in-More.is
     (on_ok_weaker c.push_elements.result
-    (λ g. goes_through c.args.choices.now c.push_element.new.choices c.push_elements.new.choices firsts rests (c.args.index / c.count_ways-behind.result) (c.args.index % c.count_ways-behind.result) c.args.index first
-    (subst (λ e. GoesOn c.push_element.new.choices (element_list_choices documents levels e) (c.args.index % c.count_ways-behind.result) c.push_elements.new.choices) c.deref-in-More-2.ensures g) p.whole)
+    (λ g. goes_through c.args.choices.now c.push_element.new.choices c.push_elements.new.choices firsts rests (c.args.index / behind) (c.args.index % behind) c.args.index first
+    (subst (λ e. GoesOn c.push_element.new.choices (element_list_choices documents levels e) (c.args.index % behind) c.push_elements.new.choices) c.deref-in-More-2.ensures g) p.whole)
     c.push_elements.ensures)
 
 -- ---- branches
@@ -92,8 +96,8 @@ push_branch-push_elements-requires t c =
     let ways = ap (λ e. length (element_list_choices documents levels e)) (sym same) in (
       omega (arith, rw c.in-More.is at c.decreases, ap weight same),
       (
-        omega (arith, ways, exact.0, exact.1, rw c.in-More.is at c.requires.few),
-        omega (arith, ways, exact.0, c.if-index-count.true),
+        exact.0 ∙ ways,
+        (omega (arith, exact.1, rw c.in-More.is at c.requires.few), c.if-index-count.true),
       ),
     )
 
@@ -167,8 +171,8 @@ push_approval-push_elements-requires t c =
     let exact = counted_first c.count_ways-count.result (Document number) inner others count (subst (λ l. length l ≤ 65536) entered c.loop-document.invariant.few) in (
       omega (arith, less, c.decreases),
       (
-        omega (arith, exact.0, exact.1, ap length entered, c.loop-document.invariant.few),
-        omega (arith, exact.0, c.if-left-count.true),
+        exact.0,
+        (omega (arith, exact.1, ap length entered, c.loop-document.invariant.few), c.if-left-count.true),
       ),
     )
 
