@@ -56,3 +56,24 @@ entity_in_sight sight name =
     option_or (hierarchy_of_name name)
     (option_or (option_map (λ object. object.handle) (object_in_sight sight name))
     (option_map (λ index. index.public.index) (index_in_sight sight name)))
+
+-- ---- by handle
+
+-- the object and the index with a handle
+abbrev pub object_of_handle : Sight → ℕ → Option ObjectEntry
+object_of_handle sight handle = find (λ object. object.handle == handle) sight.objects
+
+abbrev pub index_of_handle : Sight → ℕ → Option IndexEntry
+index_of_handle sight handle = find (λ index. index.public.index == handle) sight.indices
+
+-- the Name of a handle as its entity is: of an object, of an index as it is now, and else the handle's four bytes
+abbrev pub name_of_index_or_handle : ℕ → Option IndexEntry → Name
+name_of_index_or_handle handle None = Handle handle
+name_of_index_or_handle handle (Some index) = index_name index.public
+
+abbrev pub name_of_object_or_other : Sight → ℕ → Option ObjectEntry → Name
+name_of_object_or_other sight handle None = name_of_index_or_handle handle (index_of_handle sight handle)
+name_of_object_or_other sight handle (Some object) = object_name object.public
+
+abbrev pub name_in_sight : Sight → ℕ → Name
+name_in_sight sight handle = name_of_object_or_other sight handle (object_of_handle sight handle)

@@ -1,14 +1,11 @@
--- Goals: the command that a client wants, its handles and their Names.
-use Rattle.std.specs.Prelude.{◌≡◌, ◌^◌, ◌<◌, ◌≤◌, ◌⊎◌, ⊤, ℕ, List, [], ◌∷◌, Option, Some, None, length, map}
+-- Goals: the command that a client wants, its code and its handles.
+use Rattle.std.specs.Prelude.{◌≡◌, ◌^◌, ◌<◌, ◌≤◌, ◌⊎◌, ⊤, ℕ, List, [], ◌∷◌, Option, Some, None, length}
 use Rattle.std.specs.List.{Contains}
 use Rattle.tpol_base.specs.declared.command_code.CommandCode.{CommandCode}
 use Rattle.tpol_base.specs.declared.command_code.CommandCode.TheVariants as codes
-use Rattle.tpol_base.specs.declared.name.Name.{Name}
 use Rattle.tpol_base.specs.Handle.{rh_null}
-use Rattle.tpol_name.specs.declared.entries.DirEntry.{DirEntry}
 use Rattle.tpol_goal.specs.declared.goal.Goal.{Goal}
 use Rattle.tpol_goal.specs.declared.goal.Goal.TheVariants.{Unseal, Hmac, NvRead, NvWrite, NvIncrement, Duplicate}
-use Rattle.tpol_goal.specs.Entities.{name_of_handle}
 
 -- the command's code
 abbrev pub code_of_goal : Goal → CommandCode
@@ -44,10 +41,6 @@ with_second first (Some second) = first ∷ second ∷ []
 
 abbrev pub handles_of_goal : Goal → List ℕ
 handles_of_goal goal = with_second (entity_of_goal goal) (second_handle goal)
-
--- the Names of the handles in order
-abbrev pub names_of_goal : List DirEntry → Goal → List Name
-names_of_goal directory goal = map (name_of_handle directory) (handles_of_goal goal)
 
 -- a goal whose bytes fit into its command
 abbrev pub IsGoal : Goal → Type 0

@@ -1,3 +1,4 @@
+pub mod Commands
 pub mod Entities
 pub mod Goals
 pub mod Grants

@@ -4,11 +4,13 @@ ghost use Rattle.std.specs.Prelude.{◌≡◌, option_map};
 ghost use Rattle.std.specs.Option.{option_copied};
 ghost use Rattle.tpol_name.specs.Directories.{line_of_index, line_of_object, lines_of};
 ghost use Rattle.tpol_name.specs.Setups.{IsSight};
-ghost use Rattle.tpol_goal.specs.Entities.{entity_in_sight, entity_of_name, hierarchy_of_name, index_in_sight, index_of_name, line_of_name, name_of_handle, object_in_sight, object_of_name};
+ghost use Rattle.tpol_goal.specs.Entities.{entity_in_sight, entity_of_name, hierarchy_of_name, index_in_sight, index_of_handle, index_of_name, line_of_name, name_in_sight, name_of_handle, object_in_sight, object_of_handle, object_of_name};
 
 use tpol_base::Name;
 use tpol_base::handle::{HandleKind, TPM_RH_ENDORSEMENT, TPM_RH_LOCKOUT, TPM_RH_OWNER};
-use tpol_name::{DirEntry, IndexEntry, ObjectEntry, Sight, nv_name_once_written, object_name};
+use tpol_name::{
+    DirEntry, IndexEntry, ObjectEntry, Sight, nv_name, nv_name_once_written, object_name,
+};
 
 /// The handle of the entity that a Name stands for where a command takes a hierarchy, an object or an index:
 /// the hierarchy whose handle the Name is, else the first line of the directory with the Name; `None` where
@@ -131,5 +133,41 @@ pub fn hierarchy_of_name(name: &Name) -> Option<u32>
             _ => None,
         },
         Name::Empty | Name::Hash(_) => None,
+    }
+}
+
+/// The first object of a sight with this handle.
+pub fn object_of_handle(sight: &Sight, handle: u32) -> Option<&ObjectEntry>
+    ensures object { option_copied result ≡ object_of_handle sight.now handle }
+{
+    sight
+        .objects
+        .as_slice()
+        .iter()
+        .find(|object| object.handle == handle)
+}
+
+/// The first index of a sight with this handle.
+pub fn index_of_handle(sight: &Sight, handle: u32) -> Option<&IndexEntry>
+    ensures index { option_copied result ≡ index_of_handle sight.now handle }
+{
+    sight
+        .indices
+        .as_slice()
+        .iter()
+        .find(|index| index.public.index == handle)
+}
+
+/// The Name of a handle as its entity is in a sight: of an object, of an index as it is now, and of every other
+/// handle its four bytes.
+pub fn name_in_sight(sight: &Sight, handle: u32) -> Name
+    ensures name { result ≡ name_in_sight sight.now handle }
+{
+    if let Some(object) = object_of_handle(sight, handle) {
+        return object_name(&object.public);
+    }
+    match index_of_handle(sight, handle) {
+        Some(index) => nv_name(&index.public),
+        None => Name::Handle(handle),
     }
 }

@@ -1,16 +1,13 @@
 //! The command that a client wants.
 
-ghost use Rattle.std.specs.Prelude.{◌≡◌, ◌++◌, ℕ, List};
+ghost use Rattle.std.specs.Prelude.{◌≡◌, IfOk};
 ghost use Rattle.std.proofs.Common.{rules};
-ghost use Rattle.std.specs.List.{flat_map};
-ghost use Rattle.tpol_base.specs.Name.{name_bytes};
-ghost use Rattle.tpol_hash.specs.Messages.{Holds};
-ghost use Rattle.tpol_goal.specs.Goals.{code_of_goal, entity_of_goal, names_of_goal, second_handle};
+ghost use Rattle.tpol_goal.specs.Commands.{command_of_goal};
+ghost use Rattle.tpol_goal.specs.Goals.{code_of_goal, entity_of_goal, second_handle};
 
-use crate::name_of_handle;
-use tpol_base::{Blob, CommandCode, ExactClone};
-use tpol_hash::Hasher;
-use tpol_name::DirEntry;
+use tpol_base::constants::TPM_ALG_SHA256;
+use tpol_base::{Blob, CommandCode, ExactClone, NoMemory};
+use tpol_wire::{AuthArea, Command};
 
 /// The command that a client wants to be carried out, authorized by a policy session on its first handle
 /// (TPM 2.0 Part 3, under the command's name).
@@ -93,15 +90,54 @@ impl Goal {
         }
     }
 
-    /// Adds the Names of the command's handles, in order, to the message that is hashed; those of objects and
-    /// indices are the directory's.
-    pub fn put_names(&self, directory: &[DirEntry], hasher: &mut Hasher)
-        ensures longer { (m : List ℕ) → Holds hasher.old m
-            → Holds hasher.new (m ++ flat_map name_bytes (names_of_goal directory.now self.now)) }
+    /// The command with this authorization (TPM 2.0 Part 3, under its name): an index authorizes itself, and
+    /// HMAC is over SHA-256. It fails only where memory ran out.
+    pub fn command(&self, auth: AuthArea) -> Result<Command, NoMemory>
+        ensures command { IfOk result (λ command. command ≡ command_of_goal self.now auth) }
     {
-        hasher.put_name(&name_of_handle(directory, self.entity()));
-        if let Some(second) = self.second_handle() {
-            hasher.put_name(&name_of_handle(directory, second));
+        match self {
+            Goal::Unseal { object } => Ok(Command::Unseal {
+                object: *object,
+                auth,
+            }),
+            Goal::Hmac { key, buffer } => Ok(Command::Hmac {
+                key: *key,
+                auth,
+                buffer: buffer.clone()?,
+                hash: TPM_ALG_SHA256,
+            }),
+            Goal::NvRead {
+                index,
+                size,
+                offset,
+            } => Ok(Command::NvRead {
+                authority: *index,
+                index: *index,
+                auth,
+                size: *size,
+                offset: *offset,
+            }),
+            Goal::NvWrite {
+                index,
+                offset,
+                bytes,
+            } => Ok(Command::NvWrite {
+                authority: *index,
+                index: *index,
+                auth,
+                bytes: bytes.clone()?,
+                offset: *offset,
+            }),
+            Goal::NvIncrement { index } => Ok(Command::NvIncrement {
+                authority: *index,
+                index: *index,
+                auth,
+            }),
+            Goal::Duplicate { object, parent } => Ok(Command::Duplicate {
+                object: *object,
+                parent: *parent,
+                auth,
+            }),
         }
     }
 }
