@@ -10,7 +10,7 @@ use Rattle.tpol_tree.specs.declared.facts.Fact.{Fact}
 use Rattle.tpol_tree.specs.declared.path.Move.{Move}
 use Rattle.tpol_tree.specs.declared.path.Move.TheVariants.{Assert, Or, Approve, ApproveNv}
 use Rattle.tpol_digest.specs.Digest.{digest_after, digest_of_moves, zero_digest}
-use Rattle.tpol_digest.specs.Sound.{moves_of_facts}
+use Rattle.tpol_tree.specs.Facts.{moves_of as moves_of_facts}
 use Rattle.tpm_bindings.proofs.Merging.{merged-push}
 use Rattle.tpm_bindings.specs.Merged.{fact_of, merged}
 use Rattle.tpm_bindings.specs.State.{SessionState}

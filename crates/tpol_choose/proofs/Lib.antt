@@ -1,5 +1,5 @@
+pub mod BlockListLaws
 pub mod Bound
-pub mod Counted
 pub mod Counts
 pub mod Ends
 pub mod Few
@@ -9,5 +9,4 @@ pub mod Hopeless
 pub mod Judging
 pub mod Loads
 pub mod OnWay
-pub mod Parameters
 pub mod SearchLaws

@@ -31,7 +31,7 @@ use Rattle.tpol_choose.specs.Acts.{move_of}
 use Rattle.tpol_choose.specs.Ahead.{ways_ahead}
 use Rattle.tpol_choose.specs.Blocks.{block_of, block_on, moves_block, whole_block}
 use Rattle.tpol_choose.specs.Clients.{Client}
-use Rattle.tpol_choose.specs.Counts.{IsCount}
+use Rattle.tpol_choose.proofs.Counts.{IsCount, counted}
 use Rattle.tpol_choose.specs.Facts.{fresh_session}
 use Rattle.tpol_choose.specs.Hopes.{is_hopeless}
 use Rattle.tpol_choose.specs.Searches.{IsCounted, go_on, passed_more, search_ahead, search_end, search_ways}
@@ -151,9 +151,9 @@ module _ (client : Client) (documents : List ApprovedDoc) where
       elements_hopeless (search_ahead client documents ahead) (ways_ahead documents ahead) (ahead_hopeless ahead) levels rest.now before (track_after client track (move_of act)) n (hopeless_after client track (move_of act) hopeless)
 
   -- what the counts of two parts, each to 65,537, make
-  pub counted_both : (first others : ℕ) (levels : ℕ) (elements : ClosedElements) (ahead : Ahead) → IsCount first (extent_at (document_extent documents levels) documents elements) → others ≡ min (ways_ahead documents ahead) 65537 → min (first * others) 65537 ≡ min ((extent_at (document_extent documents levels) documents elements).paths * ways_ahead documents ahead) 65537
-  counted_both first others levels elements ahead counted e =
-      min_mul (extent_at (document_extent documents levels) documents elements).paths (ways_ahead documents ahead) first others counted.paths e
+  pub counted_both : (first others : ℕ) (levels : ℕ) (elements : ClosedElements) (ahead : Ahead) → IsCount documents levels elements first → others ≡ min (ways_ahead documents ahead) 65537 → min (first * others) 65537 ≡ min ((extent_at (document_extent documents levels) documents elements).paths * ways_ahead documents ahead) 65537
+  counted_both first others levels elements ahead h e =
+      min_mul (extent_at (document_extent documents levels) documents elements).paths (ways_ahead documents ahead) first others (counted documents levels elements first h) e
 
   -- the way by a policy that no listed document has is passed over
   pub outside_hopeless : (behind : TrackState → ℕ → Search) (c : ℕ) → ((t : TrackState) (m : ℕ) → is_hopeless client t ≡ true → behind t m ≡ Passed (passed_more m c)) → (element : ClosedElement) (track : TrackState) (n : ℕ) → length (outside_paths element) ≡ 1 → search_ways client behind track n (outside_paths element) ≡ Passed (passed_more n c)

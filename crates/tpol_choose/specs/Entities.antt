@@ -1,5 +1,5 @@
 -- The entities that a sight shows, with their handles and their Names.
-use Rattle.std.specs.Prelude.{ℕ, ◌==◌, List, Option, Some, None, find, option_map, if◌then◌else◌}
+use Rattle.std.specs.Prelude.{ℕ, ◌==◌, List, Option, option_map, if◌then◌else◌}
 use Rattle.std.specs.Option.{option_or}
 use Rattle.tpol_base.specs.declared.name.Name.{Name}
 use Rattle.tpol_base.specs.declared.name.Name.TheVariants.{Handle}
@@ -38,13 +38,6 @@ entity_of_name sight name =
     (option_or (option_map object_at (object_in_sight sight name))
     (option_map index_at (index_in_sight sight name)))
 
--- the object and the index with a handle
-abbrev pub object_of_handle : Sight → ℕ → Option ObjectEntry
-object_of_handle sight handle = find (λ object. object.handle == handle) sight.objects
-
-abbrev pub index_of_handle : Sight → ℕ → Option IndexEntry
-index_of_handle sight handle = find (λ index. index.public.index == handle) sight.indices
-
 -- ---- Names
 
 -- the Name that an entity has as it is; of what has no public area it is the handle
@@ -57,15 +50,3 @@ name_as_is handle entity = Handle handle
 abbrev pub name_in_directory : ℕ → Entity → Name
 name_in_directory handle (Index index) = index_name (with_written index.public)
 name_in_directory handle entity = name_as_is handle entity
-
--- the Name of a handle, as the entity is
-abbrev pub name_of_index_or_handle : ℕ → Option IndexEntry → Name
-name_of_index_or_handle handle None = Handle handle
-name_of_index_or_handle handle (Some index) = index_name index.public
-
-abbrev pub name_of_object_or_other : Sight → ℕ → Option ObjectEntry → Name
-name_of_object_or_other sight handle None = name_of_index_or_handle handle (index_of_handle sight handle)
-name_of_object_or_other sight handle (Some object) = object_name object.public
-
-abbrev pub name_of_handle : Sight → ℕ → Name
-name_of_handle sight handle = name_of_object_or_other sight handle (object_of_handle sight handle)

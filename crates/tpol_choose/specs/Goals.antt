@@ -1,8 +1,6 @@
 -- What stands in the way of the goal: a policy session that may not authorize it, the first deferred check that
 -- it breaks, or the first rule of its own (TPM 2.0 Part 1, "Policy Session Use"; Part 3, under its name).
-use Rattle.std.specs.Prelude.{ℕ, ◌==◌, ◌&&◌, ◌||◌, Bool, true, List, [], ◌++◌, length, Option, Some, None, option_map}
-use Rattle.std.specs.Int.{to_be_bytes, w16, w32}
-use Rattle.std.specs.List.{flat_map}
+use Rattle.std.specs.Prelude.{ℕ, ◌==◌, ◌&&◌, ◌||◌, Bool, true, List, length, Option, Some, None, option_map}
 use Rattle.tpm_auth.specs.Passwords.{is_password}
 use Rattle.tpm_bindings.specs.declared.last_auth.LastAuth.{LastAuth}
 use Rattle.tpm_bindings.specs.declared.last_auth.LastAuth.TheVariants as auths
@@ -18,75 +16,34 @@ use Rattle.tpm_rules.specs.Rule.{or_else, unless}
 use Rattle.tpol_base.specs.declared.check.Check.{Check}
 use Rattle.tpol_base.specs.declared.command_code.CommandCode.{CommandCode}
 use Rattle.tpol_base.specs.declared.command_code.CommandCode.TheVariants as codes
-use Rattle.tpol_base.specs.declared.digest.Digest32.{Digest32}
 use Rattle.tpol_base.specs.CommandCode.{number_of_code}
-use Rattle.tpol_base.specs.Constants.{alg_null, alg_sha256}
-use Rattle.tpol_base.specs.Name.{is_same_name, name_bytes}
+use Rattle.tpol_base.specs.Name.{is_same_name}
 use Rattle.tpol_base.specs.ResponseCode.{rc_auth_unavailable}
-use Rattle.tpol_base.specs.Sized.{sized}
 use Rattle.tpol_choose.specs.declared.block.Why.{Why}
 use Rattle.tpol_choose.specs.declared.block.Why.TheVariants.{NoEntity, Deferred, GoalRule}
 use Rattle.tpol_choose.specs.Clients.{Client}
-use Rattle.tpol_choose.specs.Entities.{EntityAt, index_at, index_of_handle, name_as_is, name_in_directory, name_of_handle, object_at, object_of_handle}
+use Rattle.tpol_choose.specs.Entities.{EntityAt, index_at, name_as_is, name_in_directory, object_at}
 use Rattle.tpol_choose.specs.Keys.{is_same_block}
 use Rattle.tpol_choose.specs.Moves.{rc_of}
 use Rattle.tpol_goal.specs.declared.goal.Goal.{Goal}
 use Rattle.tpol_goal.specs.declared.goal.Goal.TheVariants as goals
 use Rattle.tpol_goal.specs.declared.grants.Grants.{Grants}
-use Rattle.tpol_goal.specs.Goals.{code_of_goal, handles_of_goal}
+use Rattle.tpol_goal.specs.Commands.{goal_cp_hash, goal_name_hash}
+use Rattle.tpol_goal.specs.Entities.{index_of_handle, name_in_sight, object_of_handle}
+use Rattle.tpol_goal.specs.Goals.{code_of_goal}
 use Rattle.tpol_goal.specs.Grants.{secret_of}
-use Rattle.tpol_hash.specs.Sha256.{sha256_digest}
 use Rattle.tpol_name.specs.declared.entries.IndexEntry.{IndexEntry}
 use Rattle.tpol_name.specs.declared.sight.Sight.{Sight}
-use Rattle.tpol_wire.specs.declared.auth_area.AuthArea.{AuthArea}
-use Rattle.tpol_wire.specs.declared.command.Command.{Command}
-use Rattle.tpol_wire.specs.declared.command.Command.TheVariants as commands
-use Rattle.tpol_wire.specs.Commands.{spell_parameters}
 
--- ---- the hashes that a machine makes of the goal's command
+-- ---- the use of the session
 
--- the goal's command with any authorization: an index authorizes itself, and HMAC is over SHA-256
-abbrev pub any_area : AuthArea
-any_area = record { session = 0; nonce = []; attributes = 0; hmac = [] }
-
-abbrev pub goal_command : Goal → Command
-goal_command (goals.Unseal object) = commands.Unseal object any_area
-goal_command (goals.Hmac key buffer) = commands.Hmac key any_area buffer alg_sha256
-goal_command (goals.NvRead index size offset) = commands.NvRead index index any_area size offset
-goal_command (goals.NvWrite index offset bytes) = commands.NvWrite index index any_area bytes offset
-goal_command (goals.NvIncrement index) = commands.NvIncrement index index any_area
-goal_command (goals.Duplicate object parent) = commands.Duplicate object parent any_area
-
--- what its parameters are: HMAC is over SHA-256, and what Duplicate gives is not encrypted
-abbrev pub parameter_bytes : Goal → List ℕ
-parameter_bytes (goals.Unseal object) = []
-parameter_bytes (goals.Hmac key buffer) = sized buffer ++ to_be_bytes w16 alg_sha256
-parameter_bytes (goals.NvRead index size offset) = to_be_bytes w16 size ++ to_be_bytes w16 offset
-parameter_bytes (goals.NvWrite index offset bytes) = sized bytes ++ to_be_bytes w16 offset
-parameter_bytes (goals.NvIncrement index) = []
-parameter_bytes (goals.Duplicate object parent) = to_be_bytes w16 0 ++ to_be_bytes w16 alg_null
-
--- the Names of its handles, in order, as the entities are
-abbrev pub name_list : Sight → Goal → List ℕ
-name_list sight goal = flat_map (λ handle. name_bytes (name_of_handle sight handle)) (handles_of_goal goal)
-
--- cpHash: H(code || Names || parameters) (TPM 2.0 Part 1, "Command Parameter Hash")
-abbrev pub goal_cp_hash : Sight → Goal → Digest32
-goal_cp_hash sight goal =
-    sha256_digest (to_be_bytes w32 (number_of_code (code_of_goal goal)) ++ name_list sight goal
-    ++ spell_parameters (goal_command goal))
-
--- nameHash: H(Names)
-abbrev pub goal_name_hash : Sight → Goal → Digest32
-goal_name_hash sight goal = sha256_digest (name_list sight goal)
-
--- the use of the session on the goal
+-- the use of the session on the goal; its hashes are over the Names that entities have as they are
 abbrev pub goal_use : Client → EntityAt → Use
 goal_use client found = record {
   code = number_of_code (code_of_goal client.goal);
   duplicate_role = is_duplicate (number_of_code (code_of_goal client.goal));
-  cp_hash = goal_cp_hash client.sight client.goal;
-  name_hash = goal_name_hash client.sight client.goal;
+  cp_hash = goal_cp_hash (name_in_sight client.sight) client.goal;
+  name_hash = goal_name_hash (name_in_sight client.sight) client.goal;
   locality = client.locality;
   presence = client.sight.presence;
   time = client.sight.time;

@@ -1,8 +1,8 @@
 pub mod Acts
 pub mod Ahead
+pub mod BlockLists
 pub mod Blocks
 pub mod Clients
-pub mod Counts
 pub mod Entities
 pub mod Facts
 pub mod Few

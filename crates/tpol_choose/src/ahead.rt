@@ -4,9 +4,12 @@ ghost use Rattle.std.specs.Prelude.{◌≡◌, min};
 ghost use Rattle.tpol_choose.specs.Ahead as spec;
 
 use crate::act::Act;
-use crate::counting::{COUNTED, count_elements};
 use tpol_base::Digest32;
+use tpol_digest::count_ways;
 use tpol_tree::{ApprovedDoc, ClosedElements};
+
+// One more than the greatest number of ways that are walked; no count goes past it.
+pub const COUNTED: u64 = 65_537;
 
 // What comes behind the branch, or the document, that is walked: the move that closes it, the rest of the list
 // that it stands in, with the digest before that rest, in which documents may be entered `levels` deep, and
@@ -35,7 +38,7 @@ pub fn count_ahead(approvals: &[ApprovedDoc], ahead: &Ahead<'_>) -> u64
             ahead,
             ..
         } => {
-            let first = count_elements(approvals, *levels, rest);
+            let first = count_ways(approvals, *levels, rest);
             let others = count_ahead(approvals, ahead);
             first.saturating_mul(others).min(COUNTED)
         }

@@ -20,26 +20,25 @@ use crate::act::Act;
 use crate::approving::{approval, outside_approval};
 use crate::assert_move::AssertMove;
 use crate::branch_digests::BranchDigests;
-use crate::client::Client;
-use crate::counting::{count_element, count_elements};
+use crate::client::{Client, GoalHashes};
 use crate::or_move::OrMove;
 use crate::track::Track;
 use crate::walk::Walk;
 use tpol_base::Digest32;
-use tpol_digest::{MAX_LEVELS, digest_after_element, zero_digest};
+use tpol_digest::{MAX_LEVELS, count_element_ways, count_ways, digest_after_element, zero_digest};
 use tpol_goal::{Goal, Grants};
 use tpol_name::Sight;
 use tpol_tree::{Approvals, Closed, ClosedBranches, ClosedElement, ClosedElements};
 
 /// The same as `can` for the path of a policy at a position, from 1 (see `tpol_digest::path_at`). The path is
 /// not made: the policy is walked to it, and no memory is taken.
-pub fn block_at(
+pub fn block_at<'a>(
     policy: &Closed,
-    approvals: &Approvals,
+    approvals: &'a Approvals,
     position: u32,
-    sight: &Sight,
-    grants: &Grants,
-    goal: &Goal,
+    sight: &'a Sight,
+    grants: &'a Grants,
+    goal: &'a Goal,
     locality: u8,
 ) -> Result<(), Block>
     requires few { HaveFewBranches policy.now approvals.now }
@@ -55,6 +54,7 @@ pub fn block_at(
             grants,
             goal,
             locality,
+            hashes: GoalHashes::of(sight, goal),
         },
         approvals: approvals.as_slice(),
         levels: MAX_LEVELS,
@@ -73,7 +73,7 @@ fn block_at_index(walk: &Walk<'_>, policy: &Closed, index: u64) -> Result<(), Bl
     ensures { IfSome (slice_get (paths_of policy.now walk.now.approvals.now) index)
         (λ path. Breaks result (first_block path walk.now.client.sight.now walk.now.client.grants.now walk.now.client.goal.now walk.now.client.locality)) }
 {
-    let count = count_elements(walk.approvals, walk.levels, &policy.elements);
+    let count = count_ways(walk.approvals, walk.levels, &policy.elements);
     let track = Track::new(&walk.client);
     let track = go_elements(walk, track, &policy.elements, zero_digest(), index, count);
     track.end(&walk.client)
@@ -102,7 +102,7 @@ fn go_elements(
     match elements {
         ClosedElements::End => track,
         ClosedElements::More(element, rest) => {
-            let choices = count_element(walk.approvals, walk.levels, element);
+            let choices = count_element_ways(walk.approvals, walk.levels, element);
             let behind = count / choices;
             let middle = go_element(walk, track, element, before, index / behind);
             go_elements(
@@ -187,7 +187,7 @@ fn go_branches(
         ClosedBranches::End => track,
         ClosedBranches::More(branch, rest) => {
             let elements = &branch.policy.elements;
-            let count = count_elements(walk.approvals, walk.levels, elements);
+            let count = count_ways(walk.approvals, walk.levels, elements);
             if index < count {
                 go_elements(walk, track, elements, before, index, count)
             } else {
@@ -216,7 +216,7 @@ fn go_approval(walk: &Walk<'_>, track: Track, element: &ClosedElement, index: u6
         for document in walk.approvals {
             if let Some(act) = approval(element, document) {
                 let elements = &document.closed.elements;
-                let count = count_elements(walk.approvals, inner.levels, elements);
+                let count = count_ways(walk.approvals, inner.levels, elements);
                 if left < count {
                     let behind = go_elements(&inner, track, elements, zero_digest(), left, count);
                     return behind.after(&walk.client, &act);

@@ -7,7 +7,7 @@ ghost use Rattle.tpol_digest.specs.Paths.{paths_of};
 ghost use Rattle.tpol_choose.specs.Few.{HaveFewBranches};
 ghost use Rattle.tpol_name.specs.Setups.{IsSight};
 
-use crate::client::Client;
+use crate::client::{Client, GoalHashes};
 use crate::searching::{Search, search_policy};
 use crate::walk::Walk;
 use tpol_digest::MAX_LEVELS;
@@ -18,12 +18,12 @@ use tpol_tree::{Approvals, Closed};
 /// The position, from 1, of the first path of a policy that the client can go (see `can` and
 /// `tpol_digest::path_at`); `None` exactly where it can go none. No list of the paths is made, and no memory
 /// is taken.
-pub fn choose(
+pub fn choose<'a>(
     policy: &Closed,
-    approvals: &Approvals,
-    sight: &Sight,
-    grants: &Grants,
-    goal: &Goal,
+    approvals: &'a Approvals,
+    sight: &'a Sight,
+    grants: &'a Grants,
+    goal: &'a Goal,
     locality: u8,
 ) -> Option<u32>
     requires few { HaveFewBranches policy.now approvals.now }
@@ -40,6 +40,7 @@ pub fn choose(
             grants,
             goal,
             locality,
+            hashes: GoalHashes::of(sight, goal),
         },
         approvals: approvals.as_slice(),
         levels: MAX_LEVELS,

@@ -1,8 +1,8 @@
 // The entities that a sight shows, with their handles and Names.
 
 ghost use Rattle.std.specs.Prelude.{◌≡◌, option_map};
-ghost use Rattle.std.specs.Option.{option_copied};
 ghost use Rattle.tpm_rules.specs.EntityView.{entity_of};
+ghost use Rattle.tpol_base.specs.Name.{is_same_name};
 ghost use Rattle.tpol_choose.specs.Entities as spec;
 ghost use Rattle.tpol_choose.specs.Lent.{entity_of_lent};
 
@@ -75,6 +75,17 @@ impl<'a> EntityAt<'a> {
             Entity::Hierarchy { .. } | Entity::Pcr | Entity::Object(_) => self.name(),
         }
     }
+
+    // Whether a directory lists the Name that it has as it is. No other one than that of an index differs.
+    pub fn is_listed_as_is(&self) -> bool
+        ensures { result ≡ is_same_name (spec.name_as_is self.now.handle (entity_of self.now.entity))
+            (spec.name_in_directory self.now.handle (entity_of self.now.entity)) }
+    {
+        match self.entity {
+            Entity::Index(_) => self.name() == self.name_in_directory(),
+            Entity::Hierarchy { .. } | Entity::Pcr | Entity::Object(_) => true,
+        }
+    }
 }
 
 // What a Name stands for where a hierarchy, an object or an index may stand.
@@ -90,40 +101,5 @@ pub fn entity_of_name<'a>(sight: &'a Sight, name: &Name) -> Option<EntityAt<'a>>
     match index_in_sight(sight, name) {
         Some(index) => Some(EntityAt::of_index(index)),
         None => None,
-    }
-}
-
-// The object with a handle.
-pub fn object_of_handle(sight: &Sight, handle: u32) -> Option<&ObjectEntry>
-    ensures { option_copied result ≡ spec.object_of_handle sight.now handle }
-{
-    sight
-        .objects
-        .as_slice()
-        .iter()
-        .find(|object| object.handle == handle)
-}
-
-// The index with a handle.
-pub fn index_of_handle(sight: &Sight, handle: u32) -> Option<&IndexEntry>
-    ensures { option_copied result ≡ spec.index_of_handle sight.now handle }
-{
-    sight
-        .indices
-        .as_slice()
-        .iter()
-        .find(|index| index.public.index == handle)
-}
-
-// The Name of a handle, as its entity is.
-pub fn name_of_handle(sight: &Sight, handle: u32) -> Name
-    ensures { result ≡ spec.name_of_handle sight.now handle }
-{
-    if let Some(object) = object_of_handle(sight, handle) {
-        return object_name(&object.public);
-    }
-    match index_of_handle(sight, handle) {
-        Some(index) => nv_name(&index.public),
-        None => Name::Handle(handle),
     }
 }

@@ -11,7 +11,6 @@ ghost use Rattle.tpol_name.specs.Setups.{IsSight};
 use crate::Why;
 use crate::client::Client;
 use crate::entity_at::EntityAt;
-use crate::goal_hashes::{goal_cp_hash, goal_name_hash};
 use crate::goal_rules::{Judged, judge_goal};
 use crate::keys::is_same_block;
 use tpm_auth::check_password;
@@ -96,8 +95,8 @@ fn goal_use(client: &Client<'_>, found: &EntityAt<'_>) -> Use
     Use {
         code: code.number(),
         duplicate_role: code == CommandCode::Duplicate,
-        cp_hash: goal_cp_hash(sight, client.goal),
-        name_hash: goal_name_hash(sight, client.goal),
+        cp_hash: client.hashes.cp_hash,
+        name_hash: client.hashes.name_hash,
         locality: client.locality,
         presence: sight.presence,
         time: sight.time,
@@ -123,6 +122,5 @@ fn proves(client: &Client<'_>, found: &EntityAt<'_>, last: LastAuth) -> bool
 fn is_right_mac(given: &[u8], found: &EntityAt<'_>) -> bool
     ensures { result ≡ spec.is_right_mac given.now (entity_of_lent found.now) }
 {
-    is_same_block(given, found.entity.auth_value())
-        && (given.is_empty() || found.name() == found.name_in_directory())
+    is_same_block(given, found.entity.auth_value()) && (given.is_empty() || found.is_listed_as_is())
 }

@@ -9,12 +9,12 @@ ghost use Rattle.tpol_choose.specs.Judges.{Judges, JudgesOne};
 ghost use Rattle.tpol_choose.specs.Entities as entities;
 ghost use Rattle.tpol_name.specs.Setups.{IsSight};
 
-use crate::entity_at::{EntityAt, object_of_handle};
+use crate::entity_at::EntityAt;
 use crate::indices::index_of_handle;
 use tpm_nv::{check_read, check_write, next_count, written_count};
 use tpm_rules::{duplicate_rule, hmac_rule, nv_authority_rule, unseal_rule};
 use tpol_base::{CommandCode, Rc};
-use tpol_goal::Goal;
+use tpol_goal::{Goal, object_of_handle};
 use tpol_name::{IndexEntry, ObjectEntry, Sight};
 
 // An entity, and the first rule of the goal's own that is broken on it.

@@ -3,8 +3,7 @@
 ghost use Rattle.std.specs.Prelude.{◌≡◌, IfSome};
 ghost use Rattle.std.specs.Option.{option_copied};
 ghost use Rattle.tpm_nv.specs.Contents.{HasContent};
-ghost use Rattle.tpol_choose.specs.Entities.{index_of_handle};
-ghost use Rattle.tpol_goal.specs.Entities.{index_in_sight};
+ghost use Rattle.tpol_goal.specs.Entities.{index_in_sight, index_of_handle};
 ghost use Rattle.tpol_name.specs.Setups.{IsSight};
 
 use tpol_base::Name;
@@ -25,5 +24,5 @@ pub fn index_of_handle(sight: &Sight, handle: u32) -> Option<&IndexEntry>
     ensures index { option_copied result ≡ index_of_handle sight.now handle }
     ensures content { IfSome result (λ index. HasContent index.now) }
 {
-    crate::entity_at::index_of_handle(sight, handle)
+    tpol_goal::index_of_handle(sight, handle)
 }

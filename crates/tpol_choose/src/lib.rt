@@ -1,10 +1,10 @@
 //! The chooser: whether a client can go a path of a policy on a machine as a sight shows it, with what it is
 //! granted, and the first path that it can.
 //!
-//! The layers above use `can`, `block_at` and `choose`. Their clauses cite `first_block`, the first thing that
-//! stands in the way of a path, and `chosen_path` over the list of all paths. In `specs/` a path is judged by the
-//! rules of `tpm_rules`, over its earlier moves as the facts of a session; the code keeps what they bind, merged,
-//! makes no list of paths and takes no memory.
+//! The layers above use `choose` and `blocks`, and `can` and `block_at` ask of one path. Their clauses cite
+//! `first_block`, the first thing that stands in the way of a path, and `chosen_path` over the list of all paths. In
+//! `specs/` a path is judged by the rules of `tpm_rules`, over its earlier moves as the facts of a session; the code
+//! keeps what they bind, merged, and makes no list of paths. Only `blocks` takes memory, for what it gives.
 #![tactic(auto)]
 
 mod act;
@@ -15,15 +15,14 @@ mod assert_move;
 mod at_position;
 mod binding;
 mod block;
+mod block_list;
 mod branch_digests;
 mod choosing;
 mod client;
 mod commands;
-mod counting;
 mod demands;
 mod entity_at;
 mod goal;
-mod goal_hashes;
 mod goal_rules;
 mod indices;
 mod keys;
@@ -37,5 +36,6 @@ mod walk;
 
 pub use at_position::block_at;
 pub use block::{Block, Why};
+pub use block_list::blocks;
 pub use choosing::choose;
 pub use one_path::can;

@@ -13,7 +13,7 @@ ghost use Rattle.tpol_name.specs.Setups.{IsSight};
 
 use crate::act::Act;
 use crate::binding::bindings_after;
-use crate::client::Client;
+use crate::client::{Client, GoalHashes};
 use crate::goal::check_goal;
 use crate::moves::check_move;
 use crate::session::{fresh_session, session_after};
@@ -52,6 +52,7 @@ pub fn can(
         grants,
         goal,
         locality,
+        hashes: GoalHashes::of(sight, goal),
     };
     check_path(&client, path)
 }

@@ -1,8 +1,8 @@
 ghost use Rattle.std.specs.Prelude.{◌≡◌};
 ghost use Rattle.tpol_digest.specs.Digest as spec;
 
-use crate::session::or_digest;
 use tpol_base::Digest32;
+use tpol_digest::or_digest;
 
 // PolicyOR with the digests of its branches, and the digest that it leads to, which is made once.
 #[derive(Clone, Copy)]

@@ -14,16 +14,15 @@ ghost use Rattle.tpol_name.specs.Setups.{IsSight};
 ghost use Rattle.tpol_choose.specs.Few.{HasFewBranches, ElementHasFewBranches, BranchesHaveFewBranches};
 
 use crate::act::Act;
-use crate::ahead::{Ahead, count_ahead};
+use crate::ahead::{Ahead, COUNTED, count_ahead};
 use crate::approving::approval;
 use crate::assert_move::AssertMove;
 use crate::branch_digests::BranchDigests;
-use crate::counting::{COUNTED, count_elements};
 use crate::or_move::OrMove;
 use crate::track::Track;
 use crate::walk::Walk;
 use tpol_base::Digest32;
-use tpol_digest::{digest_after_element, zero_digest};
+use tpol_digest::{count_ways, digest_after_element, zero_digest};
 use tpol_tree::{Closed, ClosedBranches, ClosedElement, ClosedElements};
 
 // How far a search is: at the index, from 0, of a way that can be gone; or past so many ways, counted to
@@ -283,7 +282,7 @@ fn pass_over(walk: &Walk<'_>, elements: &ClosedElements, ahead: &Ahead<'_>, pass
         ((extent_at (document_extent walk.now.approvals.now walk.now.levels) walk.now.approvals.now elements.now).paths
         * ways_ahead walk.now.approvals.now ahead.now)) }
 {
-    let first = count_elements(walk.approvals, walk.levels, elements);
+    let first = count_ways(walk.approvals, walk.levels, elements);
     let behind = count_ahead(walk.approvals, ahead);
     let ways = first.saturating_mul(behind);
     if ways == 0 {

@@ -1,19 +1,14 @@
 // The session that a path would make, as rules read it.
 
-ghost use Rattle.std.specs.Prelude.{◌≡◌, ◌≤◌, ◌^◌, ◌++◌};
-ghost use Rattle.std.specs.Int.{to_be_bytes, w32};
+ghost use Rattle.std.specs.Prelude.{◌≡◌, ◌≤◌, ◌^◌};
 ghost use Rattle.tpm_bindings.specs.Facts as pcr;
 ghost use Rattle.tpm_bindings.specs.Merged.{merged};
 ghost use Rattle.tpm_bindings.specs.State.{SessionState};
 ghost use Rattle.tpm_rules.specs.Standing.{standing_of};
 ghost use Rattle.tpol_choose.specs.Acts.{move_of};
 ghost use Rattle.tpol_choose.specs.Facts as spec;
-ghost use Rattle.tpol_digest.specs.Digest.{after_update, digest_after, or_digest, zero_digest};
-ghost use Rattle.tpol_digest.specs.Update.{two_hashes};
+ghost use Rattle.tpol_digest.specs.Digest.{digest_after};
 ghost use Rattle.tpol_name.specs.declared.sight.Sight.{Sight as OneSight};
-ghost use Rattle.tpol_base.specs.CommandCode.{number_of_code};
-ghost use Rattle.tpol_base.specs.Name.{name_bytes};
-ghost use Rattle.tpol_hash.specs.Messages.{Holds};
 
 use crate::act::Act;
 use crate::assert_move::AssertMove;
@@ -21,8 +16,7 @@ use crate::entity_at::entity_of_name;
 use tpm_bindings::Bindings;
 use tpm_rules::{Standing, deadline_of};
 use tpol_base::{CommandCode, Digest32, Name};
-use tpol_digest::{approve_digest, approve_nv_digest, zero_digest};
-use tpol_hash::Hasher;
+use tpol_digest::{approve_digest, approve_nv_digest, hash_twice, zero_digest};
 use tpol_name::Sight;
 use tpol_tree::{Assertion, Move};
 
@@ -90,7 +84,7 @@ fn digest_after_assertion(sight: &Sight, before: Digest32, step: &AssertMove<'_>
             if name == *entity {
                 step.digest_from(before)
             } else {
-                secret_digest(before, &name, policy_ref.as_slice())
+                hash_twice(&before, CommandCode::PolicySecret, &name, policy_ref)
             }
         }
         _ => step.digest_from(before),
@@ -105,39 +99,6 @@ fn name_in_fact(sight: &Sight, name: &Name) -> Name
         Some(found) => found.name(),
         None => *name,
     }
-}
-
-// A hasher that holds the digest before and a command's code.
-fn start(before: &Digest32, code: CommandCode) -> Hasher
-    ensures { Holds result (before.now.bytes ++ to_be_bytes w32 (number_of_code code)) }
-{
-    let mut hasher = Hasher::new();
-    hasher.put(&before.bytes);
-    hasher.put(&code.number().to_be_bytes());
-    hasher
-}
-
-// The digest after PolicySecret of this Name with this policyRef.
-fn secret_digest(before: Digest32, name: &Name, policy_ref: &[u8]) -> Digest32
-    ensures { result ≡ after_update (two_hashes 0x151 (name_bytes name.now) policy_ref.now) before }
-{
-    let mut first = start(&before, CommandCode::PolicySecret);
-    first.put_name(name);
-    let mut second = Hasher::new();
-    second.put(&first.done().bytes);
-    second.put(policy_ref);
-    second.done()
-}
-
-// The digest after PolicyOR with these digests.
-pub fn or_digest(digests: &[Digest32]) -> Digest32
-    ensures { result ≡ or_digest digests.now }
-{
-    let mut hasher = start(&zero_digest(), CommandCode::PolicyOr);
-    for digest in digests {
-        hasher.put(&digest.bytes);
-    }
-    hasher.done()
 }
 
 fn counter_after(now: u32, first: Option<u32>, act: &Act<'_>) -> Option<u32>

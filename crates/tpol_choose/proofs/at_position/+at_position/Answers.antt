@@ -24,17 +24,17 @@ use Rattle.tpol_choose.proofs.at_position.+at_position.Goals.{go_approval-in-Som
 pub go_elements-nonzero_div-behind : goal.go_elements-nonzero_div-behind
 go_elements-nonzero_div-behind t c =
     let counted = rw c.in-More.is at c.requires.counted in
-    (parts c.args.walk.now.approvals.now c.args.walk.now.levels c.count_element-choices.result c.in-More.element.value c.deref.result.now c.in-More.rest.value c.args.before c.args.count c.args.index c.deref.ensures counted c.requires.few c.requires.inside c.count_element-choices.ensures).divides
+    (parts c.args.walk.now.approvals.now c.args.walk.now.levels c.count_element_ways-choices.result c.in-More.element.value c.deref.result.now c.in-More.rest.value c.args.before c.args.count c.args.index c.deref.ensures counted c.requires.few c.requires.inside c.count_element_ways-choices.ensures.ways).divides
 
 pub go_elements-nonzero_div-index : goal.go_elements-nonzero_div-index
 go_elements-nonzero_div-index t c =
     let counted = rw c.in-More.is at c.requires.counted in
-    (parts c.args.walk.now.approvals.now c.args.walk.now.levels c.count_element-choices.result c.in-More.element.value c.deref.result.now c.in-More.rest.value c.args.before c.args.count c.args.index c.deref.ensures counted c.requires.few c.requires.inside c.count_element-choices.ensures).behind_divides
+    (parts c.args.walk.now.approvals.now c.args.walk.now.levels c.count_element_ways-choices.result c.in-More.element.value c.deref.result.now c.in-More.rest.value c.args.before c.args.count c.args.index c.deref.ensures counted c.requires.few c.requires.inside c.count_element_ways-choices.ensures.ways).behind_divides
 
 pub go_elements-nonzero_rem-index : goal.go_elements-nonzero_rem-index
 go_elements-nonzero_rem-index t c =
     let counted = rw c.in-More.is at c.requires.counted in
-    (parts c.args.walk.now.approvals.now c.args.walk.now.levels c.count_element-choices.result c.in-More.element.value c.deref.result.now c.in-More.rest.value c.args.before c.args.count c.args.index c.deref.ensures counted c.requires.few c.requires.inside c.count_element-choices.ensures).behind_divides
+    (parts c.args.walk.now.approvals.now c.args.walk.now.levels c.count_element_ways-choices.result c.in-More.element.value c.deref.result.now c.in-More.rest.value c.args.before c.args.count c.args.index c.deref.ensures counted c.requires.few c.requires.inside c.count_element_ways-choices.ensures.ways).behind_divides
 
 pub go_elements-go_element-middle-requires : goal.go_elements-go_element-middle-requires
 go_elements-go_element-middle-requires t c =
@@ -42,7 +42,7 @@ go_elements-go_element-middle-requires t c =
     let levels = c.args.walk.now.levels in
     let counts = rw c.in-More.is at c.requires.branches in
     let counted = rw c.in-More.is at c.requires.counted in
-    let p = parts documents levels c.count_element-choices.result c.in-More.element.value c.deref.result.now c.in-More.rest.value c.args.before c.args.count c.args.index c.deref.ensures counted c.requires.few c.requires.inside c.count_element-choices.ensures in (
+    let p = parts documents levels c.count_element_ways-choices.result c.in-More.element.value c.deref.result.now c.in-More.rest.value c.args.before c.args.count c.args.index c.deref.ensures counted c.requires.few c.requires.inside c.count_element_ways-choices.ensures.ways in (
       omega (arith, rw c.in-More.is at c.decreases, ap weight_of_element c.deref-in-More.ensures),
       (
         subst ElementHasFewBranches (sym c.deref-in-More.ensures) counts.0,
@@ -52,7 +52,7 @@ go_elements-go_element-middle-requires t c =
             c.requires.sight,
             (
               subst (λ e. length (element_ways documents levels e c.args.before) ≤ 65536) (sym c.deref-in-More.ensures) p.first_few,
-              subst (λ e. c.args.index / (c.args.count / c.count_element-choices.result) < length (element_ways documents levels e c.args.before)) (sym c.deref-in-More.ensures) p.first_inside,
+              subst (λ e. c.args.index / (c.args.count / c.count_element_ways-choices.result) < length (element_ways documents levels e c.args.before)) (sym c.deref-in-More.ensures) p.first_inside,
             ),
           ),
         ),
@@ -65,7 +65,7 @@ go_elements-go_elements-requires t c =
     let levels = c.args.walk.now.levels in
     let counts = rw c.in-More.is at c.requires.branches in
     let counted = rw c.in-More.is at c.requires.counted in
-    let p = parts documents levels c.count_element-choices.result c.in-More.element.value c.deref.result.now c.in-More.rest.value c.args.before c.args.count c.args.index c.deref.ensures counted c.requires.few c.requires.inside c.count_element-choices.ensures in
+    let p = parts documents levels c.count_element_ways-choices.result c.in-More.element.value c.deref.result.now c.in-More.rest.value c.args.before c.args.count c.args.index c.deref.ensures counted c.requires.few c.requires.inside c.count_element_ways-choices.ensures.ways in
     let after_is = c.go_element-middle.ensures.digest ∙ ap (λ e. digest_at_element e c.args.before) c.deref-in-More.ensures in (
       omega (arith, rw c.in-More.is at c.decreases, ap weight c.deref-in-More-2.ensures),
       (
@@ -98,8 +98,8 @@ go_elements-returns-in-More t c =
     let element = c.in-More.element.value in
     let rest = c.in-More.rest.value in
     let counted = rw c.in-More.is at c.requires.counted in
-    let p = parts documents levels c.count_element-choices.result element c.deref.result.now rest d c.args.count c.args.index c.deref.ensures counted c.requires.few c.requires.inside c.count_element-choices.ensures in
-    let behind = c.args.count / c.count_element-choices.result in
+    let p = parts documents levels c.count_element_ways-choices.result element c.deref.result.now rest d c.args.count c.args.index c.deref.ensures counted c.requires.few c.requires.inside c.count_element_ways-choices.ensures.ways in
+    let behind = c.args.count / c.count_element_ways-choices.result in
     let middle = c.go_element-middle.result.track in
     let end = c.go_elements.result in
     let after_is = c.go_element-middle.ensures.digest ∙ ap (λ e. digest_at_element e d) c.deref-in-More.ensures in
@@ -163,7 +163,7 @@ go_branches-go_elements-requires t c =
     let branch = c.in-More.branch.value in
     let d = c.args.before in
     let counts = rw c.in-More.is at c.requires.branches in
-    let counted = first_counted documents levels c.count_elements-count.result branch c.deref.result.now c.in-More.rest.value d c.deref.ensures (rw c.in-More.is at c.requires.few) c.count_elements-count.ensures in
+    let counted = first_counted documents levels c.count_ways-count.result branch c.deref.result.now c.in-More.rest.value d c.deref.ensures (rw c.in-More.is at c.requires.few) c.count_ways-count.ensures.ways in
     let ways = ap (λ (b : ClosedBranch). length (element_list_ways documents levels b.policy.elements d)) (sym c.deref.ensures) in (
       omega (arith, rw c.in-More.is at c.decreases, ap (λ (b : ClosedBranch). weight b.policy.elements) c.deref.ensures),
       (
@@ -186,7 +186,7 @@ go_branches-go_branches-requires t c =
     let rest = c.in-More.rest.value in
     let d = c.args.before in
     let counts = rw c.in-More.is at c.requires.branches in
-    let counted = first_counted documents levels c.count_elements-count.result branch c.deref.result.now rest d c.deref.ensures (rw c.in-More.is at c.requires.few) c.count_elements-count.ensures in
+    let counted = first_counted documents levels c.count_ways-count.result branch c.deref.result.now rest d c.deref.ensures (rw c.in-More.is at c.requires.few) c.count_ways-count.ensures.ways in
     let ways = ap (λ r. length (branch_ways documents levels r 1 d)) c.deref-else-index-count.ensures ∙ branch_ways-count documents levels rest 1 2 d in (
       omega (arith, rw c.in-More.is at c.decreases, ap weight_of_branches c.deref-else-index-count.ensures),
       (
@@ -226,8 +226,8 @@ go_branches-returns-else-index-count t c =
     let rest = c.in-More.rest.value in
     let d = c.args.before in
     let end = c.go_branches.result in
-    let left = c.args.index - c.count_elements-count.result in
-    let counted = first_counted documents levels c.count_elements-count.result branch c.deref.result.now rest d c.deref.ensures (rw c.in-More.is at c.requires.few) c.count_elements-count.ensures in
+    let left = c.args.index - c.count_ways-count.result in
+    let counted = first_counted documents levels c.count_ways-count.result branch c.deref.result.now rest d c.deref.ensures (rw c.in-More.is at c.requires.few) c.count_ways-count.ensures.ways in
     rw c.in-More.is (λ state position h.
     let step = followed_by (path_of_step (Branch position branch.name)) in
     let ways = element_list_ways documents levels branch.policy.elements d in
@@ -243,7 +243,7 @@ go_approval-go_elements-behind-requires t c =
     let document = c.document-item.result in
     let index = c.loop-document.document-index in
     let level : levels ≢ 0 = omega (arith, c.if-walk-gt0.true) in
-    let counted = document_ways documents levels c.args.element.now c.count_elements-count.result index document c.loop-document-test.true c.document-item.is level (ap is_some (sym c.in-Some.ensures)) c.requires.few c.count_elements-count.ensures in
+    let counted = document_ways documents levels c.args.element.now c.count_ways-count.result index document c.loop-document-test.true c.document-item.is level (ap is_some (sym c.in-Some.ensures)) c.requires.few c.count_ways-count.ensures.ways in
     let inside = part_inside documents levels c.args.element.now index document c.loop-document-test.true c.document-item.is in
     let total = length-append (approved_paths (document_paths documents levels) documents c.args.element.now) (outside_paths c.args.element.now) in
     let light = weight-lt-greatest documents index document c.loop-document-test.true in
@@ -295,7 +295,7 @@ go_approval-loop-document-preserved t c =
     let more = parts_more documents levels c.args.element.now index document c.loop-document-test.true c.document-item.is in
     elim c.match-approval.branch [
       | go_approval-in-Some+else-left-count w ↦
-          let counted = document_ways documents levels c.args.element.now w.count_elements-count.result index document c.loop-document-test.true c.document-item.is level (ap is_some (sym w.in-Some.ensures)) c.requires.few w.count_elements-count.ensures in
+          let counted = document_ways documents levels c.args.element.now w.count_ways-count.result index document c.loop-document-test.true c.document-item.is level (ap is_some (sym w.in-Some.ensures)) c.requires.few w.count_ways-count.ensures.ways in
           omega (arith, more, counted.0, w.left-is, w.if-left-count.false, c.loop-document.invariant)
       | go_approval-in_default w ↦
           let none = part_passed documents levels c.args.element.now document (ap is_some (sym w.in_default.ensures)) in

@@ -14,19 +14,19 @@ use Rattle.tpol_choose.proofs.at_position.block_at_index.Goals as goal
 
 pub go_elements-track-requires-clause-counted : goal.go_elements-track-requires-clause-counted
 go_elements-track-requires-clause-counted c =
-    whole_counted c.args.walk.now.approvals.now c.args.walk.now.levels c.args.policy.now c.count_elements-count.result c.zero_digest.result c.requires.levels c.zero_digest.ensures c.requires.within c.count_elements-count.ensures
+    whole_counted c.args.walk.now.approvals.now c.args.walk.now.levels c.args.policy.now c.count_ways-count.result c.zero_digest.result c.requires.levels c.zero_digest.ensures c.requires.within c.count_ways-count.ensures.ways
 
 pub go_elements-track-requires-clause-few : goal.go_elements-track-requires-clause-few
 go_elements-track-requires-clause-few c =
     let documents = c.args.walk.now.approvals.now in
-    let counted = whole_counted documents c.args.walk.now.levels c.args.policy.now c.count_elements-count.result c.zero_digest.result c.requires.levels c.zero_digest.ensures c.requires.within c.count_elements-count.ensures in
+    let counted = whole_counted documents c.args.walk.now.levels c.args.policy.now c.count_ways-count.result c.zero_digest.result c.requires.levels c.zero_digest.ensures c.requires.within c.count_ways-count.ensures.ways in
     let same = ap length (whole_ways documents c.args.walk.now.levels c.args.policy.now c.zero_digest.result c.requires.levels c.zero_digest.ensures) in
     omega (arith, counted, same, c.requires.within.few)
 
 pub go_elements-track-requires-clause-inside : goal.go_elements-track-requires-clause-inside
 go_elements-track-requires-clause-inside c =
     let documents = c.args.walk.now.approvals.now in
-    let counted = whole_counted documents c.args.walk.now.levels c.args.policy.now c.count_elements-count.result c.zero_digest.result c.requires.levels c.zero_digest.ensures c.requires.within c.count_elements-count.ensures in
+    let counted = whole_counted documents c.args.walk.now.levels c.args.policy.now c.count_ways-count.result c.zero_digest.result c.requires.levels c.zero_digest.ensures c.requires.within c.count_ways-count.ensures.ways in
     let same = ap length (whole_ways documents c.args.walk.now.levels c.args.policy.now c.zero_digest.result c.requires.levels c.zero_digest.ensures) in
     omega (arith, counted, same, c.requires.inside)
 
