@@ -1,15 +1,22 @@
 -- A reply that is read answers the command that was sent: so the cases of other replies never come.
-use Rattle.std.proofs.Common.{cond, ◌≡◌, ◌⊎◌, ℕ, Bool, true, false, ◌∙◌, sym, ap, subst, inl, inr, refl, arith, List, Option, Some, None, unwrap_or, Ok}
+use Rattle.std.proofs.Common.{cond, ◌≡◌, ◌⊎◌, ℕ, Bool, true, false, ◌∙◌, sym, ap, subst, inl, inr, refl, arith, List, [], ◌∷◌, Option, Some, None, unwrap_or, Ok}
+use Rattle.std.specs.Option.{option_map_or}
 use Rattle.tpol_base.specs.CommandCode.{code_of_number, number_of_code}
 use Rattle.tpol_base.specs.declared.command_code.CommandCode.{CommandCode}
 use Rattle.tpol_base.specs.declared.command_code.CommandCode.TheVariants as codes
 use Rattle.tpol_driver.specs.Answers.{answer_of, answer_of_reply}
 use Rattle.tpol_driver.specs.Causes.{HasWrongArea, IsBytes}
-use Rattle.tpol_driver.specs.Commands.{command_of_move}
+use Rattle.tpol_driver.specs.Blind as blind
+use Rattle.tpol_driver.specs.Blind.{restart_heard}
 use Rattle.tpol_driver.specs.Driving.{Over, goal_heard, is_verification, move_heard, stage_of_move, start_heard, verified}
 use Rattle.tpol_driver.specs.GoalUse.{bytes_of_reply, is_right_area}
+use Rattle.tpol_driver.specs.Tickets.{command_on_path, ticket_for}
 use Rattle.tpol_driver.specs.declared.answer.Answer.{Answer}
 use Rattle.tpol_driver.specs.declared.answer.Answer.TheVariants.{Done, Denied, Malformed}
+use Rattle.tpol_driver.specs.declared.blind_end.BlindEnd.TheVariants as blind_ends
+use Rattle.tpol_driver.specs.declared.blind_end.Tried.{Tried}
+use Rattle.tpol_driver.specs.declared.tickets.HeldTicket.{HeldTicket}
+use Rattle.tpol_driver.proofs.MoveLaws.{code_of_path_command}
 use Rattle.tpol_driver.specs.declared.end.End.{End}
 use Rattle.tpol_driver.specs.declared.end.End.TheVariants as ends
 use Rattle.tpol_driver.specs.declared.end.Stage.TheVariants as stages
@@ -18,10 +25,8 @@ use Rattle.tpol_base.specs.declared.digest.Digest32.{Digest32}
 use Rattle.tpol_base.specs.declared.name.Name.{Name}
 use Rattle.tpol_driver.specs.declared.session.Session.{Session}
 use Rattle.tpol_driver.specs.declared.step.Heard.TheVariants.{Accepted, Failed}
-use Rattle.tpol_name.specs.declared.entries.DirEntry.{DirEntry}
 use Rattle.tpol_tree.specs.declared.path.Move.{Move}
 use Rattle.tpol_tree.specs.declared.path.Move.TheVariants.{Approve}
-use Rattle.tpol_goal.specs.declared.grants.Grants.{Grants}
 use Rattle.tpol_goal.specs.declared.goal.Goal.{Goal}
 use Rattle.tpol_goal.specs.declared.goal.Goal.TheVariants as goals
 use Rattle.tpol_goal.specs.Goals.{code_of_goal}
@@ -87,10 +92,35 @@ plain_bad ticket act at (Done reply auth) plain bad = absurd (done_not_failed (i
 plain_bad ticket act at (Denied rc) plain bad = absurd cc
 plain_bad ticket act at Malformed plain bad = refl
 
-pub bad_move : (directory : List DirEntry) (grants : Grants) (session : Session) (ticket : Option Ticket) (act : Move) (at : ℕ) (bytes : List ℕ) → IsBytes bytes → move_heard ticket act at (answer_of (reply_reading (number_of_code (code_of_command (command_of_move directory grants session ticket act))) bytes)) ≡ Failed (ends.BadReply (stage_of_move ticket act at)) → reply_reading (number_of_code (code_of_command (command_of_move directory grants session ticket act))) bytes ≡ None
-bad_move directory grants session None (Approve key policy_ref approved signature) at bytes fits bad = bad_verify key policy_ref approved signature at bytes fits bad
-bad_move directory grants session None act at bytes fits bad = malformed_reading _ (plain_bad None act at _ refl bad)
-bad_move directory grants session (Some ticket) act at bytes fits bad = malformed_reading _ (plain_bad (Some ticket) act at _ refl bad)
+-- no ticket stands for an approval
+none_for_approval : (tickets : List HeldTicket) (key : Name) (policy_ref : List ℕ) (approved signature : Digest32) → ticket_for tickets (Approve key policy_ref approved signature) ≡ None
+none_for_approval [] key policy_ref approved signature = refl
+none_for_approval (held ∷ rest) key policy_ref approved signature = none_for_approval rest key policy_ref approved signature
+
+verifies : (plan : Plan) (session : Session) (key : Name) (policy_ref : List ℕ) (approved signature : Digest32) → code_of_command (command_on_path plan session None (Approve key policy_ref approved signature)) ≡ codes.VerifySignature
+verifies plan session key policy_ref approved signature =
+    code_of_path_command plan session None (Approve key policy_ref approved signature)
+    ∙ ap (λ (held : Option HeldTicket). option_map_or (λ (h : HeldTicket). codes.PolicyTicket) held codes.VerifySignature) (none_for_approval plan.tickets key policy_ref approved signature)
+
+pub bad_move : (plan : Plan) (session : Session) (ticket : Option Ticket) (act : Move) (at : ℕ) (bytes : List ℕ) → IsBytes bytes → move_heard ticket act at (answer_of (reply_reading (number_of_code (code_of_command (command_on_path plan session ticket act))) bytes)) ≡ Failed (ends.BadReply (stage_of_move ticket act at)) → reply_reading (number_of_code (code_of_command (command_on_path plan session ticket act))) bytes ≡ None
+bad_move plan session None (Approve key policy_ref approved signature) at bytes fits bad =
+    let P : CommandCode → Type 0 = λ code. move_heard None (Approve key policy_ref approved signature) at (answer_of (reply_reading (number_of_code code) bytes)) ≡ Failed (ends.BadReply (stages.Verify at)) → reply_reading (number_of_code code) bytes ≡ None in
+    subst P (sym (verifies plan session key policy_ref approved signature)) (bad_verify key policy_ref approved signature at bytes fits) bad
+bad_move plan session None act at bytes fits bad = malformed_reading _ (plain_bad None act at _ refl bad)
+bad_move plan session (Some ticket) act at bytes fits bad = malformed_reading _ (plain_bad (Some ticket) act at _ refl bad)
+
+-- ---- PolicyRestart
+
+restart_not_bad : (session : Session) (sent place : ℕ) (tries : List Tried) (reply : Reply) (auth : Option ReplyAuth) → restart_heard session sent place tries (answer_of_reply reply auth) ≡ blind.Closing session.handle (blind_ends.BadReply stages.Restart) → ⊥
+restart_not_bad session sent place tries (replies.Refused rc) auth bad = cc
+restart_not_bad session sent place tries reply auth bad = cc
+
+restart_cases : (session : Session) (sent place : ℕ) (tries : List Tried) (read : Option (Reply × Option ReplyAuth)) → restart_heard session sent place tries (answer_of read) ≡ blind.Closing session.handle (blind_ends.BadReply stages.Restart) → read ≡ None
+restart_cases session sent place tries None bad = refl
+restart_cases session sent place tries (Some found) bad = absurd (restart_not_bad session sent place tries found.0 found.1 bad)
+
+pub bad_restart : (session : Session) (sent place : ℕ) (tries : List Tried) (bytes : List ℕ) → restart_heard session sent place tries (answer_of (reply_reading (number_of_code codes.PolicyRestart) bytes)) ≡ blind.Closing session.handle (blind_ends.BadReply stages.Restart) → reply_reading (number_of_code codes.PolicyRestart) bytes ≡ None
+bad_restart session sent place tries bytes bad = restart_cases session sent place tries _ bad
 
 -- ---- the goal
 

@@ -19,11 +19,11 @@ use Rattle.tpol_fields.specs.declared.ticket.Ticket.{Ticket}
 
 -- how many commands are left at most, with so many moves left; with a ticket a move is left in each run, and
 -- where none were, two commands would be
-abbrev left_on : ℕ → Option Ticket → ℕ
+abbrev pub left_on : ℕ → Option Ticket → ℕ
 left_on moves None = 2 * moves + 2
 left_on moves (Some ticket) = 2 * moves + 1 + (1 - moves)
 
-abbrev left : Plan → Standing → ℕ
+abbrev pub left : Plan → Standing → ℕ
 left plan Starting = 2 * length plan.path.moves + 3
 left plan (Moving session sent ticket done) = left_on (length plan.path.moves - done) ticket
 left plan (Closing session end) = 1
@@ -51,7 +51,7 @@ done_left plan session sent None done (Approve key policy_ref approved signature
 done_left plan session sent None done act reply auth before = omega arith
 done_left plan session sent (Some ticket) done act reply auth before = omega arith
 
-failed_left : (moves : ℕ) (ticket : Option Ticket) → 2 ≤ left_on moves ticket
+pub failed_left : (moves : ℕ) (ticket : Option Ticket) → 2 ≤ left_on moves ticket
 failed_left moves None = omega arith
 failed_left moves (Some ticket) = omega arith
 
@@ -65,7 +65,7 @@ goal_left : (plan : Plan) (session : ℕ) (end : End) → left plan (after_goal 
 goal_left plan session (ends.Served bytes) = omega arith
 goal_left plan session end = omega arith
 
-path_left : (plan : Plan) (session : Session) (sent : ℕ) (ticket : Option Ticket) (done : ℕ) (act : Option Move) (answer : Answer) → slice_get plan.path.moves done ≡ act
+pub path_left : (plan : Plan) (session : Session) (sent : ℕ) (ticket : Option Ticket) (done : ℕ) (act : Option Move) (answer : Answer) → slice_get plan.path.moves done ≡ act
     → left plan (heard_on_path plan session sent ticket done act answer) + 1 ≤ left_on (length plan.path.moves - done) ticket
 path_left plan session sent ticket done (Some act) answer is = move_left plan session sent ticket done act answer (slice_get_within plan.path.moves done act is)
 path_left plan session sent ticket done None answer is =

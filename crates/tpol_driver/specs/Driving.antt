@@ -1,5 +1,5 @@
 -- Driving: the next command of a run, or its end, as a function of its plan and of the replies so far.
-use Rattle.std.specs.Prelude.{ℕ, ◌+◌, Bool, true, false, List, Option, Some, None, slice_get, if◌then◌else◌}
+use Rattle.std.specs.Prelude.{ℕ, ◌+◌, Bool, true, false, List, [], ◌∷◌, ◌++◌, Option, Some, None, slice_get, if◌then◌else◌}
 use Rattle.std.specs.List.{fold}
 use Rattle.tpol_base.specs.CommandCode.{number_of_code}
 use Rattle.tpol_driver.specs.declared.answer.Answer.{Answer}
@@ -12,9 +12,11 @@ use Rattle.tpol_driver.specs.declared.plan.Plan.{Plan}
 use Rattle.tpol_driver.specs.declared.session.Session.{Session}
 use Rattle.tpol_driver.specs.declared.step.Heard.{Heard}
 use Rattle.tpol_driver.specs.declared.step.Heard.TheVariants.{Verified, Accepted, Failed}
+use Rattle.tpol_driver.specs.declared.tickets.HeldTicket.{HeldTicket}
 use Rattle.tpol_driver.specs.Answers.{answer_of}
-use Rattle.tpol_driver.specs.Commands.{command_of_move, start_command}
+use Rattle.tpol_driver.specs.Commands.{start_command}
 use Rattle.tpol_driver.specs.GoalUse.{bytes_of_reply, goal_command, is_right_area}
+use Rattle.tpol_driver.specs.Tickets.{command_on_path, earned_in}
 use Rattle.tpol_tree.specs.declared.path.Move.{Move}
 use Rattle.tpol_tree.specs.declared.path.Move.TheVariants.{Approve}
 use Rattle.tpol_wire.specs.declared.auth_area.ReplyAuth.{ReplyAuth}
@@ -35,10 +37,11 @@ pub data Standing : Type 0 where
   Closing : ℕ → End → Standing
   Over : End → Standing
 
--- a run: its plan, and where it stands
+-- a run: its plan, where it stands, and the tickets that it has earned
 pub record Driving : Type 0 where
   pub plan : Plan
   pub standing : Standing
+  pub earned : List HeldTicket
 
 -- the next command, or the end
 pub data Drive : Type 0 where
@@ -49,7 +52,7 @@ pub data Drive : Type 0 where
 
 -- a move's command, and the goal's where no move is left
 abbrev pub next_command : Plan → Session → ℕ → Option Ticket → Option Move → Command
-next_command plan session sent ticket (Some act) = command_of_move plan.directory plan.grants session ticket act
+next_command plan session sent ticket (Some act) = command_on_path plan session ticket act
 next_command plan session sent ticket None = goal_command plan session sent
 
 abbrev pub sends : Plan → Standing → Drive
@@ -136,6 +139,16 @@ abbrev pub hears : Plan → Standing → List ℕ → Standing
 hears plan standing reply =
     heard plan standing (answer_of (reply_reading (code_sent (sends plan standing)) reply))
 
+-- the tickets that an answer earns: on the path, one to the command of a move
+abbrev pub earned_after : Plan → Standing → Answer → List HeldTicket
+earned_after plan (Moving session sent ticket done) answer = earned_in (slice_get plan.path.moves done) answer
+earned_after plan _ answer = []
+
+-- the same of the bytes that came
+abbrev pub earned_by : Plan → Standing → List ℕ → List HeldTicket
+earned_by plan standing reply =
+    earned_after plan standing (answer_of (reply_reading (code_sent (sends plan standing)) reply))
+
 -- ---- the whole run
 
 -- where a run stands after these replies
@@ -145,3 +158,12 @@ stands_after plan replies = fold (hears plan) Starting replies
 -- what a run does after these replies
 abbrev pub drive : Plan → List (List ℕ) → Drive
 drive plan replies = sends plan (stands_after plan replies)
+
+-- the tickets that these replies earn from here on, in order
+abbrev pub tickets_from : Plan → Standing → List (List ℕ) → List HeldTicket
+tickets_from plan at [] = []
+tickets_from plan at (reply ∷ rest) = earned_by plan at reply ++ tickets_from plan (hears plan at reply) rest
+
+-- the tickets that a run has earned after these replies
+abbrev pub tickets_after : Plan → List (List ℕ) → List HeldTicket
+tickets_after plan replies = tickets_from plan Starting replies

@@ -1,9 +1,14 @@
 pub mod Answers
+pub mod Attempts
+pub mod Blind
+pub mod BlindStates
 pub mod Causes
 pub mod Codes
 pub mod Commands
 pub mod Driving
 pub mod GoalUse
+pub mod Lent
 pub mod Plans
 pub mod States
+pub mod Tickets
 pub mod Underway

@@ -3,6 +3,7 @@ use Rattle.std.specs.Prelude.{◌≡◌, ℕ, Bool, true, false, List}
 use Rattle.tpol_driver.specs.declared.next.Next.{Next}
 use Rattle.tpol_driver.specs.declared.next.Next.TheVariants as states
 use Rattle.tpol_driver.specs.declared.plan.Plan.{Plan}
+use Rattle.tpol_driver.specs.declared.tickets.HeldTicket.{HeldTicket}
 use Rattle.tpol_driver.specs.Driving.{Drive, Sends, Ends, Standing, Over}
 use Rattle.tpol_wire.specs.Commands.{spelling}
 
@@ -16,12 +17,12 @@ abbrev pub is_over : Standing → Bool
 is_over (Over end) = true
 is_over _ = false
 
--- the state of a run of this plan that stands here; it is `Over` exactly at the end
-abbrev pub IsNext : Plan → Standing → Next → Type 0
-IsNext plan standing (states.Asserting state) =
-    (state ≡ record { plan = plan; standing = standing }) × (is_over standing ≡ false)
-IsNext plan standing (states.Ready state) =
-    (state ≡ record { plan = plan; standing = standing }) × (is_over standing ≡ false)
-IsNext plan standing (states.Closing state) =
-    (state ≡ record { plan = plan; standing = standing }) × (is_over standing ≡ false)
-IsNext plan standing (states.Over over) = standing ≡ Over over.end
+-- the state of a run of this plan that stands here and has earned these tickets; it is `Over` exactly at the end
+abbrev pub IsNext : Plan → List HeldTicket → Standing → Next → Type 0
+IsNext plan earned standing (states.Asserting state) =
+    (state ≡ record { plan = plan; standing = standing; earned = earned }) × (is_over standing ≡ false)
+IsNext plan earned standing (states.Ready state) =
+    (state ≡ record { plan = plan; standing = standing; earned = earned }) × (is_over standing ≡ false)
+IsNext plan earned standing (states.Closing state) =
+    (state ≡ record { plan = plan; standing = standing; earned = earned }) × (is_over standing ≡ false)
+IsNext plan earned standing (states.Over over) = (standing ≡ Over over.end) × (over.earned ≡ earned)

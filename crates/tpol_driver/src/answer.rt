@@ -3,7 +3,7 @@
 ghost use Rattle.std.specs.Prelude.{◌≡◌, IfOk};
 ghost use Rattle.tpol_base.specs.CommandCode.{number_of_code};
 ghost use Rattle.tpol_wire.specs.ReplyReading.{reply_reading};
-ghost use Rattle.tpol_driver.specs.Answers.{answer_of};
+ghost use Rattle.tpol_driver.specs.Answers.{HasWholeTicket, answer_of};
 
 use std::alloc::Global;
 use tpol_base::{CommandCode, NoMemory, Rc};
@@ -26,7 +26,8 @@ pub(crate) fn read_answer(
     code: CommandCode,
     reply: &[u8],
 ) -> Result<Answer, NoMemory>
-    ensures { IfOk result (λ answer. answer ≡ answer_of (reply_reading (number_of_code code) reply.now)) }
+    ensures whole { IfOk result HasWholeTicket }
+    ensures answer { IfOk result (λ answer. answer ≡ answer_of (reply_reading (number_of_code code) reply.now)) }
 {
     match read_reply(alloc, code.number(), reply) {
         Ok((Reply::Refused(rc), _)) => Ok(Answer::Denied(rc)),

@@ -1,17 +1,20 @@
 //! The moves of a path.
 
-ghost use Rattle.std.specs.Prelude.{◌≡◌, ◌<◌, ◌≤◌, ◌+◌, ◌*◌, Some, length, slice_get, IfOk, IfErr};
-ghost use Rattle.tpol_driver.specs.Driving.{Moving, goes_on, hears, sends};
+ghost use Rattle.std.specs.Prelude.{◌≡◌, ◌<◌, ◌≤◌, ◌+◌, ◌*◌, ◌++◌, Some, length, slice_get, IfOk, IfErr};
+ghost use Rattle.tpol_driver.specs.Answers.{HasWholeTicket, answer_of};
+ghost use Rattle.tpol_driver.specs.Driving.{Moving, code_sent, earned_after, earned_by, goes_on, heard, hears, sends};
 ghost use Rattle.tpol_driver.specs.States.{IsNext, IsSent};
 ghost use Rattle.tpol_driver.specs.Underway.{most_before};
+ghost use Rattle.tpol_wire.specs.ReplyReading.{reply_reading};
 
+use crate::answer::Answer;
 use crate::closing::Closing;
-use crate::commands::moves;
 use crate::next::Next;
 use crate::plan::Plan;
 use crate::ready::Ready;
 use crate::session::Session;
-use crate::step::{Heard, hear};
+use crate::step::{Heard, answer, command, said};
+use crate::tickets::{Tickets, earn};
 use std::alloc::Global;
 use std::marker::Model;
 use tpol_base::{Blob, NoMemory};
@@ -29,6 +32,7 @@ pub struct Asserting {
     ticket: Option<Ticket>,
     // The count of the moves that are done.
     done: usize,
+    earned: Tickets,
 }
 
 impl Model for Asserting {
@@ -37,17 +41,17 @@ impl Model for Asserting {
 
     ghost Value = { Driving };
 
-    ghost view = { λ a. record { plan = a.plan; standing = Moving a.session a.sent a.ticket a.done } };
+    ghost view = { λ a. record { plan = a.plan; standing = Moving a.session a.sent a.ticket a.done; earned = a.earned } };
 
     ghost invariant = { λ a. IsUnderway a.plan a.sent a.ticket a.done };
 }
 
 impl Asserting {
     // A run at the front of its path.
-    pub(crate) fn new(plan: Plan, session: Session) -> Asserting
+    pub(crate) fn new(plan: Plan, session: Session, earned: Tickets) -> Asserting
         requires some { 0 < length plan.path.moves }
         requires room { length plan.path.moves ≤ 512 }
-        ensures { result ≡ record { plan = plan; standing = Moving session 1 None 0 } }
+        ensures { result ≡ record { plan = plan; standing = Moving session 1 None 0; earned = earned } }
     {
         Asserting {
             plan,
@@ -55,17 +59,18 @@ impl Asserting {
             sent: 1,
             ticket: None,
             done: 0,
+            earned,
         }
     }
 
-    /// The next command: that of the next move. Before PolicyAuthorize it is VerifySignature.
+    /// The next command: that of the next move, by a ticket where the plan has one that stands for it. Before
+    /// PolicyAuthorize it is VerifySignature.
     pub fn next(&self, alloc: Global) -> Result<Blob, NoMemory>
         ensures sends { IfOk result (IsSent (sends self.now.plan self.now.standing)) }
     {
-        let command = moves::command(
+        let command = command(
             alloc,
-            self.plan.directory.as_slice(),
-            &self.plan.grants,
+            &self.plan.lent(),
             &self.session,
             &self.ticket,
             move_at(&self.plan, self.done),
@@ -75,32 +80,78 @@ impl Asserting {
 
     /// Goes on with the reply. With `NoMemory` the state comes back unchanged.
     pub fn take(self, alloc: Global, reply: &[u8]) -> Result<Next, (Asserting, NoMemory)>
-        ensures next { IfOk result (IsNext self.plan (hears self.plan self.standing reply.now)) }
+        ensures next { IfOk result (IsNext self.plan (self.earned ++ earned_by self.plan self.standing reply.now) (hears self.plan self.standing reply.now)) }
         ensures back { IfErr result (λ refused. refused.0 ≡ self) }
     {
-        let act = move_at(&self.plan, self.done);
-        match hear(alloc, &self.ticket, act, self.done as u32 + 1, reply) {
-            Ok(heard) => {
-                let Asserting {
+        match self.answer(alloc, reply) {
+            Ok(answer) => self.after(answer),
+            Err(no_memory) => Err((self, no_memory)),
+        }
+    }
+
+    // What these bytes answer.
+    fn answer(&self, alloc: Global, reply: &[u8]) -> Result<Answer, NoMemory>
+        ensures whole { IfOk result HasWholeTicket }
+        ensures answer { IfOk result (λ answer. answer
+            ≡ answer_of (reply_reading (code_sent (sends self.now.plan self.now.standing)) reply.now)) }
+    {
+        answer(
+            alloc,
+            self.plan.tickets.as_slice(),
+            &self.ticket,
+            move_at(&self.plan, self.done),
+            reply,
+        )
+    }
+
+    // The state after this answer. With `NoMemory` the state comes back unchanged.
+    fn after(self, answer: Answer) -> Result<Next, (Asserting, NoMemory)>
+        requires { HasWholeTicket answer }
+        ensures next { IfOk result (IsNext self.plan (self.earned ++ earned_after self.plan self.standing answer) (heard self.plan self.standing answer)) }
+        ensures back { IfErr result (λ refused. refused.0 ≡ self) }
+    {
+        let Asserting {
+            plan,
+            session,
+            sent,
+            ticket,
+            done,
+            mut earned,
+        } = self;
+        let act = move_at(&plan, done);
+        match earn(&mut earned, act, &answer) {
+            Ok(()) => {
+                let heard = said(&ticket, act, done as u32 + 1, answer);
+                Ok(goes_on(plan, session, sent, done, earned, heard))
+            }
+            Err(no_memory) => {
+                let asserting = Asserting {
                     plan,
                     session,
                     sent,
+                    ticket,
                     done,
-                    ..
-                } = self;
-                Ok(goes_on(plan, session, sent, done, heard))
+                    earned,
+                };
+                Err((asserting, no_memory))
             }
-            Err(no_memory) => Err((self, no_memory)),
         }
     }
 }
 
 // The state after what was heard of a move's command.
-fn goes_on(plan: Plan, session: Session, sent: u32, done: usize, heard: Heard) -> Next
+fn goes_on(
+    plan: Plan,
+    session: Session,
+    sent: u32,
+    done: usize,
+    earned: Tickets,
+    heard: Heard,
+) -> Next
     requires left { done < length plan.path.moves }
     requires room { length plan.path.moves ≤ 512 }
     requires few { sent ≤ 2 * done + most_before heard }
-    ensures { IsNext plan (goes_on session sent done heard) result }
+    ensures { IsNext plan earned (goes_on session sent done heard) result }
 {
     match heard {
         Heard::Verified(ticket) => Next::Asserting(Asserting {
@@ -109,21 +160,22 @@ fn goes_on(plan: Plan, session: Session, sent: u32, done: usize, heard: Heard) -
             sent: sent + 1,
             ticket: Some(ticket),
             done,
+            earned,
         }),
-        Heard::Accepted => accepted(plan, session, sent + 1, done + 1),
-        Heard::Failed(end) => Next::Closing(Closing::new(plan, session.handle, end)),
+        Heard::Accepted => accepted(plan, session, sent + 1, done + 1, earned),
+        Heard::Failed(end) => Next::Closing(Closing::new(plan, session.handle, end, earned)),
     }
 }
 
 // The state behind a move.
-fn accepted(plan: Plan, session: Session, sent: u32, done: usize) -> Next
+fn accepted(plan: Plan, session: Session, sent: u32, done: usize, earned: Tickets) -> Next
     requires within { done ≤ length plan.path.moves }
     requires room { length plan.path.moves ≤ 512 }
     requires few { sent ≤ 2 * done + 1 }
-    ensures { IsNext plan (Moving session sent None done) result }
+    ensures { IsNext plan earned (Moving session sent None done) result }
 {
     if done == plan.path.moves.len() {
-        Next::Ready(Ready::new(plan, session, sent))
+        Next::Ready(Ready::new(plan, session, sent, earned))
     } else {
         Next::Asserting(Asserting {
             plan,
@@ -131,6 +183,7 @@ fn accepted(plan: Plan, session: Session, sent: u32, done: usize) -> Next
             sent,
             ticket: None,
             done,
+            earned,
         })
     }
 }

@@ -1,12 +1,13 @@
 //! The end of a run's session.
 
-ghost use Rattle.std.specs.Prelude.{◌≡◌, IfOk, IfErr};
-ghost use Rattle.tpol_driver.specs.Driving.{Closing as StandsClosing, hears, sends};
+ghost use Rattle.std.specs.Prelude.{◌≡◌, ◌++◌, IfOk, IfErr};
+ghost use Rattle.tpol_driver.specs.Driving.{Closing as StandsClosing, earned_by, hears, sends};
 ghost use Rattle.tpol_driver.specs.States.{IsNext, IsSent};
 
 use crate::end::End;
 use crate::next::{Next, Over};
 use crate::plan::Plan;
+use crate::tickets::Tickets;
 use std::alloc::Global;
 use std::marker::Model;
 use tpol_base::{Blob, NoMemory};
@@ -18,6 +19,7 @@ pub struct Closing {
     plan: Plan,
     session: u32,
     end: End,
+    earned: Tickets,
 }
 
 impl Model for Closing {
@@ -25,14 +27,19 @@ impl Model for Closing {
 
     ghost Value = { Driving };
 
-    ghost view = { λ c. record { plan = c.plan; standing = StandsClosing c.session c.end } };
+    ghost view = { λ c. record { plan = c.plan; standing = StandsClosing c.session c.end; earned = c.earned } };
 }
 
 impl Closing {
-    pub(crate) fn new(plan: Plan, session: u32, end: End) -> Closing
-        ensures { result ≡ record { plan = plan; standing = StandsClosing session end } }
+    pub(crate) fn new(plan: Plan, session: u32, end: End, earned: Tickets) -> Closing
+        ensures { result ≡ record { plan = plan; standing = StandsClosing session end; earned = earned } }
     {
-        Closing { plan, session, end }
+        Closing {
+            plan,
+            session,
+            end,
+            earned,
+        }
     }
 
     /// The next command: FlushContext of the session.
@@ -47,10 +54,10 @@ impl Closing {
 
     /// Ends the run with the end that is known, whatever is answered.
     pub fn take(self, _alloc: Global, reply: &[u8]) -> Result<Next, (Closing, NoMemory)>
-        ensures next { IfOk result (IsNext self.plan (hears self.plan self.standing reply.now)) }
+        ensures next { IfOk result (IsNext self.plan (self.earned ++ earned_by self.plan self.standing reply.now) (hears self.plan self.standing reply.now)) }
         ensures back { IfErr result (λ refused. refused.0 ≡ self) }
     {
-        let Closing { end, .. } = self;
-        Ok(Next::Over(Over { end }))
+        let Closing { end, earned, .. } = self;
+        Ok(Next::Over(Over { end, earned }))
     }
 }

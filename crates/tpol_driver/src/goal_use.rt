@@ -1,8 +1,8 @@
 //! The use of the session on the goal: the goal's command with its authorization, and what its reply has to
 //! be.
 
-ghost use Rattle.std.specs.Prelude.{◌≡◌, [], IfOk, length};
-ghost use Rattle.tpol_driver.specs.GoalUse.{area_of_goal, auth_after, auth_of_path, bytes_of_reply, command_of_goal, goal_command, goal_cp_hash, goal_hmac, goal_rp_hash, goal_secret, is_right_area, mac_key, right_hmac, unless_empty};
+ghost use Rattle.std.specs.Prelude.{◌≡◌, IfOk, length};
+ghost use Rattle.tpol_driver.specs.GoalUse.{area_of_goal, auth_of_path, bytes_of_reply, goal_command, goal_hmac, goal_secret, is_right_area, mac_key, plan_cp_hash, right_hmac, unless_empty};
 ghost use Rattle.std.specs.Str.{bytes_eq};
 ghost use Rattle.tpm_auth.specs.SessionMacs.{command_mac};
 ghost use Rattle.tpol_base.specs.CommandCode.{number_of_code};
@@ -10,117 +10,48 @@ ghost use Rattle.tpol_goal.specs.Goals.{code_of_goal};
 ghost use Rattle.tpol_wire.specs.ReplyReading.{reply_reading};
 ghost use Rattle.tpol_driver.specs.Answers.{answer_of};
 ghost use Rattle.tpol_driver.specs.Driving.{goal_done, goal_heard};
+ghost use Rattle.tpol_driver.specs.Lent.{plan_of};
 
 use crate::answer::{Answer, read_answer};
 use crate::commands::start_auth_session::caller_nonce;
 use crate::end::{End, Stage};
-use crate::plan::Plan;
+use crate::path_plan::PathPlan;
 use crate::session::Session;
 use std::alloc::Global;
 use tpm_auth::{command_mac, reply_mac};
-use tpol_base::constants::TPM_ALG_SHA256;
+use tpm_bindings::{Bindings, LastAuth};
 use tpol_base::{Blob, Digest32, NoMemory};
-use tpol_goal::Goal;
-use tpol_hash::Hasher;
-use tpol_tree::{Assertion, Move};
-use tpol_wire::{AuthArea, Command, Reply, ReplyAuth, fields_of, parameters_of};
-
-/// What authorizes the use of the session: the last PolicyAuthValue or PolicyPassword of the path.
-#[derive(Clone, Copy)]
-pub(crate) enum GoalAuth {
-    /// Neither stands on the path: the policy alone.
-    Nothing,
-    /// PolicyAuthValue: an HMAC under the value of the goal's entity.
-    Hmac,
-    /// PolicyPassword: the value itself.
-    Password,
-}
+use tpol_tree::Move;
+use tpol_wire::{AuthArea, Command, Reply, ReplyAuth, rp_hash};
 
 /// The session attributes of the use: continueSession is clear, so that the session ends with it.
 const ATTRIBUTES: u8 = 0;
 
-fn auth_after(auth: GoalAuth, act: &Move) -> GoalAuth
-    ensures { result ≡ auth_after auth act.now }
-{
-    match act {
-        Move::Assert(Assertion::AuthValue) => GoalAuth::Hmac,
-        Move::Assert(Assertion::Password) => GoalAuth::Password,
-        _ => auth,
-    }
-}
-
-fn auth_of_path(moves: &[Move]) -> GoalAuth
+// How the value of the goal's entity is to be proved, as the moves of the path ask for.
+fn auth_of_path(moves: &[Move]) -> LastAuth
     ensures { result ≡ auth_of_path moves.now }
 {
-    moves
-        .iter()
-        .fold(GoalAuth::Nothing, |auth, act| auth_after(auth, act))
+    let mut bindings = Bindings::new();
+    for act in moves {
+        bindings.merge(act, None, None);
+    }
+    bindings.last_auth()
 }
 
 // The value that is granted for the goal's entity, empty where none is.
-fn goal_secret(plan: &Plan) -> &[u8]
-    ensures { result.now ≡ goal_secret plan.now }
+fn goal_secret<'a>(plan: &PathPlan<'a>) -> &'a [u8]
+    ensures { result.now ≡ goal_secret (plan_of plan.now) }
 {
     plan.grants.secret(plan.goal.entity())
 }
 
 // The key of the HMACs of the command and of its reply.
-fn mac_key(plan: &Plan) -> &[u8]
-    ensures { result.now ≡ mac_key plan.now }
+fn mac_key<'a>(plan: &PathPlan<'a>) -> &'a [u8]
+    ensures { result.now ≡ mac_key (plan_of plan.now) }
 {
     match auth_of_path(plan.path.moves.as_slice()) {
-        GoalAuth::Hmac => goal_secret(plan),
-        GoalAuth::Nothing | GoalAuth::Password => &[],
-    }
-}
-
-// The goal's command with this authorization.
-fn command_of_goal(goal: &Goal, auth: AuthArea) -> Result<Command, NoMemory>
-    ensures { IfOk result (λ command. command ≡ command_of_goal goal.now auth) }
-{
-    match goal {
-        Goal::Unseal { object } => Ok(Command::Unseal {
-            object: *object,
-            auth,
-        }),
-        Goal::Hmac { key, buffer } => Ok(Command::Hmac {
-            key: *key,
-            auth,
-            buffer: buffer.clone()?,
-            hash: TPM_ALG_SHA256,
-        }),
-        Goal::NvRead {
-            index,
-            size,
-            offset,
-        } => Ok(Command::NvRead {
-            authority: *index,
-            index: *index,
-            auth,
-            size: *size,
-            offset: *offset,
-        }),
-        Goal::NvWrite {
-            index,
-            offset,
-            bytes,
-        } => Ok(Command::NvWrite {
-            authority: *index,
-            index: *index,
-            auth,
-            bytes: bytes.clone()?,
-            offset: *offset,
-        }),
-        Goal::NvIncrement { index } => Ok(Command::NvIncrement {
-            authority: *index,
-            index: *index,
-            auth,
-        }),
-        Goal::Duplicate { object, parent } => Ok(Command::Duplicate {
-            object: *object,
-            parent: *parent,
-            auth,
-        }),
+        LastAuth::AuthValue => goal_secret(plan),
+        LastAuth::Neither | LastAuth::Password => &[],
     }
 }
 
@@ -141,39 +72,21 @@ fn area_of_goal(
     })
 }
 
-// The hash of the goal's code, the Names of its handles and its parameters.
-fn goal_cp_hash(
-    alloc: Global,
-    plan: &Plan,
-    session: &Session,
-    nonce_caller: &Digest32,
-) -> Result<Digest32, NoMemory>
-    ensures { IfOk result (λ hash. hash ≡ goal_cp_hash plan.now (area_of_goal session.now nonce_caller.now [])) }
-{
-    let area = area_of_goal(alloc, session, nonce_caller, Blob::new(alloc))?;
-    let parameters = parameters_of(alloc, &command_of_goal(&plan.goal, area)?)?;
-    let mut hasher = Hasher::new();
-    hasher.put(&plan.goal.code().number().to_be_bytes());
-    plan.goal.put_names(plan.directory.as_slice(), &mut hasher);
-    hasher.put(parameters.as_slice());
-    Ok(hasher.done())
-}
-
 // The HMAC of the goal's command, empty where its key is.
 fn command_hmac(
     alloc: Global,
-    plan: &Plan,
+    plan: &PathPlan<'_>,
     session: &Session,
     nonce_caller: &Digest32,
 ) -> Result<Blob, NoMemory>
-    ensures { IfOk result (λ hmac. hmac ≡ unless_empty (mac_key plan.now)
-        (command_mac (mac_key plan.now) (goal_cp_hash plan.now (area_of_goal session.now nonce_caller.now [])) nonce_caller.now.bytes session.now.nonce 0)) }
+    ensures { IfOk result (λ hmac. hmac ≡ unless_empty (mac_key (plan_of plan.now))
+        (command_mac (mac_key (plan_of plan.now)) (plan_cp_hash (plan_of plan.now)) nonce_caller.now.bytes session.now.nonce 0)) }
 {
     let key = mac_key(plan);
     if key.is_empty() {
         return Ok(Blob::new(alloc));
     }
-    let cp_hash = goal_cp_hash(alloc, plan, session, nonce_caller)?;
+    let cp_hash = plan.goal.cp_hash(plan.directory);
     let mac = command_mac(
         key,
         &cp_hash,
@@ -187,66 +100,54 @@ fn command_hmac(
 // The field hmac of the goal's command.
 fn goal_hmac(
     alloc: Global,
-    plan: &Plan,
+    plan: &PathPlan<'_>,
     session: &Session,
     nonce_caller: &Digest32,
 ) -> Result<Blob, NoMemory>
-    ensures { IfOk result (λ hmac. hmac ≡ goal_hmac plan.now session.now nonce_caller.now) }
+    ensures { IfOk result (λ hmac. hmac ≡ goal_hmac (plan_of plan.now) session.now nonce_caller.now) }
 {
     match auth_of_path(plan.path.moves.as_slice()) {
-        GoalAuth::Password => Blob::from_slice(alloc, goal_secret(plan)),
-        GoalAuth::Nothing | GoalAuth::Hmac => command_hmac(alloc, plan, session, nonce_caller),
+        LastAuth::Password => Blob::from_slice(alloc, goal_secret(plan)),
+        LastAuth::Neither | LastAuth::AuthValue => command_hmac(alloc, plan, session, nonce_caller),
     }
 }
 
 /// The goal's command as the run's command with this number.
 pub(crate) fn command(
     alloc: Global,
-    plan: &Plan,
+    plan: &PathPlan<'_>,
     session: &Session,
     number: u32,
 ) -> Result<Command, NoMemory>
-    ensures { IfOk result (λ command. command ≡ goal_command plan.now session.now number) }
+    ensures { IfOk result (λ command. command ≡ goal_command (plan_of plan.now) session.now number) }
 {
-    let nonce_caller = caller_nonce(&plan.nonce_seed, number);
+    let nonce_caller = caller_nonce(plan.nonce_seed, number);
     let hmac = goal_hmac(alloc, plan, session, &nonce_caller)?;
     let area = area_of_goal(alloc, session, &nonce_caller, hmac)?;
-    command_of_goal(&plan.goal, area)
-}
-
-// The hash of the code 0, the goal's code and the reply's fields.
-fn goal_rp_hash(alloc: Global, plan: &Plan, reply: &Reply) -> Result<Digest32, NoMemory>
-    ensures { IfOk result (λ hash. hash ≡ goal_rp_hash plan.now reply.now) }
-{
-    let fields = fields_of(alloc, reply)?;
-    let mut hasher = Hasher::new();
-    hasher.put(&0u32.to_be_bytes());
-    hasher.put(&plan.goal.code().number().to_be_bytes());
-    hasher.put(fields.as_slice());
-    Ok(hasher.done())
+    plan.goal.command(area)
 }
 
 // Whether the field hmac of the reply is the right one, for an area with this nonce of 32 bytes.
 fn is_right_hmac(
     alloc: Global,
-    plan: &Plan,
+    plan: &PathPlan<'_>,
     number: u32,
     reply: &Reply,
     nonce: &[u8],
     given: &[u8],
 ) -> Result<bool, NoMemory>
     requires { length nonce.now ≡ 32 }
-    ensures { IfOk result (λ right. right ≡ bytes_eq given.now (right_hmac plan.now number reply.now nonce.now)) }
+    ensures { IfOk result (λ right. right ≡ bytes_eq given.now (right_hmac (plan_of plan.now) number reply.now nonce.now)) }
 {
     let key = mac_key(plan);
     if key.is_empty() {
         return Ok(given.is_empty());
     }
-    let rp_hash = goal_rp_hash(alloc, plan, reply)?;
-    let nonce_caller = caller_nonce(&plan.nonce_seed, number);
+    let hash = rp_hash(alloc, plan.goal.code().number(), reply)?;
+    let nonce_caller = caller_nonce(plan.nonce_seed, number);
     let mac = reply_mac(
         key,
-        &rp_hash,
+        &hash,
         &Digest32::from_slice(nonce),
         &nonce_caller.bytes,
         ATTRIBUTES,
@@ -258,12 +159,12 @@ fn is_right_hmac(
 // and the right hmac.
 fn is_right_area(
     alloc: Global,
-    plan: &Plan,
+    plan: &PathPlan<'_>,
     number: u32,
     reply: &Reply,
     area: &ReplyAuth,
 ) -> Result<bool, NoMemory>
-    ensures { IfOk result (λ right. right ≡ is_right_area plan.now number reply.now area.now) }
+    ensures { IfOk result (λ right. right ≡ is_right_area (plan_of plan.now) number reply.now area.now) }
 {
     if area.nonce.len() != 32 || area.attributes != ATTRIBUTES {
         return Ok(false);
@@ -280,9 +181,14 @@ fn is_right_area(
 
 /// The end that these bytes give as the reply to the goal's command, which was the run's command with this
 /// number.
-pub(crate) fn hear(alloc: Global, plan: &Plan, number: u32, reply: &[u8]) -> Result<End, NoMemory>
+pub(crate) fn hear(
+    alloc: Global,
+    plan: &PathPlan<'_>,
+    number: u32,
+    reply: &[u8],
+) -> Result<End, NoMemory>
     ensures { IfOk result (λ end. end
-        ≡ goal_heard plan.now number (answer_of (reply_reading (number_of_code (code_of_goal plan.now.goal)) reply.now))) }
+        ≡ goal_heard (plan_of plan.now) number (answer_of (reply_reading (number_of_code (code_of_goal plan.now.goal.now)) reply.now))) }
 {
     match read_answer(alloc, plan.goal.code(), reply)? {
         Answer::Done(reply, area) => done(alloc, plan, number, reply, &area),
@@ -297,12 +203,12 @@ pub(crate) fn hear(alloc: Global, plan: &Plan, number: u32, reply: &[u8]) -> Res
 // The end that a reply without a refusal gives.
 fn done(
     alloc: Global,
-    plan: &Plan,
+    plan: &PathPlan<'_>,
     number: u32,
     reply: Reply,
     area: &Option<ReplyAuth>,
 ) -> Result<End, NoMemory>
-    ensures { IfOk result (λ end. end ≡ goal_done plan.now number reply area.now) }
+    ensures { IfOk result (λ end. end ≡ goal_done (plan_of plan.now) number reply area.now) }
 {
     let Some(area) = area else {
         return Ok(End::BadReply(Stage::Goal));

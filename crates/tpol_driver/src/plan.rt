@@ -1,16 +1,20 @@
 //! What a run is to do.
 
-ghost use Rattle.std.specs.Prelude.{◌≡◌};
+ghost use Rattle.std.specs.Prelude.{◌≡◌, ◌&&◌, not};
 ghost use Rattle.std.specs.List.{list_all};
+ghost use Rattle.tpol_driver.specs.Lent.{plan_of};
 ghost use Rattle.tpol_driver.specs.Plans.{is_complete, is_known_move};
 
+use crate::path_plan::PathPlan;
+use crate::tickets::Tickets;
 use tpol_base::Digest32;
 use tpol_goal::{Goal, Grants, entity_of_name, index_of_name, object_of_name};
 use tpol_name::{DirEntry, Directory};
 use tpol_tree::{Assertion, Move, Path};
 
 /// What a run is to do: the path whose moves it sends, the command that it wants after them, the values and
-/// keys that it may use, the directory by which it finds the handles of Names, and the seed of its nonces.
+/// keys that it may use, the directory by which it finds the handles of Names, the seed of its nonces, and the
+/// tickets that it shows in place of the assertions that they stand for.
 #[derive(Drop)]
 pub struct Plan {
     pub path: Path,
@@ -18,6 +22,7 @@ pub struct Plan {
     pub grants: Grants,
     pub directory: Directory,
     pub nonce_seed: Digest32,
+    pub tickets: Tickets,
 }
 
 impl Plan {
@@ -26,13 +31,29 @@ impl Plan {
     pub fn complete(&self) -> bool
         ensures complete { result ≡ is_complete self.now }
     {
-        !self.path.outside
-            && are_known(
-                self.directory.as_slice(),
-                &self.grants,
-                self.path.moves.as_slice(),
-            )
+        is_complete_along(self.directory.as_slice(), &self.grants, &self.path)
     }
+
+    // The plan, lent.
+    pub(crate) fn lent(&self) -> PathPlan<'_>
+        ensures { plan_of result ≡ self.now }
+    {
+        PathPlan {
+            path: &self.path,
+            goal: &self.goal,
+            grants: &self.grants,
+            directory: &self.directory,
+            nonce_seed: &self.nonce_seed,
+            tickets: self.tickets.as_slice(),
+        }
+    }
+}
+
+// Whether each command of a path can be made with this directory and these grants.
+pub(crate) fn is_complete_along(directory: &[DirEntry], grants: &Grants, path: &Path) -> bool
+    ensures { result ≡ (not path.now.outside && list_all (is_known_move directory.now grants.now) path.now.moves) }
+{
+    !path.outside && are_known(directory, grants, path.moves.as_slice())
 }
 
 fn are_known(directory: &[DirEntry], grants: &Grants, moves: &[Move]) -> bool

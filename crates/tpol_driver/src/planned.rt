@@ -1,7 +1,7 @@
 //! The start of a run.
 
-ghost use Rattle.std.specs.Prelude.{◌≡◌, ◌≤◌, length, IfOk, IfErr};
-ghost use Rattle.tpol_driver.specs.Driving.{Moving, Starting, hears, sends, start_heard};
+ghost use Rattle.std.specs.Prelude.{◌≡◌, ◌≤◌, ◌++◌, [], length, IfOk, IfErr};
+ghost use Rattle.tpol_driver.specs.Driving.{Moving, Starting, earned_by, hears, sends, start_heard};
 ghost use Rattle.tpol_driver.specs.States.{IsNext, IsSent};
 
 use crate::answer::{Answer, read_answer};
@@ -12,6 +12,7 @@ use crate::next::{Next, Over};
 use crate::plan::Plan;
 use crate::ready::Ready;
 use crate::session::Session;
+use crate::tickets::Tickets;
 use std::alloc::Global;
 use std::marker::Model;
 use tpol_base::{Blob, CommandCode, NoMemory};
@@ -24,12 +25,12 @@ pub struct Planned {
 }
 
 impl Model for Planned {
-    ghost use Rattle.std.specs.Prelude.{◌≤◌, length};
+    ghost use Rattle.std.specs.Prelude.{◌≤◌, [], length};
     ghost use Rattle.tpol_driver.specs.Driving.{Driving, Starting};
 
     ghost Value = { Driving };
 
-    ghost view = { λ p. record { plan = p.plan; standing = Starting } };
+    ghost view = { λ p. record { plan = p.plan; standing = Starting; earned = [] } };
 
     ghost invariant = { λ p. length p.plan.path.moves ≤ 512 };
 }
@@ -38,7 +39,7 @@ impl Planned {
     /// A run of this plan.
     pub fn new(plan: Plan) -> Planned
         requires { length plan.path.moves ≤ 512 }
-        ensures { result ≡ record { plan = plan; standing = Starting } }
+        ensures { result ≡ record { plan = plan; standing = Starting; earned = [] } }
     {
         Planned { plan }
     }
@@ -53,45 +54,51 @@ impl Planned {
 
     /// Goes on with the reply. With `NoMemory` the state comes back unchanged.
     pub fn take(self, alloc: Global, reply: &[u8]) -> Result<Next, (Planned, NoMemory)>
-        ensures next { IfOk result (IsNext self.plan (hears self.plan self.standing reply.now)) }
+        ensures next { IfOk result (IsNext self.plan (self.earned ++ earned_by self.plan self.standing reply.now) (hears self.plan self.standing reply.now)) }
         ensures back { IfErr result (λ refused. refused.0 ≡ self) }
     {
         match read_answer(alloc, CommandCode::StartAuthSession, reply) {
-            Ok(answer) => Ok(self.after(answer)),
+            Ok(answer) => Ok(self.after(alloc, answer)),
             Err(no_memory) => Err((self, no_memory)),
         }
     }
 
     // The state after this answer.
-    fn after(self, answer: Answer) -> Next
-        ensures { IsNext self.plan (start_heard answer) result }
+    fn after(self, alloc: Global, answer: Answer) -> Next
+        ensures { IsNext self.plan [] (start_heard answer) result }
     {
+        let earned = Tickets::new(alloc);
         match answer {
-            Answer::Done(Reply::StartAuthSession { session, nonce }, _) => self.started(Session {
-                handle: session,
-                nonce,
-            }),
+            Answer::Done(Reply::StartAuthSession { session, nonce }, _) => self.started(
+                Session {
+                    handle: session,
+                    nonce,
+                },
+                earned,
+            ),
             Answer::Denied(rc) => Next::Over(Over {
                 end: End::Denied {
                     at: Stage::Start,
                     rc,
                 },
+                earned,
             }),
             Answer::Done(..) | Answer::Malformed => Next::Over(Over {
                 end: End::BadReply(Stage::Start),
+                earned,
             }),
         }
     }
 
     // The state at the front of the path.
-    fn started(self, session: Session) -> Next
-        ensures { IsNext self.plan (Moving session 1 None 0) result }
+    fn started(self, session: Session, earned: Tickets) -> Next
+        ensures { IsNext self.plan earned (Moving session 1 None 0) result }
     {
         let Planned { plan } = self;
         if plan.path.moves.is_empty() {
-            Next::Ready(Ready::new(plan, session, 1))
+            Next::Ready(Ready::new(plan, session, 1, earned))
         } else {
-            Next::Asserting(Asserting::new(plan, session))
+            Next::Asserting(Asserting::new(plan, session, earned))
         }
     }
 }

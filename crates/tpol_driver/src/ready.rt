@@ -1,7 +1,7 @@
 //! The use of the session on the goal.
 
-ghost use Rattle.std.specs.Prelude.{◌≡◌, length, IfOk, IfErr};
-ghost use Rattle.tpol_driver.specs.Driving.{Moving, after_goal, hears, sends};
+ghost use Rattle.std.specs.Prelude.{◌≡◌, ◌++◌, length, IfOk, IfErr};
+ghost use Rattle.tpol_driver.specs.Driving.{Moving, after_goal, earned_by, hears, sends};
 ghost use Rattle.tpol_driver.specs.States.{IsNext, IsSent};
 
 use crate::closing::Closing;
@@ -10,6 +10,7 @@ use crate::goal_use;
 use crate::next::{Next, Over};
 use crate::plan::Plan;
 use crate::session::Session;
+use crate::tickets::Tickets;
 use std::alloc::Global;
 use std::marker::Model;
 use tpol_base::{Blob, NoMemory};
@@ -22,6 +23,7 @@ pub struct Ready {
     session: Session,
     // The number of the goal's command.
     sent: u32,
+    earned: Tickets,
 }
 
 impl Model for Ready {
@@ -30,17 +32,18 @@ impl Model for Ready {
 
     ghost Value = { Driving };
 
-    ghost view = { λ r. record { plan = r.plan; standing = Moving r.session r.sent None (length r.plan.path.moves) } };
+    ghost view = { λ r. record { plan = r.plan; standing = Moving r.session r.sent None (length r.plan.path.moves); earned = r.earned } };
 }
 
 impl Ready {
-    pub(crate) fn new(plan: Plan, session: Session, sent: u32) -> Ready
-        ensures { result ≡ record { plan = plan; standing = Moving session sent None (length plan.path.moves) } }
+    pub(crate) fn new(plan: Plan, session: Session, sent: u32, earned: Tickets) -> Ready
+        ensures { result ≡ record { plan = plan; standing = Moving session sent None (length plan.path.moves); earned = earned } }
     {
         Ready {
             plan,
             session,
             sent,
+            earned,
         }
     }
 
@@ -48,19 +51,24 @@ impl Ready {
     pub fn next(&self, alloc: Global) -> Result<Blob, NoMemory>
         ensures sends { IfOk result (IsSent (sends self.now.plan self.now.standing)) }
     {
-        let command = goal_use::command(alloc, &self.plan, &self.session, self.sent)?;
+        let command = goal_use::command(alloc, &self.plan.lent(), &self.session, self.sent)?;
         write_command(alloc, &command)
     }
 
     /// Goes on with the reply. With `NoMemory` the state comes back unchanged.
     pub fn take(self, alloc: Global, reply: &[u8]) -> Result<Next, (Ready, NoMemory)>
-        ensures next { IfOk result (IsNext self.plan (hears self.plan self.standing reply.now)) }
+        ensures next { IfOk result (IsNext self.plan (self.earned ++ earned_by self.plan self.standing reply.now) (hears self.plan self.standing reply.now)) }
         ensures back { IfErr result (λ refused. refused.0 ≡ self) }
     {
-        match goal_use::hear(alloc, &self.plan, self.sent, reply) {
+        match goal_use::hear(alloc, &self.plan.lent(), self.sent, reply) {
             Ok(end) => {
-                let Ready { plan, session, .. } = self;
-                Ok(after(plan, session.handle, end))
+                let Ready {
+                    plan,
+                    session,
+                    earned,
+                    ..
+                } = self;
+                Ok(after(plan, session.handle, end, earned))
             }
             Err(no_memory) => Err((self, no_memory)),
         }
@@ -68,18 +76,25 @@ impl Ready {
 }
 
 // The state after the goal's command: a served goal has ended the session.
-fn after(plan: Plan, session: u32, end: End) -> Next
-    ensures { IsNext plan (after_goal session end) result }
+fn after(plan: Plan, session: u32, end: End, earned: Tickets) -> Next
+    ensures { IsNext plan earned (after_goal session end) result }
 {
     match end {
         End::Served(bytes) => Next::Over(Over {
             end: End::Served(bytes),
+            earned,
         }),
         End::Denied { at, rc } => Next::Closing(Closing::new(
             plan,
             session,
             End::Denied { at, rc },
+            earned,
         )),
-        End::BadReply(stage) => Next::Closing(Closing::new(plan, session, End::BadReply(stage))),
+        End::BadReply(stage) => Next::Closing(Closing::new(
+            plan,
+            session,
+            End::BadReply(stage),
+            earned,
+        )),
     }
 }

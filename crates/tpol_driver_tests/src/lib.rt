@@ -3,4 +3,8 @@
 #![tactic(auto)]
 
 #[cfg(test)]
+mod blind;
+#[cfg(test)]
 mod tests;
+#[cfg(test)]
+mod tickets;

@@ -4,7 +4,7 @@
 
 use std::alloc::Global;
 use tpol_base::{Blob, Compare, Digest32, Digests, Name, NoMemory, Sequence, Text};
-use tpol_driver::{Asserting, Closing, End, Next, Plan, Planned, Ready, Stage};
+use tpol_driver::{Asserting, Closing, End, Next, Plan, Planned, Ready, Stage, Tickets};
 use tpol_goal::{Goal, Grants, Secrets};
 use tpol_name::{DirEntry, Directory};
 use tpol_tree::{Assertion, Move, Moves, Path};
@@ -530,6 +530,7 @@ fn empty_plan(alloc: Global, run: &Run) -> Plan {
         nonce_seed: Digest32 {
             bytes: run.nonce_seed,
         },
+        tickets: Tickets::new(alloc),
     }
 }
 

@@ -1,0 +1,502 @@
+//! Blind runs. The commands are computed by another program (Python's `hashlib`) from the rules of the commands; the
+//! replies are written by hand.
+
+use std::alloc::Global;
+use tpol_base::{Blob, Digest32, Digests, Name, NoMemory, Rc, Text};
+use tpol_driver::{
+    BlindAgain, BlindAsserting, BlindClosing, BlindEnd, BlindNext, BlindPlan, BlindReady,
+    BlindStart, Stage, Tried,
+};
+use tpol_goal::{Goal, Grants, Secrets};
+use tpol_name::{DirEntry, Directory};
+use tpol_tree::{Assertion, Move, Moves, Path, PathSteps, Paths};
+
+/// A command of a run, and its reply.
+#[derive(Clone, Copy)]
+struct Step {
+    command: &'static [u8],
+    reply: &'static [u8],
+}
+
+/// StartAuthSession with the nonce of the command 0.
+const START: &[u8] =
+    b"\x80\x01\x00\x00\x00\x3b\x00\x00\x01\x76\x40\x00\x00\x07\x40\x00\x00\x07\x00\x20\
+      \x01\xdb\x4b\xaa\x43\xff\xba\x54\x51\xe6\x42\x7b\x4b\x6a\x4e\x56\xeb\x70\x5b\x08\
+      \x93\xde\xd6\x88\x9a\x26\x16\x89\xe2\xe3\x96\xf1\x00\x00\x01\x00\x10\x00\x0b";
+
+/// Its reply: the session 03000000.
+const STARTED: &[u8] =
+    b"\x80\x01\x00\x00\x00\x30\x00\x00\x00\x00\x03\x00\x00\x00\x00\x20\x6c\x61\x82\x7e\
+      \x1e\x31\xe4\x67\xf7\xf1\xb9\xa2\xac\x88\x71\x17\x89\x03\xd6\xd7\xc8\x07\x6f\x46\
+      \x39\x6f\x8f\xb7\x0a\x05\x3c\x9f";
+
+/// The PolicyPCR of the first path.
+const PCRS: &[u8] =
+    b"\x80\x01\x00\x00\x00\x3a\x00\x00\x01\x7f\x03\x00\x00\x00\x00\x20\x38\x72\x3a\x2e\
+      \x5e\x8a\x17\xaa\x79\x50\xdc\x00\x82\x09\x94\x4e\x89\x8f\x69\xa7\xbd\x10\xa2\x3c\
+      \x83\x9d\x34\x1e\x93\x5f\xd5\xca\x00\x00\x00\x01\x00\x0b\x03\x95\x00\x00";
+
+/// PolicyPCR refused: 000001c4.
+const NOT_THE_PCRS: &[u8] = b"\x80\x01\x00\x00\x00\x0a\x00\x00\x01\xc4";
+
+/// PolicyRestart.
+const RESTART: &[u8] = b"\x80\x01\x00\x00\x00\x0e\x00\x00\x01\x80\x03\x00\x00\x00";
+
+/// The PolicySecret of the third path.
+const SECRET: &[u8] =
+    b"\x80\x02\x00\x00\x00\x4e\x00\x00\x01\x51\x40\x00\x00\x01\x03\x00\x00\x00\x00\x00\
+      \x00\x0e\x40\x00\x00\x09\x00\x00\x01\x00\x05\x6f\x77\x6e\x65\x72\x00\x20\x6c\x61\
+      \x82\x7e\x1e\x31\xe4\x67\xf7\xf1\xb9\xa2\xac\x88\x71\x17\x89\x03\xd6\xd7\xc8\x07\
+      \x6f\x46\x39\x6f\x8f\xb7\x0a\x05\x3c\x9f\x00\x00\x00\x00\x00\x00\x00\x00";
+
+/// Its reply.
+const SECRET_OK: &[u8] =
+    b"\x80\x02\x00\x00\x00\x1d\x00\x00\x00\x00\x00\x00\x00\x0a\x00\x00\x80\x23\x40\x00\
+      \x00\x07\x00\x00\x00\x00\x01\x00\x00";
+
+/// The PolicyCommandCode of the third path.
+const CODE: &[u8] = b"\x80\x01\x00\x00\x00\x12\x00\x00\x01\x6c\x03\x00\x00\x00\x00\x00\x01\x5e";
+
+/// The PolicyOR of both.
+const BRANCHES: &[u8] =
+    b"\x80\x01\x00\x00\x00\x56\x00\x00\x01\x71\x03\x00\x00\x00\x00\x00\x00\x02\x00\x20\
+      \x90\x93\x8e\x03\xc6\x35\x65\x05\xa1\x82\xcf\x9c\x16\x6d\xaa\x30\xc0\xa6\x9c\x6f\
+      \x13\xf6\xbb\xca\x77\x7d\xf6\xa8\x83\xdd\xf7\xb6\x00\x20\x51\xae\x7a\x4a\xb4\xb3\
+      \xef\xdd\xde\xd3\xe8\x78\xf9\x2b\xec\x2c\x9f\x5e\x2e\x88\xb9\xc7\xe6\x7e\x1b\x22\
+      \x96\x94\xef\x4b\x90\xf2";
+
+/// Unseal with the nonce of the command 6.
+const UNSEAL: &[u8] =
+    b"\x80\x02\x00\x00\x00\x3b\x00\x00\x01\x5e\x80\x00\x00\x00\x00\x00\x00\x29\x03\x00\
+      \x00\x00\x00\x20\x26\xe0\x5b\x92\x66\xa2\x57\x24\xa3\xa4\x09\x38\x34\xf2\x06\x8d\
+      \x30\x7c\x7f\x15\xd4\xa8\x9f\x3a\x00\xd0\xd8\x53\xb1\x8d\x65\xba\x00\x00\x00";
+
+/// Its reply: `key`.
+const UNSEALED: &[u8] =
+    b"\x80\x02\x00\x00\x00\x38\x00\x00\x00\x00\x00\x00\x00\x05\x00\x03\x6b\x65\x79\x00\
+      \x20\xaa\xaa\xaa\xaa\xaa\xaa\xaa\xaa\xaa\xaa\xaa\xaa\xaa\xaa\xaa\xaa\xaa\xaa\xaa\
+      \xaa\xaa\xaa\xaa\xaa\xaa\xaa\xaa\xaa\xaa\xaa\xaa\xaa\x00\x00\x00";
+
+/// Unseal refused: 000009a3.
+const DENIED: &[u8] = b"\x80\x01\x00\x00\x00\x0a\x00\x00\x09\xa3";
+
+/// FlushContext.
+const FLUSH: &[u8] = b"\x80\x01\x00\x00\x00\x0e\x00\x00\x01\x65\x03\x00\x00\x00";
+
+/// The reply without fields.
+const OK: &[u8] = b"\x80\x01\x00\x00\x00\x0a\x00\x00\x00\x00";
+
+/// PolicyRestart refused: 00000910.
+const NO_RESTART: &[u8] = b"\x80\x01\x00\x00\x00\x0a\x00\x00\x09\x10";
+
+/// What Unseal gives.
+const KEY: &[u8] = b"key";
+
+/// The digest of the branch of PCRs.
+const BOOT: Digest32 = Digest32 {
+    bytes: *b"\x90\x93\x8e\x03\xc6\x35\x65\x05\xa1\x82\xcf\x9c\x16\x6d\xaa\x30\xc0\xa6\x9c\x6f\
+      \x13\xf6\xbb\xca\x77\x7d\xf6\xa8\x83\xdd\xf7\xb6",
+};
+
+/// The digest of the owner's branch.
+const OWNER: Digest32 = Digest32 {
+    bytes: *b"\x51\xae\x7a\x4a\xb4\xb3\xef\xdd\xde\xd3\xe8\x78\xf9\x2b\xec\x2c\x9f\x5e\x2e\x88\
+      \xb9\xc7\xe6\x7e\x1b\x22\x96\x94\xef\x4b\x90\xf2",
+};
+
+/// The digest of zero PCRs.
+const ZERO_PCRS: Digest32 = Digest32 {
+    bytes: *b"\x38\x72\x3a\x2e\x5e\x8a\x17\xaa\x79\x50\xdc\x00\x82\x09\x94\x4e\x89\x8f\x69\xa7\
+      \xbd\x10\xa2\x3c\x83\x9d\x34\x1e\x93\x5f\xd5\xca",
+};
+
+/// The nonce seed of the run.
+const NONCE_SEED: [u8; 32] =
+    *b"\x3e\x09\x99\x91\xde\x67\x52\x16\x4a\xe4\x78\xd6\xa4\xe5\x11\x61\x56\xda\xb8\xba\
+      \xe5\x2e\x11\xa5\xc8\x2b\xf4\xc1\x80\xe1\x70\x01";
+
+/// The first path is refused at its PCRs.
+const REFUSED: [Step; 3] = [
+    Step {
+        command: START,
+        reply: STARTED,
+    },
+    Step {
+        command: PCRS,
+        reply: NOT_THE_PCRS,
+    },
+    Step {
+        command: RESTART,
+        reply: OK,
+    },
+];
+
+/// The third path, up to its goal: the second one is skipped.
+const OWNED: [Step; 3] = [
+    Step {
+        command: SECRET,
+        reply: SECRET_OK,
+    },
+    Step {
+        command: CODE,
+        reply: OK,
+    },
+    Step {
+        command: BRANCHES,
+        reply: OK,
+    },
+];
+
+fn assert_move(moves: &mut Moves, assertion: Assertion) -> Result<(), NoMemory> {
+    moves.push(Move::Assert(assertion))
+}
+
+fn branches(alloc: Global) -> Result<Move, NoMemory> {
+    Ok(Move::Or(Digests::from_slice(alloc, &[BOOT, OWNER])?))
+}
+
+fn pcr_moves(moves: &mut Moves, alloc: Global) -> Result<(), NoMemory> {
+    assert_move(
+        moves,
+        Assertion::Pcr {
+            mask: 0x95,
+            pcr_digest: ZERO_PCRS,
+            values: Digests::new(alloc),
+        },
+    )?;
+    assert_move(moves, Assertion::AuthValue)?;
+    moves.push(branches(alloc)?)
+}
+
+// A key that is in no directory.
+fn unknown_moves(moves: &mut Moves, alloc: Global) -> Result<(), NoMemory> {
+    assert_move(
+        moves,
+        Assertion::Signed {
+            key: Name::Hash(Digest32 { bytes: [0x11; 32] }),
+            policy_ref: Blob::new(alloc),
+            cp_hash: None,
+            expiration: 0,
+        },
+    )
+}
+
+fn owner_moves(moves: &mut Moves, alloc: Global) -> Result<(), NoMemory> {
+    assert_move(
+        moves,
+        Assertion::Secret {
+            entity: Name::Handle(0x4000_0001),
+            policy_ref: Blob::new(alloc),
+            cp_hash: None,
+            expiration: 0,
+        },
+    )?;
+    assert_move(moves, Assertion::CommandCode(0x15e))?;
+    moves.push(branches(alloc)?)
+}
+
+fn push_path(paths: &mut Paths, alloc: Global, moves: Moves) -> Result<(), NoMemory> {
+    paths.push(Path {
+        steps: PathSteps::new(alloc),
+        moves,
+        outside: false,
+    })
+}
+
+fn push_paths(paths: &mut Paths, alloc: Global) -> Result<(), NoMemory> {
+    let mut moves = Moves::new(alloc);
+    pcr_moves(&mut moves, alloc)?;
+    push_path(paths, alloc, moves)?;
+    let mut moves = Moves::new(alloc);
+    unknown_moves(&mut moves, alloc)?;
+    push_path(paths, alloc, moves)?;
+    let mut moves = Moves::new(alloc);
+    owner_moves(&mut moves, alloc)?;
+    push_path(paths, alloc, moves)
+}
+
+fn empty_plan(alloc: Global) -> BlindPlan {
+    BlindPlan {
+        paths: Paths::new(alloc),
+        goal: Goal::Unseal {
+            object: 0x8000_0000,
+        },
+        grants: Grants {
+            secrets: Secrets::new(alloc),
+            keys: Secrets::new(alloc),
+        },
+        directory: Directory::new(alloc),
+        nonce_seed: Digest32 { bytes: NONCE_SEED },
+    }
+}
+
+fn fill(plan: &mut BlindPlan, alloc: Global) -> Result<(), NoMemory> {
+    push_paths(&mut plan.paths, alloc)?;
+    plan.grants
+        .secrets
+        .push((0x4000_0001, Blob::from_slice(alloc, b"owner")?))?;
+    plan.directory.push(DirEntry {
+        path: Text::from_str(alloc, "/x")?,
+        handle: 0x8000_0000,
+        name: Name::Hash(Digest32 { bytes: [0x22; 32] }),
+        attributes: 0x40,
+    })
+}
+
+/// Whether this command was made, and is the one that is wanted.
+fn is_made(made: Result<Blob, NoMemory>, command: &[u8]) -> bool {
+    match made {
+        Ok(bytes) => bytes.as_slice() == command,
+        Err(_) => false,
+    }
+}
+
+// One command and its reply in each state: the state after them, nothing where the command is another one.
+
+fn at_start(alloc: Global, state: BlindStart, step: &Step) -> Option<BlindNext> {
+    if is_made(state.next(alloc), step.command) {
+        return state.take(alloc, step.reply).ok();
+    }
+    drop(state);
+    None
+}
+
+fn on_path(alloc: Global, state: BlindAsserting, step: &Step) -> Option<BlindNext> {
+    if is_made(state.next(alloc), step.command) {
+        return state.take(alloc, step.reply).ok();
+    }
+    drop(state);
+    None
+}
+
+fn at_goal(alloc: Global, state: BlindReady, step: &Step) -> Option<BlindNext> {
+    if is_made(state.next(alloc), step.command) {
+        return state.take(alloc, step.reply).ok();
+    }
+    drop(state);
+    None
+}
+
+fn between(alloc: Global, state: BlindAgain, step: &Step) -> Option<BlindNext> {
+    if is_made(state.next(alloc), step.command) {
+        return state.take(alloc, step.reply).ok();
+    }
+    drop(state);
+    None
+}
+
+fn at_end(alloc: Global, state: BlindClosing, step: &Step) -> Option<BlindNext> {
+    if is_made(state.next(alloc), step.command) {
+        return state.take(alloc, step.reply).ok();
+    }
+    drop(state);
+    None
+}
+
+fn turn(alloc: Global, state: BlindNext, step: &Step) -> Option<BlindNext> {
+    match state {
+        BlindNext::Asserting(state) => on_path(alloc, state, step),
+        BlindNext::Ready(state) => at_goal(alloc, state, step),
+        BlindNext::Again(state) => between(alloc, state, step),
+        BlindNext::Closing(state) => at_end(alloc, state, step),
+        BlindNext::Over(_) => None,
+    }
+}
+
+/// The plan of the run, where its first path that is tried is the first one.
+fn plan(alloc: Global) -> Option<BlindPlan> {
+    let mut plan = empty_plan(alloc);
+    if fill(&mut plan, alloc).is_err() || plan.paths.len() > 64 || plan.first() != Some(1) {
+        drop(plan);
+        return None;
+    }
+    Some(plan)
+}
+
+fn is_short(plan: &BlindPlan) -> bool
+    ensures { IsTrue result → All (λ path. length path.moves ≤ 512) plan.now.paths }
+{
+    plan.paths
+        .as_slice()
+        .iter()
+        .all(|path| path.moves.len() <= 512)
+}
+
+fn begun(alloc: Global, plan: BlindPlan, step: &Step) -> Option<BlindNext> {
+    if plan.paths.len() > 64 || !is_short(&plan) {
+        drop(plan);
+        return None;
+    }
+    match BlindStart::new(alloc, plan) {
+        Ok(state) => at_start(alloc, state, step),
+        Err(_) => None,
+    }
+}
+
+/// The state behind these steps.
+fn turns(alloc: Global, state: BlindNext, steps: &[Step]) -> Option<BlindNext> {
+    let mut state = state;
+    for step in steps {
+        state = turn(alloc, state, step)?;
+    }
+    Some(state)
+}
+
+/// The state of the run behind these steps, which stand in three parts.
+fn state_after(alloc: Global, front: &[Step], middle: &[Step], back: &[Step]) -> Option<BlindNext> {
+    let state = begun(alloc, plan(alloc)?, front.first()?)?;
+    let state = turns(alloc, state, &front[1..])?;
+    let state = turns(alloc, state, middle)?;
+    turns(alloc, state, back)
+}
+
+/// Whether the run ended, and was served `key` on the third path.
+fn is_served(state: &Option<BlindNext>) -> bool {
+    match state {
+        Some(BlindNext::Over(over)) => match &over.end {
+            BlindEnd::Served { path, bytes } => *path == 3 && bytes.as_slice() == KEY,
+            _ => false,
+        },
+        _ => false,
+    }
+}
+
+/// Whether the run ended on no path, and this became of its three paths.
+fn is_on_none(state: &Option<BlindNext>, wanted: &[Tried]) -> bool {
+    match state {
+        Some(BlindNext::Over(over)) => match &over.end {
+            BlindEnd::NoBranch(tries) => tries.as_slice() == wanted,
+            _ => false,
+        },
+        _ => false,
+    }
+}
+
+/// Whether the run ended, and was denied by this code at this stage, or heard a bad reply there where the code
+/// is 0.
+fn is_failed(state: &Option<BlindNext>, code: u32, stage: Stage) -> bool {
+    match state {
+        Some(BlindNext::Over(over)) => match &over.end {
+            BlindEnd::Denied { at, rc } => rc.code == code && *at == stage,
+            BlindEnd::BadReply(at) => code == 0 && *at == stage,
+            _ => false,
+        },
+        _ => false,
+    }
+}
+
+// A test names the tables of its run, and leaves the states to these functions: a proof about both at once is long.
+
+fn serves(alloc: Global, front: &[Step], middle: &[Step], back: &[Step]) -> bool {
+    let state = state_after(alloc, front, middle, back);
+    let answer = is_served(&state);
+    drop(state);
+    answer
+}
+
+fn finds_none(
+    alloc: Global,
+    front: &[Step],
+    middle: &[Step],
+    back: &[Step],
+    wanted: &[Tried],
+) -> bool {
+    let state = state_after(alloc, front, middle, back);
+    let answer = is_on_none(&state, wanted);
+    drop(state);
+    answer
+}
+
+fn fails(alloc: Global, front: &[Step], back: &[Step], code: u32, stage: Stage) -> bool {
+    let state = state_after(alloc, front, &[], back);
+    let answer = is_failed(&state, code, stage);
+    drop(state);
+    answer
+}
+
+/// The third path is served.
+const SERVED: [Step; 1] = [Step {
+    command: UNSEAL,
+    reply: UNSEALED,
+}];
+
+/// The third path is refused too.
+const NOT_SERVED: [Step; 2] = [
+    Step {
+        command: UNSEAL,
+        reply: DENIED,
+    },
+    Step {
+        command: FLUSH,
+        reply: OK,
+    },
+];
+
+/// What becomes of the paths then.
+const REFUSALS: [Tried; 3] = [
+    Tried::Refused {
+        at: Stage::Move(1),
+        rc: Rc { code: 0x1c4 },
+    },
+    Tried::Skipped,
+    Tried::Refused {
+        at: Stage::Goal,
+        rc: Rc { code: 0x9a3 },
+    },
+];
+
+/// The front of the run, up to its PolicyRestart.
+const FRONT: [Step; 2] = [
+    Step {
+        command: START,
+        reply: STARTED,
+    },
+    Step {
+        command: PCRS,
+        reply: NOT_THE_PCRS,
+    },
+];
+
+const DENIED_RESTART: [Step; 2] = [
+    Step {
+        command: RESTART,
+        reply: NO_RESTART,
+    },
+    Step {
+        command: FLUSH,
+        reply: OK,
+    },
+];
+
+const BAD_RESTART: [Step; 2] = [
+    Step {
+        command: RESTART,
+        reply: STARTED,
+    },
+    Step {
+        command: FLUSH,
+        reply: OK,
+    },
+];
+
+const BAD_START: [Step; 1] = [Step {
+    command: START,
+    reply: OK,
+}];
+
+#[test]
+fn the_second_try_is_served(rt: HostRuntime) {
+    assert!(rt; serves(rt.alloc(), &REFUSED, &OWNED, &SERVED));
+}
+
+#[test]
+fn each_try_is_refused(rt: HostRuntime) {
+    assert!(rt; finds_none(rt.alloc(), &REFUSED, &OWNED, &NOT_SERVED, &REFUSALS));
+}
+
+#[test]
+fn runs_that_fail_between_two_tries(rt: HostRuntime) {
+    assert!(rt; fails(rt.alloc(), &FRONT, &DENIED_RESTART, 0x910, Stage::Restart));
+    assert!(rt; fails(rt.alloc(), &FRONT, &BAD_RESTART, 0, Stage::Restart));
+    assert!(rt; fails(rt.alloc(), &BAD_START, &[], 0, Stage::Start));
+}

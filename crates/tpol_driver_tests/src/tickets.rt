@@ -1,0 +1,317 @@
+//! Tickets of a run. The commands and the ticket are computed by another program (Python's `hashlib` and `hmac`) from
+//! the rules of the commands, on a machine whose seed is 32 zero bytes.
+
+use std::alloc::Global;
+use tpol_base::{Blob, Digest32, Name, NoMemory, Text};
+use tpol_driver::{Asserting, Closing, HeldTicket, Next, Plan, Planned, Ready, Tickets};
+use tpol_goal::{Goal, Grants, Secrets};
+use tpol_name::{DirEntry, Directory};
+use tpol_tree::{Assertion, Move, Moves, Path, PathSteps};
+
+/// A command of a run, and its reply.
+#[derive(Clone, Copy)]
+struct Step {
+    command: &'static [u8],
+    reply: &'static [u8],
+}
+
+/// StartAuthSession with the nonce of the command 0.
+const START: &[u8] =
+    b"\x80\x01\x00\x00\x00\x3b\x00\x00\x01\x76\x40\x00\x00\x07\x40\x00\x00\x07\x00\x20\
+      \x01\xdb\x4b\xaa\x43\xff\xba\x54\x51\xe6\x42\x7b\x4b\x6a\x4e\x56\xeb\x70\x5b\x08\
+      \x93\xde\xd6\x88\x9a\x26\x16\x89\xe2\xe3\x96\xf1\x00\x00\x01\x00\x10\x00\x0b";
+
+/// Its reply: the session 03000001.
+const STARTED: &[u8] =
+    b"\x80\x01\x00\x00\x00\x30\x00\x00\x00\x00\x03\x00\x00\x01\x00\x20\x55\x55\x55\x55\
+      \x55\x55\x55\x55\x55\x55\x55\x55\x55\x55\x55\x55\x55\x55\x55\x55\x55\x55\x55\x55\
+      \x55\x55\x55\x55\x55\x55\x55\x55";
+
+/// PolicySecret of the endorsement hierarchy with the expiration -1.
+const SECRET: &[u8] =
+    b"\x80\x02\x00\x00\x00\x49\x00\x00\x01\x51\x40\x00\x00\x0b\x03\x00\x00\x01\x00\x00\
+      \x00\x09\x40\x00\x00\x09\x00\x00\x01\x00\x00\x00\x20\x55\x55\x55\x55\x55\x55\x55\
+      \x55\x55\x55\x55\x55\x55\x55\x55\x55\x55\x55\x55\x55\x55\x55\x55\x55\x55\x55\x55\
+      \x55\x55\x55\x55\x55\x00\x00\x00\x00\xff\xff\xff\xff";
+
+/// Its reply with the deadline 1,000 and a ticket.
+const TICKETED: &[u8] =
+    b"\x80\x02\x00\x00\x00\x45\x00\x00\x00\x00\x00\x00\x00\x32\x00\x08\x00\x00\x00\x00\
+      \x00\x00\x03\xe8\x80\x23\x40\x00\x00\x01\x00\x20\x7c\xee\x05\x1b\xe5\x69\x77\xce\
+      \x84\x5a\x60\xf6\xaa\x30\x1b\x16\xe6\x3b\xf4\x13\xd6\x98\xe9\x8f\x79\x08\x93\x8e\
+      \xc0\x6f\x53\x9b\x00\x00\x01\x00\x00";
+
+/// Its reply without a deadline.
+const PLAIN: &[u8] =
+    b"\x80\x02\x00\x00\x00\x1d\x00\x00\x00\x00\x00\x00\x00\x0a\x00\x00\x80\x23\x40\x00\
+      \x00\x07\x00\x00\x00\x00\x01\x00\x00";
+
+/// PolicyTicket with that ticket.
+const TICKET_SHOWN: &[u8] =
+    b"\x80\x01\x00\x00\x00\x4a\x00\x00\x01\x72\x03\x00\x00\x01\x00\x08\x00\x00\x00\x00\
+      \x00\x00\x03\xe8\x00\x00\x00\x00\x00\x04\x40\x00\x00\x0b\x80\x23\x40\x00\x00\x01\
+      \x00\x20\x7c\xee\x05\x1b\xe5\x69\x77\xce\x84\x5a\x60\xf6\xaa\x30\x1b\x16\xe6\x3b\
+      \xf4\x13\xd6\x98\xe9\x8f\x79\x08\x93\x8e\xc0\x6f\x53\x9b";
+
+/// Unseal with the nonce of the command 2.
+const UNSEAL: &[u8] =
+    b"\x80\x02\x00\x00\x00\x3b\x00\x00\x01\x5e\x80\x00\x00\x00\x00\x00\x00\x29\x03\x00\
+      \x00\x01\x00\x20\xe8\xc1\xb0\x12\xd1\x42\x56\x71\x4a\xe8\x5e\x51\xde\x03\xfa\x06\
+      \xf6\x11\x76\xb9\x0d\xc8\x28\x1f\xfb\xae\x8f\x1f\x1f\xab\x76\xcb\x00\x00\x00";
+
+/// Unseal refused: 000009a3.
+const DENIED: &[u8] = b"\x80\x01\x00\x00\x00\x0a\x00\x00\x09\xa3";
+
+/// FlushContext.
+const FLUSH: &[u8] = b"\x80\x01\x00\x00\x00\x0e\x00\x00\x01\x65\x03\x00\x00\x01";
+
+/// The reply without fields.
+const OK: &[u8] = b"\x80\x01\x00\x00\x00\x0a\x00\x00\x00\x00";
+
+/// The ticket: the HMAC over its tag, the deadline, the reset count 0, no cpHashA, no policyRef and the Name.
+const TICKET: [u8; 32] =
+    *b"\x7c\xee\x05\x1b\xe5\x69\x77\xce\x84\x5a\x60\xf6\xaa\x30\x1b\x16\xe6\x3b\xf4\x13\
+      \xd6\x98\xe9\x8f\x79\x08\x93\x8e\xc0\x6f\x53\x9b";
+
+/// The nonce seed of the run.
+const NONCE_SEED: [u8; 32] =
+    *b"\x3e\x09\x99\x91\xde\x67\x52\x16\x4a\xe4\x78\xd6\xa4\xe5\x11\x61\x56\xda\xb8\xba\
+      \xe5\x2e\x11\xa5\xc8\x2b\xf4\xc1\x80\xe1\x70\x01";
+
+/// A run that earns a ticket, and is denied its goal.
+const EARNING: [Step; 4] = [
+    Step {
+        command: START,
+        reply: STARTED,
+    },
+    Step {
+        command: SECRET,
+        reply: TICKETED,
+    },
+    Step {
+        command: UNSEAL,
+        reply: DENIED,
+    },
+    Step {
+        command: FLUSH,
+        reply: OK,
+    },
+];
+
+/// The same, where the reply has no deadline.
+const NOT_EARNING: [Step; 4] = [
+    Step {
+        command: START,
+        reply: STARTED,
+    },
+    Step {
+        command: SECRET,
+        reply: PLAIN,
+    },
+    Step {
+        command: UNSEAL,
+        reply: DENIED,
+    },
+    Step {
+        command: FLUSH,
+        reply: OK,
+    },
+];
+
+/// The same by the ticket.
+const SHOWING: [Step; 4] = [
+    Step {
+        command: START,
+        reply: STARTED,
+    },
+    Step {
+        command: TICKET_SHOWN,
+        reply: OK,
+    },
+    Step {
+        command: UNSEAL,
+        reply: DENIED,
+    },
+    Step {
+        command: FLUSH,
+        reply: OK,
+    },
+];
+
+/// The ticket of the endorsement hierarchy, or one like it that has a policyRef.
+fn held(alloc: Global, policy_ref: &[u8], digest: [u8; 32]) -> Result<HeldTicket, NoMemory> {
+    Ok(HeldTicket {
+        signed: false,
+        key: Name::Handle(0x4000_000b),
+        policy_ref: Blob::from_slice(alloc, policy_ref)?,
+        cp_hash: None,
+        deadline: 1000,
+        reset_count: 0,
+        digest: Digest32 { bytes: digest },
+    })
+}
+
+/// A ticket with another policyRef, two that stand for the move, the right one first.
+fn push_tickets(tickets: &mut Tickets, alloc: Global) -> Result<(), NoMemory> {
+    tickets.push(held(alloc, b"ref", [0x11; 32])?)?;
+    tickets.push(held(alloc, b"", TICKET)?)?;
+    tickets.push(held(alloc, b"", [0x22; 32])?)
+}
+
+fn empty_plan(alloc: Global) -> Plan {
+    Plan {
+        path: Path {
+            steps: PathSteps::new(alloc),
+            moves: Moves::new(alloc),
+            outside: false,
+        },
+        goal: Goal::Unseal {
+            object: 0x8000_0000,
+        },
+        grants: Grants {
+            secrets: Secrets::new(alloc),
+            keys: Secrets::new(alloc),
+        },
+        directory: Directory::new(alloc),
+        nonce_seed: Digest32 { bytes: NONCE_SEED },
+        tickets: Tickets::new(alloc),
+    }
+}
+
+fn fill(plan: &mut Plan, alloc: Global) -> Result<(), NoMemory> {
+    plan.path.moves.push(Move::Assert(Assertion::Secret {
+        entity: Name::Handle(0x4000_000b),
+        policy_ref: Blob::new(alloc),
+        cp_hash: None,
+        expiration: -1,
+    }))?;
+    plan.directory.push(DirEntry {
+        path: Text::from_str(alloc, "/x")?,
+        handle: 0x8000_0000,
+        name: Name::Hash(Digest32 { bytes: [0x22; 32] }),
+        attributes: 0x40,
+    })
+}
+
+/// The plan of the run, with tickets or without.
+fn plan(alloc: Global, holds: bool) -> Option<Plan> {
+    let mut plan = empty_plan(alloc);
+    if fill(&mut plan, alloc).is_err()
+        || (holds && push_tickets(&mut plan.tickets, alloc).is_err())
+    {
+        drop(plan);
+        return None;
+    }
+    Some(plan)
+}
+
+/// Whether this command was made, and is the one that is wanted.
+fn is_made(made: Result<Blob, NoMemory>, command: &[u8]) -> bool {
+    match made {
+        Ok(bytes) => bytes.as_slice() == command,
+        Err(_) => false,
+    }
+}
+
+// One command and its reply in each state: the state after them, nothing where the command is another one.
+
+fn at_start(alloc: Global, plan: Plan, step: &Step) -> Option<Next> {
+    if plan.path.moves.len() > 512 {
+        drop(plan);
+        return None;
+    }
+    let state = Planned::new(plan);
+    if is_made(state.next(alloc), step.command) {
+        return state.take(alloc, step.reply).ok();
+    }
+    drop(state);
+    None
+}
+
+fn on_path(alloc: Global, state: Asserting, step: &Step) -> Option<Next> {
+    if is_made(state.next(alloc), step.command) {
+        return state.take(alloc, step.reply).ok();
+    }
+    drop(state);
+    None
+}
+
+fn at_goal(alloc: Global, state: Ready, step: &Step) -> Option<Next> {
+    if is_made(state.next(alloc), step.command) {
+        return state.take(alloc, step.reply).ok();
+    }
+    drop(state);
+    None
+}
+
+fn at_end(alloc: Global, state: Closing, step: &Step) -> Option<Next> {
+    if is_made(state.next(alloc), step.command) {
+        return state.take(alloc, step.reply).ok();
+    }
+    drop(state);
+    None
+}
+
+fn turn(alloc: Global, state: Next, step: &Step) -> Option<Next> {
+    match state {
+        Next::Asserting(state) => on_path(alloc, state, step),
+        Next::Ready(state) => at_goal(alloc, state, step),
+        Next::Closing(state) => at_end(alloc, state, step),
+        Next::Over(_) => None,
+    }
+}
+
+/// The state of the run behind these steps.
+fn state_after(alloc: Global, holds: bool, steps: &[Step; 4]) -> Option<Next> {
+    let state = at_start(alloc, plan(alloc, holds)?, &steps[0])?;
+    let state = turn(alloc, state, &steps[1])?;
+    let state = turn(alloc, state, &steps[2])?;
+    turn(alloc, state, &steps[3])
+}
+
+/// Whether this is the ticket that the run earns.
+fn is_earned(ticket: &HeldTicket) -> bool {
+    !ticket.signed
+        && ticket.key == Name::Handle(0x4000_000b)
+        && ticket.policy_ref.is_empty()
+        && ticket.cp_hash.is_none()
+        && ticket.deadline == 1000
+        && ticket.reset_count == 0
+        && ticket.digest.bytes == TICKET
+}
+
+/// Whether the run ended, and has earned this many tickets, each of which is that one.
+fn has_earned(state: &Option<Next>, count: usize) -> bool {
+    match state {
+        Some(Next::Over(over)) => over.earned.len() == count
+            && over
+                .earned
+                .as_slice()
+                .iter()
+                .all(|ticket| is_earned(ticket)),
+        _ => false,
+    }
+}
+
+// A test names the tables of its run, and leaves the states to this function: a proof about both at once is long.
+fn earns(alloc: Global, holds: bool, steps: &[Step; 4], count: usize) -> bool {
+    let state = state_after(alloc, holds, steps);
+    let answer = has_earned(&state, count);
+    drop(state);
+    answer
+}
+
+#[test]
+fn a_reply_with_a_deadline_earns_its_ticket(rt: HostRuntime) {
+    assert!(rt; earns(rt.alloc(), false, &EARNING, 1));
+}
+
+#[test]
+fn a_reply_without_a_deadline_earns_none(rt: HostRuntime) {
+    assert!(rt; earns(rt.alloc(), false, &NOT_EARNING, 0));
+}
+
+#[test]
+fn the_first_ticket_that_stands_for_a_move_is_shown(rt: HostRuntime) {
+    assert!(rt; earns(rt.alloc(), true, &SHOWING, 0));
+}
