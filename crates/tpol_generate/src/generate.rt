@@ -25,7 +25,7 @@ use tpol_digest::{count_paths, digest_of};
 use tpol_lines::{Lines, command_count_line, generated_line, path_count_line, push_line};
 use tpol_name::{Setup, directory};
 use tpol_perform::Performance;
-use tpol_prepare::Scenario;
+use tpol_prepare::{Manner, Scenario};
 use tpol_steps::{Answer, FilledDocument, Halt, Verdict, check_limits, digest_line, fill_document};
 use tpol_tree::{Approvals, Closed};
 
@@ -219,7 +219,7 @@ fn generated_scenario(alloc: Global, setup: &Setup, closed: Closed) -> Result<Sc
         Ok(directory) => {
             let begun = generated_documents(alloc, closed)?;
             Ok(Scenario {
-                explains: false,
+                manner: Manner::Run,
                 seed: setup.seed,
                 directory,
                 entities: Sequence::new(alloc),

@@ -16,7 +16,8 @@ use Rattle.tpol_tree.specs.declared.facts.Fact.{Fact}
 use Rattle.tpol_tree.specs.declared.path.Move.{Move}
 use Rattle.tpol_tree.specs.declared.path.Move.TheVariants.{Assert, Or, Approve, ApproveNv}
 use Rattle.tpm_bindings.specs.declared.last_auth.LastAuth.{LastAuth}
-use Rattle.tpm_bindings.specs.Facts.{auth_in, auths_of, code_in, codes_of, cp_hash_in, cp_hashes_of, deadlines_of, in_assertion, is_before, is_pcr, is_presence, limits_of, localities_of, locality_in, moves_of, name_hash_in, name_hashes_of, parent_hash_in, parent_hashes_of, same_digest, written_in, written_of}
+use Rattle.tpm_bindings.specs.Facts.{auth_in, auths_of, code_in, codes_of, cp_hash_in, cp_hashes_of, deadlines_of, in_assertion, is_before, is_pcr, is_presence, limits_of, localities_of, locality_in, moves_of, name_hash_in, name_hashes_of, parent_hash_in, parent_hashes_of, written_in, written_of}
+use Rattle.tpol_base.specs.Digest.{is_same_digest as same_digest}
 use Rattle.tpm_bindings.specs.Held.{all_are, any_of, each_of, listed}
 use Rattle.tpm_bindings.specs.State.{SessionState}
 use Rattle.tpm_rules.specs.Deadline.{counted_from, deadline_of, is_nonce_or_none, milliseconds}

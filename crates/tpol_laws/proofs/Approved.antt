@@ -137,7 +137,7 @@ module _ (run : Run) (is : IsRun run) (first past : List Event) (session : Sessi
             ∙ ap (λ (w : WorldState). verification.ticket_of w (approval_hash approved policy_ref) object) on.world;
         moved = record {
           past = event_in run past (verify_of object policy_ref approved signature) ∷ past;
-          is = move-sends run is.directory past session sent None done (Approve key policy_ref approved signature) at
+          is = move-sends run is.directory is.tickets past session sent None done (Approve key policy_ref approved signature) at
               ∙ ap (after_sent run past session sent None done (Some (Approve key policy_ref approved signature))) same
               ∙ ap (λ (s : Standing). record { past = event_in run past (verify_of object policy_ref approved signature) ∷ past; standing = s }) heard;
           stands = stands;
@@ -163,7 +163,7 @@ authorized-moved run is first past session sent done chosen on few key policy_re
     let same : verification.ticket_of (view_of run.setup past).world (approval_hash approved policy_ref) object ≡ ticket =
     ap (λ (w : WorldState). verification.ticket_of w (approval_hash approved policy_ref) object) on.world ∙ sym made in
     subst (Moved run first session (sent + 1) None (done + 1) (session_after (sight_after run.setup first) chosen (Approve key policy_ref approved signature)))
-    (sym (move-sends run is.directory past session sent (Some ticket) done (Approve key policy_ref approved signature) at))
+    (sym (move-sends run is.directory is.tickets past session sent (Some ticket) done (Approve key policy_ref approved signature) at))
     (shown-moved run first past session chosen on (Approve key policy_ref approved signature) (commands.PolicyAuthorize session.handle approved policy_ref key ticket) sent_by.fits sent_by.area sent done (Some ticket) sent_by.policy refl
     (subst (λ (c : Client). Passes (view_of run.setup past) run.locality session.handle (session_state run.setup past session.handle) c chosen (Approve key policy_ref approved signature) (commands.PolicyAuthorize session.handle approved policy_ref key ticket)) now
     (subst (λ (t : Ticket). Passes (view_of run.setup past) run.locality session.handle (session_state run.setup past session.handle) (client_on (view_of run.setup past).world free run.plan.grants run.plan.goal run.locality) chosen (Approve key policy_ref approved signature) (commands.PolicyAuthorize session.handle approved policy_ref key t)) same passes)))

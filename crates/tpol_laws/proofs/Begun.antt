@@ -242,6 +242,7 @@ module _ (staged : StagedScene) (run : RunOf staged.script) (is : IsStaged stage
       record {
         setup = is.setup;
         directory = is.directory;
+        tickets = refl;
         grants = grants-at staged.scenario.clients run.client is.grants;
         moves = named.moves;
         short = named.short;

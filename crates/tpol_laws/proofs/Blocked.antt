@@ -159,7 +159,7 @@ no-outside true h = absurd (false≢true h)
 no-outside false h = refl
 
 run-of : (run : Run) → IsBegun run → is_complete run.plan ≡ true → IsRun run
-run-of run begins complete = record { setup = begins.setup; directory = begins.directory; grants = begins.grants; moves = begins.moves; complete = complete }
+run-of run begins complete = record { setup = begins.setup; directory = begins.directory; tickets = begins.tickets; grants = begins.grants; moves = begins.moves; complete = complete }
 
 -- a run that succeeds had an open path, or a chance
 run-comes : (run : Run) (first : List Event) (turns : ℕ) → IsBegun run → HasShortOffset run.plan.goal → is_complete run.plan ≡ true → SucceedsAfter run turns (begun first)

@@ -35,18 +35,20 @@ use Rattle.tpol_base.specs.Name.{is_same_name}
 use Rattle.tpol_base.specs.ResponseCode.{rc_auth_unavailable, rc_reference_s0, reference_of_handle}
 use Rattle.tpol_choose.specs.declared.block.Why.TheVariants.{Deferred, GoalRule}
 use Rattle.tpol_choose.specs.Blocks.{client_of}
-use Rattle.tpol_choose.specs.Entities.{index_of_handle, name_as_is, name_in_directory, object_of_handle}
+use Rattle.tpol_choose.specs.Entities.{name_as_is, name_in_directory}
 use Rattle.tpol_choose.specs.Goals.{Judged, counting_rule, goal_block, goal_use, judged, judged_block, on_index, own_block, proves as is_planned}
 use Rattle.tpol_choose.specs.Keys.{is_same_block}
 use Rattle.tpol_choose.specs.Moves.{rc_of}
 use Rattle.tpol_driver.specs.declared.plan.Plan.{Plan}
 use Rattle.tpol_driver.specs.declared.session.Session.{Session}
 use Rattle.tpol_driver.specs.Commands.{caller_nonce}
-use Rattle.tpol_driver.specs.GoalUse.{area_of_goal, auth_of_path, command_of_goal, goal_command, goal_hmac, goal_secret}
+use Rattle.tpol_driver.specs.GoalUse.{area_of_goal, auth_of_path, goal_command, goal_hmac, goal_secret}
 use Rattle.tpol_goal.specs.declared.goal.Goal.{Goal}
 use Rattle.tpol_goal.specs.declared.goal.Goal.TheVariants as goals
-use Rattle.tpol_goal.specs.Entities.{name_of_handle}
-use Rattle.tpol_goal.specs.Goals.{HasShortOffset, IsGoal, IsGoalAmong, code_of_goal, entity_of_goal, handles_of_goal, names_of_goal, second_handle, with_second}
+use Rattle.tpol_goal.specs.Commands.{command_of_goal}
+use Rattle.tpol_goal.specs.Entities.{index_of_handle, name_of_handle, object_of_handle}
+use Rattle.tpol_goal.specs.Goals.{HasShortOffset, IsGoal, IsGoalAmong, code_of_goal, entity_of_goal, handles_of_goal, second_handle, with_second}
+use Rattle.tpol_goal.proofs.Shapes.{area_of-command_of_goal, code_of_goal-command}
 use Rattle.tpol_name.specs.declared.areas.ObjectPublic.{ObjectPublic}
 use Rattle.tpol_name.specs.declared.entries.DirEntry.{DirEntry}
 use Rattle.tpol_name.specs.declared.entries.IndexEntry.{IndexEntry}
@@ -67,8 +69,7 @@ use Rattle.tpol_laws.proofs.GoalAt.{IsGoalAt, duplicate-fits, found-place, hmac-
 use Rattle.tpol_laws.proofs.GoalChecks.{auth-alike, before-alike, is-proved}
 use Rattle.tpol_laws.proofs.GoalEntities.{find-flip, index-there, object-there, same-indices}
 use Rattle.tpol_laws.proofs.GoalKeys.{same-bytes}
-use Rattle.tpol_laws.proofs.GoalMacs.{asks}
-use Rattle.tpol_laws.proofs.GoalShape.{shape-area, shape-code, shape-entity, shape-rule}
+use Rattle.tpol_laws.proofs.GoalShape.{shape-entity, shape-rule}
 use Rattle.tpol_laws.proofs.GoalUses.{no-password, use-same}
 use Rattle.tpol_laws.proofs.Lasting.{IsKept, kept as kept-of}
 use Rattle.tpol_laws.proofs.Named.{mapped}
@@ -141,7 +142,7 @@ module _ (setup : Setup) (is : IsSetup setup) (tables : TableState) (of : IsKept
   -- where its Name is another than the one listed, the Names of the goal are others
   names-apart : (goal : Goal) (found : Judged) → judged (sight_of tables.world free) goal ≡ Some found → IsGoalAt setup tables free goal found
       → is_same_name (name_as_is found.found.handle found.found.entity) (name_in_directory found.found.handle found.found.entity) ≡ false
-      → names_of_goal (directory_of setup) goal ≢ map (name_at tables.world) (handles_of_goal goal)
+      → map (name_of_handle (directory_of setup)) (handles_of_goal goal) ≢ map (name_at tables.world) (handles_of_goal goal)
   names-apart goal found h at apart same =
       let now : name_at tables.world (entity_of_goal goal) ≡ name_as_is found.found.handle found.found.entity =
       name-as-is tables.world (entity_of_goal goal) found.found.entity at.entity ∙ ap (λ n. name_as_is n found.found.entity) (sym at.handle) in
@@ -190,7 +191,7 @@ module _ (setup : Setup) (is : IsSetup setup) (tables : TableState) (of : IsKept
 
 module _ (setup : Setup) (is : IsSetup setup) (tables : TableState) (of : IsKept setup tables.world) (free locality : ℕ) (plan : Plan) (directory : plan.directory ≡ directory_of setup)
     (session : Session) (sent : ℕ) (slot : IsSlotHandle session.handle) (kept chosen : SessionState) (live : state_at tables.sessions session.handle ≡ Some kept)
-    (alike : AreAlike kept chosen) (auth : auth_of_path plan.path.moves ≡ auth_of_path (asks (last_auth kept.facts)))
+    (alike : AreAlike kept chosen) (auth : auth_of_path plan.path.moves ≡ (last_auth kept.facts))
     (found : Judged) (sees : judged (sight_of tables.world free) plan.goal ≡ Some found) (at : IsGoalAt setup tables free plan.goal found)
     (first : first_stop tables locality (goal_command plan session sent) ≡ None) where
   abbrev area : AuthArea
@@ -204,7 +205,7 @@ module _ (setup : Setup) (is : IsSetup setup) (tables : TableState) (of : IsKept
 
   policy-stopped : authorization_stop tables locality command ≡ policy_stop tables locality command area entity kept
   policy-stopped =
-      ap (option_and_then (area_stop tables locality command)) (shape-area plan.goal area)
+      ap (option_and_then (area_stop tables locality command)) (area_of-command_of_goal plan.goal area)
       ∙ ap (λ (o : Option Entity). option_map_or (entity_stop tables locality command area) o (Some (refuses (reference_of_handle 1)))) (ap (entity_at tables.world) (shape-entity plan.goal area) ∙ at.entity)
       ∙ ap (λ b. if b then password_stop entity (number_of_command command) area.hmac else option_map_or (policy_stop tables locality command area entity) (state_at tables.sessions session.handle) (Some (refuses rc_reference_s0))) (no-password session.handle slot)
       ∙ ap (λ (o : Option SessionState). option_map_or (policy_stop tables locality command area entity) o (Some (refuses rc_reference_s0))) live
@@ -216,7 +217,7 @@ module _ (setup : Setup) (is : IsSetup setup) (tables : TableState) (of : IsKept
 
   available : is_policy_available entity (number_of_code (code_of_goal plan.goal)) ≡ true
   available =
-      ap (λ (c : CommandCode). is_policy_available entity (number_of_code c)) (sym (shape-code plan.goal area))
+      ap (λ (c : CommandCode). is_policy_available entity (number_of_code c)) (sym (code_of_goal-command plan.goal area))
       ∙ unless-none (is_policy_available entity (number_of_command command)) (denies denials.Unavailable rc_auth_unavailable) passed.0
 
   proved : (broken_before_auth kept (occasion_of tables locality command entity) (auth_policy_of entity) ≡ None) × (proves (field_of tables command area kept) (auth_value_of entity) (last_auth kept.facts) ≡ true)
@@ -252,10 +253,10 @@ module _ (setup : Setup) (is : IsSetup setup) (tables : TableState) (of : IsKept
   }
     where
       apart : (is_same_block (goal_secret plan) (auth_value_of entity) ≡ false) ⊎ (is_same_name (name_as_is found.found.handle found.found.entity) (name_in_directory found.found.handle found.found.entity) ≡ false)
-          → (is_same_block (goal_secret plan) (auth_value_of entity) ≡ false) ⊎ (names_of_goal plan.directory plan.goal ≢ map (name_at tables.world) (handles_of_goal plan.goal))
+          → (is_same_block (goal_secret plan) (auth_value_of entity) ≡ false) ⊎ (map (name_of_handle plan.directory) (handles_of_goal plan.goal) ≢ map (name_at tables.world) (handles_of_goal plan.goal))
       apart (inl keys) = inl keys
       apart (inr names) =
-          inr (subst (λ (d : List DirEntry). names_of_goal d plan.goal ≢ map (name_at tables.world) (handles_of_goal plan.goal)) (sym directory)
+          inr (subst (λ (d : List DirEntry). map (name_of_handle d) (handles_of_goal plan.goal) ≢ map (name_at tables.world) (handles_of_goal plan.goal)) (sym directory)
           (names-apart setup is tables of free plan.goal found sees at names))
 
   pub goal-opens : (goal_block (client_of (sight_of tables.world free) plan.grants plan.goal locality) chosen ≡ None) ⊎ IsProvedByChance plan tables.world kept.nonce session sent

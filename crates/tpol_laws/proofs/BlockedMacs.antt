@@ -24,7 +24,7 @@ use Rattle.tpol_hash.specs.Hmac.{block_key}
 use Rattle.tpol_name.specs.Setups.{IsAuthValue}
 use Rattle.tpol_laws.specs.Chances.{mac_made}
 use Rattle.tpol_laws.proofs.GoalKeys.{bytes-same, same-bytes}
-use Rattle.tpol_laws.proofs.GoalMacs.{asks, field, hmac-value, secret-same, some-bytes, whole-bytes}
+use Rattle.tpol_laws.proofs.GoalMacs.{field, hmac-value, secret-same, some-bytes, whole-bytes}
 
 -- ---- an HMAC, or none
 
@@ -89,7 +89,7 @@ module _ (plan : Plan) (session : Session) (sent : ℕ) (found : EntityAt) (hand
       ∙ ap (λ b. b && (nat_eq (length (goal_secret plan)) 0 || is_same_name (name_as_is found.handle found.entity) (name_in_directory found.handle found.entity))) eb
       ∙ ap (λ b. nat_eq (length (goal_secret plan)) 0 || b) en ∙ or-true (nat_eq (length (goal_secret plan)) 0))
 
-  pub field-judged : (last : LastAuth) (over nonce : Digest32) → auth_of_path plan.path.moves ≡ auth_of_path (asks last)
+  pub field-judged : (last : LastAuth) (over nonce : Digest32) → auth_of_path plan.path.moves ≡ last
       → proves (field plan session sent found handle value over nonce) (auth_value_of found.entity) last ≡ true → (is_planned plan.grants found last ≡ true) ⊎ IsAlike over nonce
   field-judged lasts.Neither over nonce same right = inl refl
   field-judged lasts.Password over nonce same right =

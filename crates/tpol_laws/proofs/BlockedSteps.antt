@@ -98,7 +98,7 @@ plain-goes run is first past session sent done chosen on few act at other bounds
     let free = free_count (view_of run.setup first).sessions (bits_of (view_of run.setup first).saved) in
     let made = own-move run.setup is.setup (view_of run.setup past).world (is-of run.setup past) run.plan.grants is.grants session.handle session.nonce on.slot None act tt bounds known other in
     let command = command_of_move (directory_of run.setup) run.plan.grants session None act in
-    let unstopped = move-unstopped run is.directory past session sent None done act at (command_of_move (directory_of run.setup) run.plan.grants session None act) refl made.fits
+    let unstopped = move-unstopped run is.directory is.tickets past session sent None done act at (command_of_move (directory_of run.setup) run.plan.grants session None act) refl made.fits
     (own-coded run past session.handle act (command_of_move (directory_of run.setup) run.plan.grants session None act) made) turns succeeds in
     by (move-opens run.setup is.setup (view_of run.setup past) (is-of run.setup past) free run.plan.grants run.plan.goal run.locality session.handle (session_state run.setup past session.handle)
     (stands-live run first past session chosen on) session.nonce on.nonce chosen on.alike act other known unstopped)
@@ -133,7 +133,7 @@ verify-goes run is first past session sent done chosen on key policy_ref approve
     let same : command_of_move (directory_of run.setup) run.plan.grants session None (Approve key policy_ref approved signature) ≡ verify_of it.value policy_ref approved signature =
     ap (λ (o : Option DirEntry). commands.VerifySignature (or_null (option_map (λ (line : DirEntry). line.handle) o)) (approval_hash approved policy_ref) signature) seen.listed in
     let fits = fits-verify object.handle (approval_hash approved policy_ref) signature (object-handle run.setup key object.handle (object-found run.setup is.setup key (line_of_object it.value) seen.listed)) in
-    let unstopped = move-unstopped run is.directory past session sent None done (Approve key policy_ref approved signature) at (verify_of it.value policy_ref approved signature) same fits
+    let unstopped = move-unstopped run is.directory is.tickets past session sent None done (Approve key policy_ref approved signature) at (verify_of it.value policy_ref approved signature) same fits
     (verify-coded (view_of run.setup past).world object.handle (approval_hash approved policy_ref) signature) turns succeeds in
     let rule = verify-holds run.setup is.setup (view_of run.setup past) (is-of run.setup past) free run.plan.grants run.plan.goal run.locality session.handle (session_state run.setup past session.handle)
     (stands-live run first past session chosen on) session.nonce on.nonce chosen on.alike it.value (approval_hash approved policy_ref) signature seen.held unstopped in
@@ -158,7 +158,7 @@ pub authorize-goes : (run : Run) → IsRun run → (first past : List Event) (se
 authorize-goes run is first past session sent done chosen on few key policy_ref approved signature at bounds known object shown verified ticket fits made turns succeeds =
     let free = free_count (view_of run.setup first).sessions (bits_of (view_of run.setup first).saved) in
     let own = own-move run.setup is.setup (view_of run.setup past).world (is-of run.setup past) run.plan.grants is.grants session.handle session.nonce on.slot (Some ticket) (Approve key policy_ref approved signature) fits bounds known refl in
-    let unstopped = move-unstopped run is.directory past session sent (Some ticket) done (Approve key policy_ref approved signature) at (commands.PolicyAuthorize session.handle approved policy_ref key ticket) refl own.fits
+    let unstopped = move-unstopped run is.directory is.tickets past session sent (Some ticket) done (Approve key policy_ref approved signature) at (commands.PolicyAuthorize session.handle approved policy_ref key ticket) refl own.fits
     (own-coded run past session.handle (Approve key policy_ref approved signature) (commands.PolicyAuthorize session.handle approved policy_ref key ticket) own) turns succeeds in
     let rule = authorize-holds run.setup is.setup (view_of run.setup past) (is-of run.setup past) free run.plan.grants run.plan.goal run.locality session.handle (session_state run.setup past session.handle)
     (stands-live run first past session chosen on) session.nonce on.nonce chosen on.alike approved policy_ref key ticket unstopped in

@@ -88,6 +88,7 @@ pub allows-any : (number : ℕ) → Allows any number
 allows-any number = record {
   command = λ event client locality buffer reply outcome. tt;
   opening = λ event paths opening. tt;
+  certificate = λ event bytes. tt;
   time = λ event ms. tt;
   presence = λ event on. tt;
   reset = λ event. tt;

@@ -2,8 +2,6 @@
 -- run finds the reply's authorization right.
 use Rattle.std.proofs.Common.{◌≡◌, ◌≤◌, ℕ, ◌++◌, true, List, [], length, map, if◌then◌else◌, refl, ap, sym, subst, ◌∙◌, arith}
 use Rattle.std.specs.Prelude.{Option, Some, None, option_map}
-use Rattle.std.specs.Int.{to_be_bytes, w32}
-use Rattle.std.specs.List.{flat_map}
 use Rattle.std.specs.Option.{option_and_then}
 use Rattle.std.proofs.lemmas.Option.{none-some}
 use Rattle.tpm_auth.specs.SessionMacs.{reply_mac}
@@ -24,16 +22,15 @@ use Rattle.tpm_rules.specs.Checks.{first_broken_check}
 use Rattle.tpm_rules.specs.Entity.{Entity, auth_policy_of, auth_value_of, is_policy_available}
 use Rattle.tpm_rules.specs.Rule.{unless}
 use Rattle.tpm_session.specs.Slots.{IsSlotHandle, bits_of, free_count, state_at}
-use Rattle.tpm_world.specs.Entities.{entity_at}
+use Rattle.tpm_world.specs.Entities.{entity_at, name_at}
 use Rattle.tpol_wire.specs.Hashes.{rp_hash}
-use Rattle.tpm_world.specs.Hashes.{cp_hash, joined_names, nonce_of_event}
+use Rattle.tpm_world.specs.Hashes.{cp_hash, nonce_of_event}
 use Rattle.tpm_world.specs.Plain.{plain_reply}
 use Rattle.tpm_world.specs.World.{sight_of}
 use Rattle.tpol_base.specs.declared.command_code.CommandCode.{CommandCode}
 use Rattle.tpol_base.specs.declared.digest.Digest32.{Digest32}
 use Rattle.tpol_base.specs.CommandCode.{number_of_code}
 use Rattle.tpol_base.specs.Digest.{digest_of_bytes}
-use Rattle.tpol_base.specs.Name.{name_bytes}
 use Rattle.tpol_base.specs.ResponseCode.{rc_auth_unavailable}
 use Rattle.tpol_choose.specs.declared.block.Why.TheVariants.{Deferred, GoalRule}
 use Rattle.tpol_choose.specs.Blocks.{client_of}
@@ -48,9 +45,12 @@ use Rattle.tpol_driver.specs.declared.session.Session.{Session}
 use Rattle.tpol_driver.specs.Answers.{answer_of, answer_of_reply}
 use Rattle.tpol_driver.specs.Commands.{caller_nonce}
 use Rattle.tpol_driver.specs.Driving.{goal_done, goal_heard}
-use Rattle.tpol_driver.specs.GoalUse.{area_of_goal, auth_of_path, bytes_of_reply, command_of_goal, goal_command, goal_cp_hash, goal_hmac, goal_rp_hash, goal_secret, mac_key, right_hmac}
-use Rattle.tpol_goal.specs.Goals.{IsGoal, IsGoalAmong, code_of_goal, entity_of_goal, handles_of_goal, names_of_goal}
-use Rattle.tpol_hash.specs.Sha256.{sha256_digest}
+use Rattle.tpol_driver.specs.GoalUse.{area_of_goal, auth_of_path, bytes_of_reply, goal_command, goal_hmac, goal_secret, mac_key, plan_cp_hash, plan_rp_hash, right_hmac}
+use Rattle.tpol_goal.specs.Commands.{command_of_goal, goal_cp_hash}
+use Rattle.tpol_goal.specs.Entities.{name_of_handle}
+use Rattle.tpol_goal.specs.Goals.{IsGoal, IsGoalAmong, code_of_goal, entity_of_goal}
+use Rattle.tpol_goal.proofs.SameHashes.{cp_hash-same}
+use Rattle.tpol_goal.proofs.Shapes.{area_of-command_of_goal, code_of_goal-command, handles_of_goal-command, policy_session_of-command_of_goal}
 use Rattle.tpol_name.specs.declared.entries.DirEntry.{DirEntry}
 use Rattle.tpol_name.specs.declared.entries.IndexEntry.{IndexEntry}
 use Rattle.tpol_name.specs.declared.entries.ObjectEntry.{ObjectEntry}
@@ -63,7 +63,7 @@ use Rattle.tpol_wire.specs.declared.command.Command.{Command}
 use Rattle.tpol_wire.specs.declared.reply.Reply.{Reply}
 use Rattle.tpol_wire.specs.declared.reply.Reply.TheVariants as replies
 use Rattle.tpol_wire.specs.Authorizations.{ReplyAuthFits}
-use Rattle.tpol_wire.specs.Commands.{FitsCommand, code_of_command, spell_parameters}
+use Rattle.tpol_wire.specs.Commands.{FitsCommand, code_of_command}
 use Rattle.tpol_wire.specs.Replies.{PartsAnswer, parts_of, spell_reply}
 use Rattle.tpol_wire.specs.ReplyReading.{reply_reading}
 use Rattle.tpol_wire.proofs.ReplyLaws.{reply_read}
@@ -73,8 +73,8 @@ use Rattle.tpol_laws.proofs.Binds.{AreAlike}
 use Rattle.tpol_laws.proofs.Fit.{value-short}
 use Rattle.tpol_laws.proofs.GoalAt.{IsGoalAt, IsNameListed, goal-at}
 use Rattle.tpol_laws.proofs.GoalChecks.{auth-alike, is-proved, no-check}
-use Rattle.tpol_laws.proofs.GoalMacs.{asks, auth-along, field-right, reply-right, right-area, unless-short}
-use Rattle.tpol_laws.proofs.GoalShape.{shape-apart, shape-area, shape-code, shape-cp_hash, shape-entity, shape-handles, shape-parameters, shape-reply, shape-rule}
+use Rattle.tpol_laws.proofs.GoalMacs.{auth-along, field-right, reply-right, right-area, unless-short}
+use Rattle.tpol_laws.proofs.GoalShape.{shape-entity, shape-reply, shape-rule}
 use Rattle.tpol_laws.proofs.GoalUses.{area-fits, no-password, use-same}
 use Rattle.tpol_laws.proofs.Heard.{IsAcceptance}
 use Rattle.tpol_laws.proofs.Lasting.{IsKept, is-kept}
@@ -116,7 +116,7 @@ module _ (setup : Setup) (is : IsSetup setup) (tables : TableState) (of : IsKept
     (short : length (goal_secret plan) ≤ 32) (fits : IsGoal plan.goal)
     (among : IsGoalAmong (map (λ (o : ObjectEntry). o.handle) setup.objects) (map (λ (i : IndexEntry). i.public.index) setup.indices) plan.goal)
     (session : Session) (sent : ℕ) (slot : IsSlotHandle session.handle) (kept chosen : SessionState) (live : state_at tables.sessions session.handle ≡ Some kept) (nonce : kept.nonce ≡ session.nonce)
-    (alike : AreAlike kept chosen) (auth : auth_of_path plan.path.moves ≡ auth_of_path (asks (last_auth kept.facts)))
+    (alike : AreAlike kept chosen) (auth : auth_of_path plan.path.moves ≡ (last_auth kept.facts))
     (shown : IsOpen (client_of (sight_of tables.world free) plan.grants plan.goal locality) chosen (judged (sight_of tables.world free) plan.goal)) where
   goal-is : IsGoalAt setup tables free plan.goal shown.found
   goal-is = goal-at setup is tables of free plan.goal shown.found fits among shown.is
@@ -138,22 +138,20 @@ module _ (setup : Setup) (is : IsSetup setup) (tables : TableState) (of : IsKept
     area = area;
     entity = entity;
     state = kept;
-    has_area = shape-area plan.goal area;
+    has_area = area_of-command_of_goal plan.goal area;
     is_session = ap (λ b. if b then None else Some session.handle) (no-password session.handle slot);
     has_entity = ap (entity_at tables.world) (shape-entity plan.goal area) ∙ goal-is.entity;
     has_state = live;
-    available = ap (λ (c : CommandCode). is_policy_available entity (number_of_code c)) (shape-code plan.goal area) ∙ shown.available;
-    apart = ap (λ o. apart_stop o session.handle) (shape-apart plan.goal area);
-    handles = ap (handles_from tables 1) (shape-handles plan.goal area) ∙ goal-is.there;
+    available = ap (λ (c : CommandCode). is_policy_available entity (number_of_code c)) (code_of_goal-command plan.goal area) ∙ shown.available;
+    apart = ap (λ o. apart_stop o session.handle) (policy_session_of-command_of_goal plan.goal area);
+    handles = ap (handles_from tables 1) (handles_of_goal-command plan.goal area) ∙ goal-is.there;
   }
 
   -- the run's cpHash is the machine's, where the directory lists the entity by the Name that it has
-  driven-same : IsNameListed shown.found → goal_cp_hash plan (area_of_goal session caller []) ≡ cp_hash tables.world command
+  driven-same : IsNameListed shown.found → plan_cp_hash plan ≡ cp_hash tables.world command
   driven-same same =
-      ap (λ (d : List DirEntry). sha256_digest (to_be_bytes w32 (number_of_code (code_of_goal plan.goal)) ++ flat_map name_bytes (names_of_goal d plan.goal) ++ spell_parameters (command_of_goal plan.goal (area_of_goal session caller [])))) directory
-      ∙ ap (λ (names : List ℕ). sha256_digest (to_be_bytes w32 (number_of_code (code_of_goal plan.goal)) ++ names ++ spell_parameters (command_of_goal plan.goal (area_of_goal session caller [])))) (goal-is.listed same)
-      ∙ ap (λ (bytes : List ℕ). sha256_digest (to_be_bytes w32 (number_of_code (code_of_goal plan.goal)) ++ joined_names tables.world (handles_of_goal plan.goal) ++ bytes)) (shape-parameters plan.goal (area_of_goal session caller []))
-      ∙ sym (shape-cp_hash tables.world plan.goal area (joined_names tables.world (handles_of_goal plan.goal)) refl)
+      ap (λ (d : List DirEntry). goal_cp_hash (name_of_handle d) plan.goal) directory
+      ∙ cp_hash-same (name_of_handle (directory_of setup)) (name_at tables.world) plan.goal area (goal-is.listed same)
 
   planned : is_planned plan.grants shown.found.found (last_auth kept.facts) ≡ true
   planned =
@@ -171,7 +169,7 @@ module _ (setup : Setup) (is : IsSetup setup) (tables : TableState) (of : IsKept
   nothing-stops =
       first-asked tables locality command session.handle asked
       ∙ ap (λ broken. stopped_by broken (room_stop tables command) (own_rule tables command)) broken-none
-      ∙ ap (λ (o : Option (ℕ × ℕ)). stopped_by None (option_and_then (λ (own : ℕ × ℕ). option_and_then has_room (state_at tables.sessions own.0)) o) (own_rule tables command)) (shape-apart plan.goal area)
+      ∙ ap (λ (o : Option (ℕ × ℕ)). stopped_by None (option_and_then (λ (own : ℕ × ℕ). option_and_then has_room (state_at tables.sessions own.0)) o) (own_rule tables command)) (policy_session_of-command_of_goal plan.goal area)
       ∙ ap (λ rule. stopped_by None None rule) (shape-rule tables plan.goal area ∙ goal-is.rule area ∙ shown.rule)
 
   -- ---- bounds
@@ -193,7 +191,7 @@ module _ (setup : Setup) (is : IsSetup setup) (tables : TableState) (of : IsKept
   area-same : reply_auth tables number command reply ≡ Some answer_area
   unfolding asked
   area-same =
-      ap (option_and_then (reply_area tables number command reply)) (shape-area plan.goal area)
+      ap (option_and_then (reply_area tables number command reply)) (area_of-command_of_goal plan.goal area)
       ∙ ap (λ b. if b then Some password_area else option_and_then (λ (e : Entity). option_map (session_area tables number command reply area e) (state_at tables.sessions session.handle)) (authorized_entity tables command)) (no-password session.handle slot)
       ∙ ap (option_and_then (λ (e : Entity). option_map (session_area tables number command reply area e) (state_at tables.sessions session.handle))) asked.has_entity
       ∙ ap (option_map (session_area tables number command reply area entity)) live
@@ -203,16 +201,15 @@ module _ (setup : Setup) (is : IsSetup setup) (tables : TableState) (of : IsKept
       ap (λ (r : Reply). spell_reply r (reply_auth tables number command r)) (shape-reply tables number plan.goal area) ∙ ap (spell_reply reply) area-same
 
   hmac-same : answer_area.hmac ≡ right_hmac plan sent reply fresh.bytes
-  unfolding rp_hash
   hmac-same =
-      ap (λ (c : CommandCode). reply_hmac (last_auth kept.facts) (auth_value_of entity) (goal_hmac plan session caller) (λ key. reply_mac key (rp_hash (number_of_code c) reply) fresh caller.bytes 0)) (shape-code plan.goal area)
+      ap (λ (c : CommandCode). reply_hmac (last_auth kept.facts) (auth_value_of entity) (goal_hmac plan session caller) (λ key. reply_mac key (rp_hash (number_of_code c) reply) fresh caller.bytes 0)) (code_of_goal-command plan.goal area)
       ∙ reply-right plan session sent shown.found.found goal-is.handle goal-is.value (last_auth kept.facts) reply fresh auth planned
 
   answer-fits : ReplyAuthFits answer_area
   answer-fits = record {
     nonce = omega (arith, (nonce_of_event tables.world.seed number).whole);
     attributes = omega arith;
-    hmac = subst (λ (hmac : List ℕ). length hmac ≤ 64) (sym hmac-same) (unless-short (mac_key plan) (reply_mac (mac_key plan) (goal_rp_hash plan reply) (digest_of_bytes fresh.bytes) caller.bytes 0));
+    hmac = subst (λ (hmac : List ℕ). length hmac ≤ 64) (sym hmac-same) (unless-short (mac_key plan) (reply_mac (mac_key plan) (plan_rp_hash plan reply) (digest_of_bytes fresh.bytes) caller.bytes 0));
   }
 
   reply-reads : reply_reading (number_of_code (code_of_command command)) (spell_reply reply (Some answer_area)) ≡ Some (reply, Some answer_area)
@@ -220,7 +217,7 @@ module _ (setup : Setup) (is : IsSetup setup) (tables : TableState) (of : IsKept
       reply_read (number_of_code (code_of_command command)) _ reply (Some answer_area) (record {
         whole = refl;
         fits = (goal-is.reply area).fits answer_area answer-fits;
-        answers = subst (λ (c : CommandCode). PartsAnswer (number_of_code c) (parts_of reply)) (sym (shape-code plan.goal area)) (goal-is.reply area).answers;
+        answers = subst (λ (c : CommandCode). PartsAnswer (number_of_code c) (parts_of reply)) (sym (code_of_goal-command plan.goal area)) (goal-is.reply area).answers;
       })
 
   pub heard-served : goal_heard plan sent (answer_of (reply_reading (number_of_code (code_of_command command)) (succeeding tables number command).reply)) ≡ ends.Served (bytes_of_reply reply)
@@ -234,10 +231,10 @@ module _ (setup : Setup) (is : IsSetup setup) (tables : TableState) (of : IsKept
 
 -- its session has the last PolicyAuthValue or PolicyPassword of the path
 pub auth-kept : (run : Run) (first past : List Event) (session : Session) → Stands run first past session (judged_after run first run.plan.path.moves)
-    → auth_of_path run.plan.path.moves ≡ auth_of_path (asks (last_auth (session_state run.setup past session.handle).facts))
+    → auth_of_path run.plan.path.moves ≡ (last_auth (session_state run.setup past session.handle).facts)
 auth-kept run first past session on =
-    auth-along (sight_after run.setup first) run.plan.path.moves (fresh_session (sight_after run.setup first))
-    ∙ ap (λ last. auth_of_path (asks last)) (sym (auth-alike (session_state run.setup past session.handle) (judged_after run first run.plan.path.moves) on.alike))
+    sym (auth-along (sight_after run.setup first) run.plan.path.moves (fresh_session (sight_after run.setup first)) [] refl)
+    ∙ sym (auth-alike (session_state run.setup past session.handle) (judged_after run first run.plan.path.moves) on.alike)
 
 pub serves-goal : (run : Run) → IsBegun run → (first : List Event) → ServesGoal run first
 serves-goal run is first past session sent on none =

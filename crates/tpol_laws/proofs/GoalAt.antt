@@ -2,7 +2,7 @@
 use Rattle.std.proofs.Common.{◌≡◌, ◌≤◌, ◌<◌, ◌⊎◌, inl, inr, ℕ, ◌+◌, ◌^◌, ◌||◌, Bool, true, false, cond, List, [], ◌∷◌, ◌++◌, length, map, take, drop, nat_eq, nat_le, nat_lt, zero, suc, slice_index_or, if◌then◌else◌, refl, ap, sym, subst, ◌∙◌, arith, length-append}
 use Rattle.std.specs.Prelude.{Option, Some, None, find}
 use Rattle.std.specs.Option.{option_map_or}
-use Rattle.std.specs.List.{Contains, flat_map}
+use Rattle.std.specs.List.{Contains}
 use Rattle.std.proofs.lemmas.Bool.{eq-eqb, false≢true}
 use Rattle.std.proofs.lemmas.Bool.Decides.{nat_tests}
 use Rattle.std.proofs.lemmas.List.{length-take}
@@ -16,13 +16,13 @@ use Rattle.tpol_base.specs.Handle.{is_index, is_object, rh_null, rh_owner}
 use Rattle.tpol_base.specs.Constants.{alg_sha256}
 use Rattle.tpol_base.specs.Name.{is_same_name, name_bytes}
 use Rattle.tpol_base.specs.Sized.{sized}
-use Rattle.tpol_choose.specs.Entities.{index_of_handle, name_as_is, name_in_directory, object_at, object_of_handle, name_of_handle as name_in_sight}
-use Rattle.tpol_choose.specs.Goals.{Judged, counting_rule, judged, name_list, on_index}
-use Rattle.tpol_driver.specs.GoalUse.{command_of_goal}
+use Rattle.tpol_choose.specs.Entities.{name_as_is, name_in_directory, object_at}
+use Rattle.tpol_choose.specs.Goals.{Judged, counting_rule, judged, on_index}
 use Rattle.tpol_goal.specs.declared.goal.Goal.{Goal}
-use Rattle.tpol_goal.specs.Entities.{name_of_handle}
+use Rattle.tpol_goal.specs.Commands.{command_of_goal}
+use Rattle.tpol_goal.specs.Entities.{index_of_handle, name_in_sight, name_of_handle, object_of_handle}
 use Rattle.tpol_goal.specs.declared.goal.Goal.TheVariants as goals
-use Rattle.tpol_goal.specs.Goals.{IsGoal, IsGoalAmong, code_of_goal, entity_of_goal, handles_of_goal, names_of_goal}
+use Rattle.tpol_goal.specs.Goals.{IsGoal, IsGoalAmong, code_of_goal, entity_of_goal, handles_of_goal}
 use Rattle.tpol_hash.specs.Hmac.{hmac_sha256}
 use Rattle.tpol_name.specs.declared.areas.ObjectPublic.{ObjectPublic}
 use Rattle.tpol_name.specs.declared.entries.IndexEntry.{IndexEntry}
@@ -79,8 +79,8 @@ pub record IsGoalAt (setup : Setup) (tables : TableState) (free : ℕ) (goal : G
   pub entity : entity_at tables.world (entity_of_goal goal) ≡ Some found.found.entity
   pub value : IsAuthValue (auth_value_of found.found.entity)
   pub there : handles_from tables 1 (handles_of_goal goal) ≡ None
-  pub seen : joined_names (name_at tables.world) (handles_of_goal goal) ≡ name_list (sight_of tables.world free) goal
-  pub listed : IsNameListed found → flat_map name_bytes (names_of_goal (directory_of setup) goal) ≡ joined_names (name_at tables.world) (handles_of_goal goal)
+  pub seen : joined_names (name_at tables.world) (handles_of_goal goal) ≡ joined_names (name_in_sight (sight_of tables.world free)) (handles_of_goal goal)
+  pub listed : IsNameListed found → joined_names (name_of_handle (directory_of setup)) (handles_of_goal goal) ≡ joined_names (name_at tables.world) (handles_of_goal goal)
   pub rule : (area : AuthArea) → plain_rule tables.world (command_of_goal goal area) ≡ found.rule
   pub fits : found.rule ≡ None → (area : AuthArea) → AreaFits area → FitsCommand (command_of_goal goal area)
   pub reply : (area : AuthArea) → IsGoalReply goal (plain_reply tables.world (command_of_goal goal area))
@@ -106,6 +106,17 @@ found-place key handle (x ∷ xs) k within is = at (nat_eq (key x) handle) refl 
 
 -- ---- one handle, and two
 
+-- what names these alike joins the same Names
+joined-one : (one other : ℕ → Name) (handle : ℕ) → one handle ≡ other handle → joined_names one (handle ∷ []) ≡ joined_names other (handle ∷ [])
+unfolding joined_names
+joined-one one other handle same = ap (λ name. name_bytes name ++ []) same
+
+joined-two : (one other : ℕ → Name) (first second : ℕ) → one first ≡ other first → one second ≡ other second → joined_names one (first ∷ second ∷ []) ≡ joined_names other (first ∷ second ∷ [])
+unfolding joined_names
+joined-two one other first second same same_second =
+    ap (λ name. name_bytes name ++ (name_bytes (one second) ++ [])) same
+    ∙ ap (λ name. name_bytes (other first) ++ (name_bytes name ++ [])) same_second
+
 module _ (setup : Setup) (tables : TableState) (free : ℕ) where
   free-one : (handle : ℕ) (now listed : Name) → IsThere setup tables free handle now listed → handles_from tables 1 (handle ∷ []) ≡ None
   free-one handle now listed at = ap (λ first. or_else first None) (at.is_free 1)
@@ -114,31 +125,25 @@ module _ (setup : Setup) (tables : TableState) (free : ℕ) where
   free-two one two now now_two listed listed_two at at_two =
       ap (λ first. or_else first (or_else (handle_stop tables 2 two) None)) (at.is_free 1) ∙ ap (λ first. or_else first None) (at_two.is_free 2)
 
-  -- the Names as the machine joins them
+  -- the Names as the machine joins them are those of its sight
   seen-one : (handle : ℕ) (now listed : Name) → IsThere setup tables free handle now listed
-      → joined_names (name_at tables.world) (handle ∷ []) ≡ name_bytes (name_in_sight (sight_of tables.world free) handle) ++ []
-  unfolding joined_names
-  seen-one handle now listed at = ap (λ name. name_bytes name ++ []) (at.is_now ∙ sym at.is_seen)
+      → joined_names (name_at tables.world) (handle ∷ []) ≡ joined_names (name_in_sight (sight_of tables.world free)) (handle ∷ [])
+  seen-one handle now listed at = joined-one (name_at tables.world) (name_in_sight (sight_of tables.world free)) handle (at.is_now ∙ sym at.is_seen)
 
   seen-two : (one two : ℕ) (now now_two listed listed_two : Name) → IsThere setup tables free one now listed → IsThere setup tables free two now_two listed_two
-      → joined_names (name_at tables.world) (one ∷ two ∷ []) ≡ name_bytes (name_in_sight (sight_of tables.world free) one) ++ (name_bytes (name_in_sight (sight_of tables.world free) two) ++ [])
-  unfolding joined_names
+      → joined_names (name_at tables.world) (one ∷ two ∷ []) ≡ joined_names (name_in_sight (sight_of tables.world free)) (one ∷ two ∷ [])
   seen-two one two now now_two listed listed_two at at_two =
-      ap (λ name. name_bytes name ++ (name_bytes (name_at tables.world two) ++ [])) (at.is_now ∙ sym at.is_seen)
-      ∙ ap (λ name. name_bytes (name_in_sight (sight_of tables.world free) one) ++ (name_bytes name ++ [])) (at_two.is_now ∙ sym at_two.is_seen)
+      joined-two (name_at tables.world) (name_in_sight (sight_of tables.world free)) one two (at.is_now ∙ sym at.is_seen) (at_two.is_now ∙ sym at_two.is_seen)
 
-  -- and as they are listed, where that is the same
+  -- and those that are listed, where that is the same
   listed-one : (handle : ℕ) (now listed : Name) → IsThere setup tables free handle now listed → now ≡ listed
-      → name_bytes (name_of_handle (directory_of setup) handle) ++ [] ≡ joined_names (name_at tables.world) (handle ∷ [])
-  unfolding joined_names
-  listed-one handle now listed at same = ap (λ name. name_bytes name ++ []) (at.is_listed ∙ sym same ∙ sym at.is_now)
+      → joined_names (name_of_handle (directory_of setup)) (handle ∷ []) ≡ joined_names (name_at tables.world) (handle ∷ [])
+  listed-one handle now listed at same = joined-one (name_of_handle (directory_of setup)) (name_at tables.world) handle (at.is_listed ∙ sym same ∙ sym at.is_now)
 
   listed-two : (one two : ℕ) (now now_two listed listed_two : Name) → IsThere setup tables free one now listed → IsThere setup tables free two now_two listed_two → now ≡ listed → now_two ≡ listed_two
-      → name_bytes (name_of_handle (directory_of setup) one) ++ (name_bytes (name_of_handle (directory_of setup) two) ++ []) ≡ joined_names (name_at tables.world) (one ∷ two ∷ [])
-  unfolding joined_names
+      → joined_names (name_of_handle (directory_of setup)) (one ∷ two ∷ []) ≡ joined_names (name_at tables.world) (one ∷ two ∷ [])
   listed-two one two now now_two listed listed_two at at_two same same_two =
-      ap (λ name. name_bytes name ++ (name_bytes (name_of_handle (directory_of setup) two) ++ [])) (at.is_listed ∙ sym same ∙ sym at.is_now)
-      ∙ ap (λ name. name_bytes (name_at tables.world one) ++ (name_bytes name ++ [])) (at_two.is_listed ∙ sym same_two ∙ sym at_two.is_now)
+      joined-two (name_of_handle (directory_of setup)) (name_at tables.world) one two (at.is_listed ∙ sym same ∙ sym at.is_now) (at_two.is_listed ∙ sym same_two ∙ sym at_two.is_now)
 
 -- ---- bounds
 
@@ -293,7 +298,7 @@ module _ (setup : Setup) (is : IsSetup setup) (tables : TableState) (of : IsKept
 
   -- what holds of an index that authorizes itself
   index-listed : (index : ℕ) (entry : IndexEntry) → IsThere setup tables free index (index_name entry.public) (index_name (with_written entry.public)) → is_same_name (index_name entry.public) (index_name (with_written entry.public)) ≡ true
-      → name_bytes (name_of_handle (directory_of setup) index) ++ (name_bytes (name_of_handle (directory_of setup) index) ++ []) ≡ joined_names (name_at tables.world) (index ∷ index ∷ [])
+      → joined_names (name_of_handle (directory_of setup)) (index ∷ index ∷ []) ≡ joined_names (name_at tables.world) (index ∷ index ∷ [])
   index-listed index entry at same =
       let one = names-same (index_name entry.public) (index_name (with_written entry.public)) same in
       listed-two setup tables free index index _ _ _ _ at at one one

@@ -7,7 +7,8 @@ use Rattle.tpol_base.specs.declared.check.Check.TheVariants.{PcrChanged, PolicyF
 use Rattle.tpol_tree.specs.declared.facts.Fact.{Fact}
 use Rattle.tpm_bindings.specs.declared.last_auth.LastAuth.{LastAuth}
 use Rattle.tpm_bindings.specs.declared.last_auth.LastAuth.TheVariants.{Neither}
-use Rattle.tpm_bindings.specs.Facts.{every_cp_hash, every_name_hash, has_locality, is_in_time, last_auth, moves_of, same_digest, written_of}
+use Rattle.tpm_bindings.specs.Facts.{every_cp_hash, every_name_hash, has_locality, is_in_time, last_auth, moves_of, written_of}
+use Rattle.tpol_base.specs.Digest.{is_same_digest as same_digest}
 use Rattle.tpm_bindings.specs.Held.{all_are, any_of}
 use Rattle.tpm_bindings.specs.State.{SessionState}
 use Rattle.tpm_engine.proofs.Stopping.{or_else-none, unless-none}

@@ -10,8 +10,7 @@ use Rattle.std.proofs.lemmas.List.Folds.{find-append}
 use Rattle.tpol_base.specs.declared.name.Name.{Name}
 use Rattle.tpol_base.specs.declared.name.Name.TheVariants.{Handle}
 use Rattle.tpol_base.specs.Handle.{rh_null}
-use Rattle.tpol_choose.specs.Entities.{index_of_handle, name_of_index_or_handle, name_of_object_or_other, object_of_handle, name_of_handle as name_in_sight}
-use Rattle.tpol_goal.specs.Entities.{name_of_handle}
+use Rattle.tpol_goal.specs.Entities.{index_of_handle, name_in_sight, name_of_handle, name_of_index_or_handle, name_of_object_or_other, object_of_handle}
 use Rattle.tpol_name.specs.declared.areas.NvPublic.{NvPublic}
 use Rattle.tpol_name.specs.declared.entries.DirEntry.{DirEntry}
 use Rattle.tpol_name.specs.declared.entries.IndexEntry.{IndexEntry}

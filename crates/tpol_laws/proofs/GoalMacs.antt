@@ -1,9 +1,10 @@
 -- The field hmac of the goal's command and that of its reply: where who plans finds the value proved, the machine
 -- finds it too, and the run finds the reply's right.
-use Rattle.std.proofs.Common.{◌≡◌, ◌≤◌, ℕ, ◌&&◌, ◌||◌, Bool, true, false, List, [], ◌∷◌, fold, length, nat_eq, if◌then◌else◌, refl, ap, sym, subst, ◌∙◌, arith}
+use Rattle.std.proofs.Common.{◌≡◌, ◌≤◌, ℕ, ◌&&◌, ◌||◌, Bool, true, false, List, [], ◌∷◌, ◌++◌, fold, length, map, nat_eq, if◌then◌else◌, refl, ap, sym, subst, ◌∙◌, arith}
 use Rattle.std.specs.Str.{bytes_eq}
 use Rattle.std.proofs.lemmas.Bool.{eq-eqb}
 use Rattle.std.proofs.lemmas.Bool.Decides.{nat_tests}
+use Rattle.std.proofs.lemmas.List.{append-nil, append_assoc}
 use Rattle.std.proofs.lemmas.List.Sums.{fold-append}
 use Rattle.tpm_auth.specs.Passwords.{is_password}
 use Rattle.tpm_auth.specs.SessionMacs.{command_mac, is_command_mac, reply_mac}
@@ -27,62 +28,44 @@ use Rattle.tpol_choose.specs.Keys.{is_same_block}
 use Rattle.tpol_driver.specs.declared.plan.Plan.{Plan}
 use Rattle.tpol_driver.specs.declared.session.Session.{Session}
 use Rattle.tpol_driver.specs.Commands.{caller_nonce}
-use Rattle.tpol_driver.specs.GoalUse.{area_of_goal, auth_after, auth_of_path, goal_cp_hash, goal_hmac, goal_rp_hash, goal_secret, hmac_by, is_right_area, mac_key, mac_key_by, right_hmac, unless_empty}
+use Rattle.tpol_driver.specs.GoalUse.{auth_of_path, bare_fact, goal_hmac, goal_secret, hmac_by, is_right_area, mac_key, mac_key_by, plan_cp_hash, plan_rp_hash, right_hmac, unless_empty}
 use Rattle.tpol_goal.specs.Goals.{entity_of_goal}
 use Rattle.tpol_goal.specs.Grants.{secret_of}
 use Rattle.tpol_hash.specs.Hmac.{block_key}
 use Rattle.tpol_name.specs.declared.sight.Sight.{Sight}
 use Rattle.tpol_name.specs.Setups.{IsAuthValue}
 use Rattle.tpol_tree.specs.declared.closed.Assertion.TheVariants as assertions
+use Rattle.tpol_tree.specs.declared.facts.Fact.{Fact}
 use Rattle.tpol_tree.specs.declared.path.Move.{Move}
-use Rattle.tpol_tree.specs.declared.path.Move.TheVariants.{Assert, Or, Approve, ApproveNv}
+use Rattle.tpol_tree.specs.declared.path.Move.TheVariants.{Assert}
 use Rattle.tpol_wire.specs.declared.reply.Reply.{Reply}
 use Rattle.tpol_laws.proofs.Finds.{both}
 use Rattle.tpol_laws.proofs.GoalKeys.{bytes-same, no-value, same-bytes}
 use Rattle.tpol_laws.proofs.SameKeys.{same-mac}
 
--- ---- what the last PolicyAuthValue or PolicyPassword asks for, of facts and of a path
+-- ---- how the value is to be proved, as a session's facts and as a path ask for
 
--- moves that ask for this
-abbrev pub asks : LastAuth → List Move
-asks lasts.Neither = []
-asks lasts.AuthValue = Assert assertions.AuthValue ∷ []
-asks lasts.Password = Assert assertions.Password ∷ []
+-- what a move asks for, its fact asks for
+auth-in : (sight : Sight) (session : SessionState) (act : Move) → in_assertion auth_in (fact_of_move sight session act).act ≡ in_assertion auth_in act
+auth-in sight session (Assert assertions.AuthValue) = refl
+auth-in sight session act = refl
 
-abbrev with_last : LastAuth → Sight → SessionState → Move → LastAuth
-with_last last sight session act = fold (λ (before auth : LastAuth). auth) last (listed (in_assertion auth_in (fact_of_move sight session act).act))
+last-push : (facts : List Fact) (fact : Fact) → last_auth (facts ++ fact ∷ []) ≡ fold (λ (before auth : LastAuth). auth) (last_auth facts) (listed (in_assertion auth_in fact.act))
+last-push facts fact =
+    ap (fold (λ (before auth : LastAuth). auth) lasts.Neither) (each_move-push (in_assertion auth_in) facts fact)
+    ∙ fold-append (λ (before auth : LastAuth). auth) lasts.Neither (auths_of (moves_of facts)) (listed (in_assertion auth_in fact.act))
 
-auth-more : (sight : Sight) (session : SessionState) (act : Move) (last : LastAuth) → auth_after (auth_of_path (asks last)) act ≡ auth_of_path (asks (with_last last sight session act))
-auth-more sight session (Assert (assertions.Pcr mask digest values)) last = refl
-auth-more sight session (Assert (assertions.Nv index operand offset operation)) last = refl
-auth-more sight session (Assert (assertions.Secret entity policy_ref cp_hash expiration)) last = refl
-auth-more sight session (Assert (assertions.Signed key policy_ref cp_hash expiration)) last = refl
-auth-more sight session (Assert (assertions.CounterTimer operand offset operation)) last = refl
-auth-more sight session (Assert (assertions.CommandCode code)) last = refl
-auth-more sight session (Assert (assertions.Locality localities)) last = refl
-auth-more sight session (Assert (assertions.CpHash digest)) last = refl
-auth-more sight session (Assert (assertions.NameHash digest)) last = refl
-auth-more sight session (Assert (assertions.NvWritten written)) last = refl
-auth-more sight session (Assert assertions.AuthValue) last = refl
-auth-more sight session (Assert assertions.Password) last = refl
-auth-more sight session (Assert assertions.PhysicalPresence) last = refl
-auth-more sight session (Assert (assertions.Duplication object parent include)) last = refl
-auth-more sight session (Or digests) last = refl
-auth-more sight session (Approve key policy_ref approved signature) last = refl
-auth-more sight session (ApproveNv index approved) last = refl
-
-last-more : (sight : Sight) (session : SessionState) (act : Move) → last_auth (session_after sight session act).facts ≡ with_last (last_auth session.facts) sight session act
-last-more sight session act =
-    ap (fold (λ (before auth : LastAuth). auth) lasts.Neither) (each_move-push (in_assertion auth_in) session.facts (fact_of_move sight session act))
-    ∙ fold-append (λ (before auth : LastAuth). auth) lasts.Neither (auths_of (moves_of session.facts)) (listed (in_assertion auth_in (fact_of_move sight session act).act))
-
-pub auth-along : (sight : Sight) (moves : List Move) (session : SessionState)
-    → fold auth_after (auth_of_path (asks (last_auth session.facts))) moves ≡ auth_of_path (asks (last_auth (session_along sight session moves).facts))
-auth-along sight [] session = refl
-auth-along sight (act ∷ moves) session =
-    ap (λ auth. fold auth_after auth moves)
-    (auth-more sight session act (last_auth session.facts) ∙ ap (λ last. auth_of_path (asks last)) (sym (last-more sight session act)))
-    ∙ auth-along sight moves (session_after sight session act)
+-- behind facts that ask alike, the facts of moves do
+pub auth-along : (sight : Sight) (moves : List Move) (session : SessionState) (facts : List Fact) → last_auth session.facts ≡ last_auth facts
+    → last_auth (session_along sight session moves).facts ≡ last_auth (facts ++ map bare_fact moves)
+auth-along sight [] session facts same = same ∙ ap last_auth (sym (append-nil facts))
+auth-along sight (act ∷ moves) session facts same =
+    auth-along sight moves (session_after sight session act) (facts ++ bare_fact act ∷ [])
+    (last-push session.facts (fact_of_move sight session act)
+    ∙ ap (λ last. fold (λ (before auth : LastAuth). auth) last (listed (in_assertion auth_in (fact_of_move sight session act).act))) same
+    ∙ ap (λ asked. fold (λ (before auth : LastAuth). auth) (last_auth facts) (listed asked)) (auth-in sight session act)
+    ∙ sym (last-push facts (bare_fact act)))
+    ∙ ap last_auth (append_assoc facts (bare_fact act ∷ []) (map bare_fact moves))
 
 -- ---- with one key or another
 
@@ -134,20 +117,20 @@ reply-same (byte ∷ given) value made over nonce nonce_caller is block =
 -- ---- the goal's command and its reply
 
 module _ (plan : Plan) (session : Session) (number : ℕ) (found : EntityAt) (handle : found.handle ≡ entity_of_goal plan.goal) (is : IsAuthValue (auth_value_of found.entity)) where
-  key-by : (last : LastAuth) → auth_of_path plan.path.moves ≡ auth_of_path (asks last) → mac_key plan ≡ mac_key_by (auth_of_path (asks last)) (goal_secret plan)
+  key-by : (last : LastAuth) → auth_of_path plan.path.moves ≡ last → mac_key plan ≡ mac_key_by (last) (goal_secret plan)
   key-by last same = ap (λ a. mac_key_by a (goal_secret plan)) same
 
   -- the field without a key, and with the value
-  hmac-none : auth_of_path plan.path.moves ≡ auth_of_path (asks lasts.Neither) → goal_hmac plan session (caller_nonce plan.nonce_seed number) ≡ []
+  hmac-none : auth_of_path plan.path.moves ≡ lasts.Neither → goal_hmac plan session (caller_nonce plan.nonce_seed number) ≡ []
   hmac-none same =
       ap (λ a. hmac_by a plan session (caller_nonce plan.nonce_seed number)) same
-      ∙ ap (λ (key : List ℕ). unless_empty key (command_mac key (goal_cp_hash plan (area_of_goal session (caller_nonce plan.nonce_seed number) [])) (caller_nonce plan.nonce_seed number).bytes session.nonce 0)) (key-by lasts.Neither same)
+      ∙ ap (λ (key : List ℕ). unless_empty key (command_mac key (plan_cp_hash plan) (caller_nonce plan.nonce_seed number).bytes session.nonce 0)) (key-by lasts.Neither same)
 
-  pub hmac-value : auth_of_path plan.path.moves ≡ auth_of_path (asks lasts.AuthValue) → goal_hmac plan session (caller_nonce plan.nonce_seed number)
-      ≡ unless_empty (goal_secret plan) (command_mac (goal_secret plan) (goal_cp_hash plan (area_of_goal session (caller_nonce plan.nonce_seed number) [])) (caller_nonce plan.nonce_seed number).bytes session.nonce 0)
+  pub hmac-value : auth_of_path plan.path.moves ≡ lasts.AuthValue → goal_hmac plan session (caller_nonce plan.nonce_seed number)
+      ≡ unless_empty (goal_secret plan) (command_mac (goal_secret plan) (plan_cp_hash plan) (caller_nonce plan.nonce_seed number).bytes session.nonce 0)
   hmac-value same =
       ap (λ a. hmac_by a plan session (caller_nonce plan.nonce_seed number)) same
-      ∙ ap (λ (key : List ℕ). unless_empty key (command_mac key (goal_cp_hash plan (area_of_goal session (caller_nonce plan.nonce_seed number) [])) (caller_nonce plan.nonce_seed number).bytes session.nonce 0)) (key-by lasts.AuthValue same)
+      ∙ ap (λ (key : List ℕ). unless_empty key (command_mac key (plan_cp_hash plan) (caller_nonce plan.nonce_seed number).bytes session.nonce 0)) (key-by lasts.AuthValue same)
 
   pub secret-same : secret_of plan.grants.secrets found.handle ≡ goal_secret plan
   secret-same = ap (secret_of plan.grants.secrets) handle
@@ -175,35 +158,35 @@ module _ (plan : Plan) (session : Session) (number : ℕ) (found : EntityAt) (ha
     attributes = 0;
   }
 
-  pub field-right : (last : LastAuth) (over nonce : Digest32) → auth_of_path plan.path.moves ≡ auth_of_path (asks last) → nonce ≡ session.nonce
-      → (is_same_name (name_as_is found.handle found.entity) (name_in_directory found.handle found.entity) ≡ true → goal_cp_hash plan (area_of_goal session (caller_nonce plan.nonce_seed number) []) ≡ over)
+  pub field-right : (last : LastAuth) (over nonce : Digest32) → auth_of_path plan.path.moves ≡ last → nonce ≡ session.nonce
+      → (is_same_name (name_as_is found.handle found.entity) (name_in_directory found.handle found.entity) ≡ true → plan_cp_hash plan ≡ over)
       → is_planned plan.grants found last ≡ true → proves (field over nonce) (auth_value_of found.entity) last ≡ true
   field-right lasts.Neither over nonce same known names planned = ap (λ (h : List ℕ). is_command_mac [] over (caller_nonce plan.nonce_seed number).bytes nonce 0 h) (hmac-none same)
   field-right lasts.Password over nonce same known names planned =
       ap (λ (h : List ℕ). is_password (auth_value_of found.entity) h) (ap (λ a. hmac_by a plan session (caller_nonce plan.nonce_seed number)) same ∙ sym secret-same) ∙ planned
   field-right lasts.AuthValue over nonce same known names planned =
       ap (λ (h : List ℕ). is_command_mac (auth_value_of found.entity) over (caller_nonce plan.nonce_seed number).bytes nonce 0 h) (hmac-value same)
-      ∙ mac-right (goal_secret plan) (auth_value_of found.entity) (goal_cp_hash plan (area_of_goal session (caller_nonce plan.nonce_seed number) [])) over (caller_nonce plan.nonce_seed number).bytes session.nonce nonce is
+      ∙ mac-right (goal_secret plan) (auth_value_of found.entity) (plan_cp_hash plan) over (caller_nonce plan.nonce_seed number).bytes session.nonce nonce is
       (block-same planned) (λ some. names (name-same planned some)) known
 
   -- the reply's field as the run expects it
-  expected-by : (last : LastAuth) (reply : Reply) (nonce : Digest32) → auth_of_path plan.path.moves ≡ auth_of_path (asks last)
-      → right_hmac plan number reply nonce.bytes ≡ unless_empty (mac_key_by (auth_of_path (asks last)) (goal_secret plan)) (reply_mac (mac_key_by (auth_of_path (asks last)) (goal_secret plan)) (goal_rp_hash plan reply) nonce (caller_nonce plan.nonce_seed number).bytes 0)
+  expected-by : (last : LastAuth) (reply : Reply) (nonce : Digest32) → auth_of_path plan.path.moves ≡ last
+      → right_hmac plan number reply nonce.bytes ≡ unless_empty (mac_key_by (last) (goal_secret plan)) (reply_mac (mac_key_by (last) (goal_secret plan)) (plan_rp_hash plan reply) nonce (caller_nonce plan.nonce_seed number).bytes 0)
   expected-by last reply nonce same =
-      ap (λ (key : List ℕ). unless_empty key (reply_mac key (goal_rp_hash plan reply) (digest_of_bytes nonce.bytes) (caller_nonce plan.nonce_seed number).bytes 0)) (key-by last same)
-      ∙ ap (λ (d : Digest32). unless_empty (mac_key_by (auth_of_path (asks last)) (goal_secret plan)) (reply_mac (mac_key_by (auth_of_path (asks last)) (goal_secret plan)) (goal_rp_hash plan reply) d (caller_nonce plan.nonce_seed number).bytes 0)) (digest_again nonce)
+      ap (λ (key : List ℕ). unless_empty key (reply_mac key (plan_rp_hash plan reply) (digest_of_bytes nonce.bytes) (caller_nonce plan.nonce_seed number).bytes 0)) (key-by last same)
+      ∙ ap (λ (d : Digest32). unless_empty (mac_key_by (last) (goal_secret plan)) (reply_mac (mac_key_by (last) (goal_secret plan)) (plan_rp_hash plan reply) d (caller_nonce plan.nonce_seed number).bytes 0)) (digest_again nonce)
 
-  pub reply-right : (last : LastAuth) (reply : Reply) (nonce : Digest32) → auth_of_path plan.path.moves ≡ auth_of_path (asks last) → is_planned plan.grants found last ≡ true
-      → reply_hmac last (auth_value_of found.entity) (goal_hmac plan session (caller_nonce plan.nonce_seed number)) (λ key. reply_mac key (goal_rp_hash plan reply) nonce (caller_nonce plan.nonce_seed number).bytes 0)
+  pub reply-right : (last : LastAuth) (reply : Reply) (nonce : Digest32) → auth_of_path plan.path.moves ≡ last → is_planned plan.grants found last ≡ true
+      → reply_hmac last (auth_value_of found.entity) (goal_hmac plan session (caller_nonce plan.nonce_seed number)) (λ key. reply_mac key (plan_rp_hash plan reply) nonce (caller_nonce plan.nonce_seed number).bytes 0)
       ≡ right_hmac plan number reply nonce.bytes
   reply-right lasts.Neither reply nonce same planned =
-      ap (λ (h : List ℕ). reply_hmac lasts.Neither (auth_value_of found.entity) h (λ key. reply_mac key (goal_rp_hash plan reply) nonce (caller_nonce plan.nonce_seed number).bytes 0)) (hmac-none same)
+      ap (λ (h : List ℕ). reply_hmac lasts.Neither (auth_value_of found.entity) h (λ key. reply_mac key (plan_rp_hash plan reply) nonce (caller_nonce plan.nonce_seed number).bytes 0)) (hmac-none same)
       ∙ sym (expected-by lasts.Neither reply nonce same)
   reply-right lasts.Password reply nonce same planned = sym (expected-by lasts.Password reply nonce same)
   reply-right lasts.AuthValue reply nonce same planned =
-      ap (λ (h : List ℕ). reply_hmac lasts.AuthValue (auth_value_of found.entity) h (λ key. reply_mac key (goal_rp_hash plan reply) nonce (caller_nonce plan.nonce_seed number).bytes 0)) (hmac-value same)
+      ap (λ (h : List ℕ). reply_hmac lasts.AuthValue (auth_value_of found.entity) h (λ key. reply_mac key (plan_rp_hash plan reply) nonce (caller_nonce plan.nonce_seed number).bytes 0)) (hmac-value same)
       ∙ reply-same (goal_secret plan) (auth_value_of found.entity)
-      (command_mac (goal_secret plan) (goal_cp_hash plan (area_of_goal session (caller_nonce plan.nonce_seed number) [])) (caller_nonce plan.nonce_seed number).bytes session.nonce 0) (goal_rp_hash plan reply) nonce (caller_nonce plan.nonce_seed number).bytes is (block-same planned)
+      (command_mac (goal_secret plan) (plan_cp_hash plan) (caller_nonce plan.nonce_seed number).bytes session.nonce 0) (plan_rp_hash plan reply) nonce (caller_nonce plan.nonce_seed number).bytes is (block-same planned)
       ∙ sym (expected-by lasts.AuthValue reply nonce same)
 
 -- an area with the right field is right
@@ -223,7 +206,7 @@ unless-short key mac = at (nat_eq (length key) 0)
     at true = omega arith
     at false = omega (arith, mac.whole)
 
-pub hmac-short : (plan : Plan) (session : Session) (caller : Digest32) (last : LastAuth) → length (goal_secret plan) ≤ 32 → length (hmac_by (auth_of_path (asks last)) plan session caller) ≤ 64
+pub hmac-short : (plan : Plan) (session : Session) (caller : Digest32) (last : LastAuth) → length (goal_secret plan) ≤ 32 → length (hmac_by (last) plan session caller) ≤ 64
 hmac-short plan session caller lasts.Password short = omega (arith, short)
-hmac-short plan session caller lasts.Neither short = unless-short (mac_key plan) (command_mac (mac_key plan) (goal_cp_hash plan (area_of_goal session caller [])) caller.bytes session.nonce 0)
-hmac-short plan session caller lasts.AuthValue short = unless-short (mac_key plan) (command_mac (mac_key plan) (goal_cp_hash plan (area_of_goal session caller [])) caller.bytes session.nonce 0)
+hmac-short plan session caller lasts.Neither short = unless-short (mac_key plan) (command_mac (mac_key plan) (plan_cp_hash plan) caller.bytes session.nonce 0)
+hmac-short plan session caller lasts.AuthValue short = unless-short (mac_key plan) (command_mac (mac_key plan) (plan_cp_hash plan) caller.bytes session.nonce 0)

@@ -50,6 +50,7 @@ use Rattle.tpm_engine.specs.Views.{next_number, view_of}
 use Rattle.tpol_laws.specs.Acts.{Act, Run, after_acts, answer_in, begun, succeeds, turned}
 use Rattle.tpol_laws.specs.Others.{AreOthersApart, AreSecretsOnWritten, HasGoneOn, place_of}
 use Rattle.tpol_laws.specs.Runs.{IsRun}
+use Rattle.tpol_laws.proofs.NoTickets.{plain-command}
 use Rattle.tpol_laws.proofs.Answered.{IsByPassword, on-answer, own-passed, read-back, stop-fails}
 use Rattle.tpol_laws.proofs.Finds.{all-at}
 use Rattle.tpol_laws.proofs.Fit.{fits-start}
@@ -238,8 +239,11 @@ module _ (run : Run) (is : IsRun run) (past : List Event) (own : ℕ) (nonce : D
       left (inl found) = none-some found.0 (sym at ∙ found.2)
       left (inr beyond) = absurd (omega (arith, within, beyond.0))
   path-goes ticket (Some act) at within on success =
-      subst (λ (d : List DirEntry). is_known_move d run.plan.grants act ≡ true → Goes d ticket act) (sym is.directory)
-      (move-goes ticket act on (all-at MoveHasBounds run.plan.path.moves done act is.moves at)) (known-at run is past own nonce sent done act at) success
+      subst (λ (c : Command). is_success (answer_in run past c).outcome ≡ true
+      → HasGoneOn own done (place_of (heard_on_path run.plan (record { handle = own; nonce = nonce }) sent ticket done (Some act) (answer_of (reply_reading (number_of_code (code_of_command c)) (answer_in run past c).reply)))))
+      (sym (plain-command run.plan is.tickets (record { handle = own; nonce = nonce }) ticket act))
+      (subst (λ (d : List DirEntry). is_known_move d run.plan.grants act ≡ true → Goes d ticket act) (sym is.directory)
+      (move-goes ticket act on (all-at MoveHasBounds run.plan.path.moves done act is.moves at)) (known-at run is past own nonce sent done act at)) success
 
 -- ---- a run on its path
 

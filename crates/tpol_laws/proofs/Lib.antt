@@ -30,6 +30,7 @@ mod Kept
 mod Lasting
 mod Moved
 mod Named
+mod NoTickets
 mod Own
 mod Passing
 mod Prints

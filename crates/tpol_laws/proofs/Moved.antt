@@ -42,6 +42,7 @@ use Rattle.tpm_engine.specs.Views.{live_at, live_slot, next_number, session_stat
 use Rattle.tpm_engine.proofs.Lookups.{content-table, is_slot_handle}
 use Rattle.tpol_laws.specs.Acts.{Course, Run, Turn, after_act, answer_in, event_in}
 use Rattle.tpol_laws.specs.Runs.{IsRun}
+use Rattle.tpol_laws.proofs.NoTickets.{plain-command}
 use Rattle.tpol_laws.proofs.Alike.{pcr-bound}
 use Rattle.tpol_laws.proofs.Answered.{IsByPassword, done-deed, done-use, on-answer, password-use, read-back}
 use Rattle.tpol_laws.proofs.Heard.{heard-stands, policy-heard}
@@ -131,13 +132,14 @@ pub turn-sends : (run : Run) (past : List Event) (session : Session) (sent : ℕ
     ≡ after_sent run past session sent ticket done (slice_get run.plan.path.moves done) (next_command run.plan session sent ticket (slice_get run.plan.path.moves done))
 turn-sends run past session sent ticket done = refl
 
--- with the directory of the setup
-pub move-sends : (run : Run) → run.plan.directory ≡ directory_of run.setup → (past : List Event) (session : Session) (sent : ℕ) (ticket : Option Ticket) (done : ℕ) (act : Move) → slice_get run.plan.path.moves done ≡ Some act
+-- with the directory of the setup, and no tickets
+pub move-sends : (run : Run) → run.plan.directory ≡ directory_of run.setup → run.plan.tickets ≡ [] → (past : List Event) (session : Session) (sent : ℕ) (ticket : Option Ticket) (done : ℕ) (act : Move) → slice_get run.plan.path.moves done ≡ Some act
     → after_act run (record { past = past; standing = Moving session sent ticket done }) Turn
     ≡ after_sent run past session sent ticket done (Some act) (command_of_move (directory_of run.setup) run.plan.grants session ticket act)
-move-sends run directory past session sent ticket done act at =
+move-sends run directory tickets past session sent ticket done act at =
     turn-sends run past session sent ticket done
     ∙ ap (λ (o : Option Move). after_sent run past session sent ticket done o (next_command run.plan session sent ticket o)) at
+    ∙ ap (λ (c : Command). after_sent run past session sent ticket done (Some act) c) (plain-command run.plan tickets session ticket act)
     ∙ ap (λ (d : List DirEntry). after_sent run past session sent ticket done (Some act) (command_of_move d run.plan.grants session ticket act)) directory
 
 -- ---- a policy command
@@ -193,6 +195,6 @@ plain-moved run is first past session sent done chosen on few act at other bound
     let passes = move-passes run.setup is.setup (view_of run.setup past) (is-of run.setup past) free run.plan.grants run.plan.goal run.locality session.handle on.slot (session_state run.setup past session.handle)
     (stands-live run first past session chosen on) few session.nonce on.nonce chosen on.alike act other
     (subst (λ (c : Client). move_block c chosen act ≡ None) (sym now) opens) in
-    subst (Moved run first session (sent + 1) None (done + 1) (session_after (sight_after run.setup first) chosen act)) (sym (move-sends run is.directory past session sent None done act at))
+    subst (Moved run first session (sent + 1) None (done + 1) (session_after (sight_after run.setup first) chosen act)) (sym (move-sends run is.directory is.tickets past session sent None done act at))
     (shown-moved run first past session chosen on act command made.fits made.area sent done None made.policy other
     (subst (λ (c : Client). Passes (view_of run.setup past) run.locality session.handle (session_state run.setup past session.handle) c chosen act command) now passes))

@@ -7,6 +7,7 @@ use Rattle.std.proofs.lemmas.List.{append-nil}
 use Rattle.std.proofs.lemmas.List.Elements.{All-append, All-cons, All-nil}
 use Rattle.tpol_driver.specs.declared.end.End.{End}
 use Rattle.tpol_lines.specs.BlockLine.{block_line}
+use Rattle.tpol_lines.specs.CertLine.{certificate_line}
 use Rattle.tpol_lines.specs.Events.{command_line, presence_line, reset_line, time_line}
 use Rattle.tpol_lines.specs.Lines.{line_of}
 use Rattle.tpol_lines.specs.OpeningLine.{opening_line}
@@ -22,11 +23,12 @@ use Rattle.tpol_digest.specs.Paths.{paths_of}
 use Rattle.tpol_name.specs.declared.sight.Sight.{Sight}
 use Rattle.tpol_perform.specs.declared.new_run.NewRun.{NewRun}
 use Rattle.tpol_perform.specs.Begin.{begun_along, begun_at, begun_nowhere, begun_on, new_run, plan_along, run_begun, with_block, with_blocks, with_new_run}
-use Rattle.tpol_perform.specs.CommandsTold.{command_told, commanded, entity_opened, opening_told, policy_opened, with_opening}
+use Rattle.tpol_perform.specs.CommandsTold.{certificate_of_opening, command_told, commanded, entity_opened, opening_told, policy_opened, with_certificate, with_opening}
 use Rattle.tpol_perform.specs.Performance.{PerformanceState, number_in, with_event, with_line}
 use Rattle.tpol_perform.specs.Script.{all_happened, happened, turn_told}
 use Rattle.tpol_perform.specs.Turns.{most_turns, sent, sent_now, replied, turned, turned_and, turned_by, turned_on, turned_times, turned_to_end, turned_to_end_by, with_end}
 use Rattle.tpol_prepare.specs.declared.scenario.Scenario.{Scenario}
+use Rattle.tpol_prepare.specs.Manner.{certifies, explains}
 use Rattle.tpol_prepare.specs.Scenario.{paths_named, policy_of_entity}
 use Rattle.tpol_runs.specs.Courses.{begun, next_of}
 use Rattle.tpol_scene.specs.declared.script.ScriptEvent.{ScriptEvent}
@@ -157,6 +159,16 @@ module _ (P : List ℕ → Type 0) where
   pub prints-line : (p : PerformanceState) (text : List ℕ) → P (line_of text) → Prints P p (with_line text p)
   prints-line p text is = record { setup = refl; past = refl; runs = refl; added = line_of text ∷ []; lines = refl; each = All-cons P (line_of text) [] is (All-nil P) }
 
+  pub prints-then : (p q r : PerformanceState) → Prints P p q → Prints P q r → Prints P p r
+  prints-then p q r one other = record {
+    setup = other.setup ∙ one.setup;
+    past = other.past ∙ one.past;
+    runs = other.runs ∙ one.runs;
+    added = one.added ++ other.added;
+    lines = other.lines ∙ ap (λ l. l ++ other.added) one.lines ∙ append_assoc p.lines one.added other.added;
+    each = All-append P one.added other.added one.each other.each;
+  }
+
   pub spares-printed : (number : ℕ) (p q : PerformanceState) → Prints P p q → Spares P number p q
   spares-printed number p q is = record {
     setup = is.setup;
@@ -170,6 +182,7 @@ module _ (P : List ℕ → Type 0) where
 pub record Allows (P : List ℕ → Type 0) (number : ℕ) : Type 0 where
   pub command : (event client locality : ℕ) (buffer reply : List ℕ) (outcome : Outcome) → P (line_of (command_line event client locality buffer reply outcome))
   pub opening : (event : ℕ) (paths : List Path) (opening : Opening) → P (line_of (opening_line event paths opening))
+  pub certificate : (event : ℕ) (bytes : List ℕ) → P (line_of (certificate_line event bytes))
   pub time : (event ms : ℕ) → P (line_of (time_line event ms))
   pub presence : (event : ℕ) (on : Bool) → P (line_of (presence_line event on))
   pub reset : (event : ℕ) → P (line_of (reset_line event))
@@ -186,16 +199,26 @@ module _ (P : List ℕ → Type 0) (number : ℕ) (allows : Allows P number) (sc
   opening-printed event paths None p = prints-none P p
   opening-printed event paths (Some opening) p = prints-line P p (opening_line event paths opening) (allows.opening event paths opening)
 
-  policy-printed : (event : ℕ) (facts : List Fact) (closed : Option Closed) (p : PerformanceState) → Prints P p (policy_opened scenario.approvals event facts closed p)
+  certificate-printed : (certified : Bool) (event : ℕ) (bytes : Option (List ℕ)) (p : PerformanceState) → Prints P p (with_certificate certified event bytes p)
+  certificate-printed false event bytes p = prints-none P p
+  certificate-printed true event None p = prints-none P p
+  certificate-printed true event (Some bytes) p = prints-line P p (certificate_line event bytes) (allows.certificate event bytes)
+
+  policy-printed : (event : ℕ) (facts : List Fact) (closed : Option Closed) (p : PerformanceState) → Prints P p (policy_opened scenario.manner scenario.approvals event facts closed p)
   unfolding policy_opened
   policy-printed event facts None p = prints-none P p
-  policy-printed event facts (Some closed) p = opening-printed event (paths_of closed scenario.approvals) (opening_of closed scenario.approvals facts) p
+  policy-printed event facts (Some closed) p =
+      let opening = opening_of closed scenario.approvals facts in
+      let q = with_opening event (paths_of closed scenario.approvals) opening p in
+      let bytes = certificate_of_opening closed scenario.approvals opening in
+      prints-then P p q (with_certificate (certifies scenario.manner) event bytes q)
+      (opening-printed event (paths_of closed scenario.approvals) opening p) (certificate-printed (certifies scenario.manner) event bytes q)
 
   entity-printed : (event : ℕ) (opened : Option Opened) (p : PerformanceState) → Prints P p (entity_opened scenario event opened p)
   entity-printed event None p = prints-none P p
   entity-printed event (Some opened) p = policy-printed event opened.facts (policy_of_entity scenario.entities opened.entity) p
 
-  told-printed : (explains : Bool) (event : ℕ) (opened : Option Opened) (p : PerformanceState) → Prints P p (opening_told explains scenario event opened p)
+  told-printed : (told : Bool) (event : ℕ) (opened : Option Opened) (p : PerformanceState) → Prints P p (opening_told told scenario event opened p)
   told-printed false event opened p = prints-none P p
   told-printed true event opened p = entity-printed event opened p
 
@@ -206,7 +229,7 @@ module _ (P : List ℕ → Type 0) (number : ℕ) (allows : Allows P number) (sc
       let answered = answer_to p.setup p.past locality buffer in
       let text = command_line (number_in p) client locality buffer answered.reply answered.outcome in
       let q = command_told client locality buffer answered p in
-      let told = told-printed scenario.explains (number_in p) (opened_to p.setup p.past locality buffer) q in
+      let told = told-printed (explains scenario.manner) (number_in p) (opened_to p.setup p.past locality buffer) q in
       record {
         setup = told.setup;
         past = told.past;

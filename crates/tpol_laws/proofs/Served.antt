@@ -289,6 +289,7 @@ path-served run first (suc turns) is opens enough =
     let runs : IsRun run = record {
       setup = is.setup;
       directory = is.directory;
+      tickets = is.tickets;
       grants = is.grants;
       moves = is.moves;
       complete = open-complete run.setup first run.plan run.locality is.setup is.directory opens;

@@ -15,7 +15,7 @@ use Rattle.tpol_base.specs.CommandCode.{number_of_code}
 use Rattle.tpol_base.specs.declared.command_code.CommandCode.TheVariants as codes
 use Rattle.tpol_digest.specs.Digest.{after_update, digest_after, digest_from, digest_of_moves, zero_digest}
 use Rattle.tpol_digest.specs.Laws.{MoveHasBounds}
-use Rattle.tpol_digest.specs.Sound.{moves_of_facts}
+use Rattle.tpol_tree.specs.Facts.{moves_of as moves_of_facts}
 use Rattle.tpol_digest.specs.Update.{update_of}
 use Rattle.tpol_driver.specs.declared.end.End.{End}
 use Rattle.tpol_driver.specs.declared.end.End.TheVariants as ends
@@ -63,6 +63,7 @@ use Rattle.tpm_engine.specs.Views.{facts_of, indices_of, is_held, moment_of, nex
 use Rattle.tpol_laws.specs.Acts.{Act, Course, Other, Run, Turn, after_act, after_acts, answer_in, begun, event_in, turned}
 use Rattle.tpol_laws.specs.Others.{AreOthersApart, AreSecretsOnWritten, AsksWritten, LeavesAlone, SendsOnWritten, TurnsOnWritten, place_of}
 use Rattle.tpol_laws.specs.Runs.{IsRun}
+use Rattle.tpol_laws.proofs.NoTickets.{plain-command}
 use Rattle.tpol_laws.proofs.After.{HasShown, Stays, has-shown, has-started, stays, touches, touches_by_use}
 use Rattle.tpol_laws.proofs.Answered.{done-deed, done-use, on-answer, own-passed, password-use, read-back, refusal-read, stop-code}
 use Rattle.tpol_laws.proofs.Calm.{others-stay}
@@ -330,7 +331,11 @@ module _ (run : Run) (is : IsRun run) (past : List Event) (own : ℕ) (nonce : D
       goal-on run (event_in run past (next_command run.plan (record { handle = own; nonce = nonce }) sent ticket None) ∷ past) own
       (goal_heard run.plan sent (answer_of (reply_reading (number_of_code (code_of_command (next_command run.plan (record { handle = own; nonce = nonce }) sent ticket None))) (answer_in run past (next_command run.plan (record { handle = own; nonce = nonce }) sent ticket None)).reply)))
   path-turn ticket (Some act) at on asks =
-      move-in run.plan.directory (sym is.directory) ticket act at on (all-at MoveHasBounds run.plan.path.moves done act is.moves at) (known-at act at) asks
+      subst (λ (c : Command). AsksWritten (indices_of run.setup past) c
+      → IsOn run (event_in run past c ∷ past)
+      (heard_on_path run.plan (record { handle = own; nonce = nonce }) sent ticket done (Some act) (answer_of (reply_reading (number_of_code (code_of_command c)) (answer_in run past c).reply))))
+      (sym (plain-command run.plan is.tickets (record { handle = own; nonce = nonce }) ticket act))
+      (move-in run.plan.directory (sym is.directory) ticket act at on (all-at MoveHasBounds run.plan.path.moves done act is.moves at) (known-at act at)) asks
 
 -- ---- the start
 

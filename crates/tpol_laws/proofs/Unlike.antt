@@ -114,6 +114,7 @@ pub allows-unserved : (number : ℕ) → number < 2 ^ 16 → Allows (IsUnserved 
 allows-unserved number within = record {
   command = λ event client locality buffer reply outcome. digits-apart number event _;
   opening = opening-apart number;
+  certificate = λ event bytes. starts-apart number _ (λ (e : 99 ≡ 114). omega (arith, e));
   time = λ event ms. digits-apart number event _;
   presence = λ event on. digits-apart number event _;
   reset = λ event. digits-apart number event _;

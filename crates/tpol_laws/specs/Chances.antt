@@ -17,9 +17,10 @@ use Rattle.tpol_driver.specs.declared.plan.Plan.{Plan}
 use Rattle.tpol_driver.specs.declared.session.Session.{Session}
 use Rattle.tpol_driver.specs.Commands.{caller_nonce, command_of_move, key_of}
 use Rattle.tpol_driver.specs.Driving.{Closing, Moving, Over, Standing, Starting}
-use Rattle.tpol_driver.specs.GoalUse.{area_of_goal, goal_command, goal_cp_hash, goal_hmac, goal_secret}
+use Rattle.tpol_driver.specs.GoalUse.{goal_command, goal_hmac, goal_secret, plan_cp_hash}
 use Rattle.tpol_goal.specs.declared.grants.Grants.{Grants}
-use Rattle.tpol_goal.specs.Goals.{entity_of_goal, handles_of_goal, names_of_goal}
+use Rattle.tpol_goal.specs.Entities.{name_of_handle}
+use Rattle.tpol_goal.specs.Goals.{entity_of_goal, handles_of_goal}
 use Rattle.tpol_name.specs.declared.entries.ObjectEntry.{ObjectEntry}
 use Rattle.tpol_tree.specs.declared.path.Move.{Move}
 use Rattle.tpol_wire.specs.declared.command.Command.{Command}
@@ -47,7 +48,7 @@ SignsByChance grants world _ = ⊥
 -- of the directory
 abbrev pub mac_made : Plan → Session → ℕ → Digest32
 mac_made plan session sent =
-    command_mac (goal_secret plan) (goal_cp_hash plan (area_of_goal session (caller_nonce plan.nonce_seed sent) []))
+    command_mac (goal_secret plan) (plan_cp_hash plan)
     (caller_nonce plan.nonce_seed sent).bytes session.nonce 0
 
 -- the one that the machine asks for: its key is the value of the entity, and it is over the Names as they are
@@ -60,7 +61,7 @@ pub record IsProvedByChance (plan : Plan) (world : WorldState) (nonce : Digest32
   pub entity : Entity
   pub there : entity_at world (entity_of_goal plan.goal) ≡ Some entity
   pub sends : goal_hmac plan session (caller_nonce plan.nonce_seed sent) ≡ (mac_made plan session sent).bytes
-  pub apart : (is_same_block (goal_secret plan) (auth_value_of entity) ≡ false) ⊎ (names_of_goal plan.directory plan.goal ≢ map (name_at world) (handles_of_goal plan.goal))
+  pub apart : (is_same_block (goal_secret plan) (auth_value_of entity) ≡ false) ⊎ (map (name_of_handle plan.directory) (handles_of_goal plan.goal) ≢ map (name_at world) (handles_of_goal plan.goal))
   pub same : mac_made plan session sent ≡ mac_asked plan world nonce session sent entity
 
 -- ---- in a run

@@ -6,7 +6,7 @@ ghost use Rattle.tpol_choose.specs.declared.block.Block.{Block};
 ghost use Rattle.tpol_choose.specs.Blocks.{first_block};
 ghost use Rattle.tpol_digest.specs.Digest.{digest_of_moves, policy_digest};
 ghost use Rattle.tpol_digest.specs.Paths.{paths_of};
-ghost use Rattle.tpol_digest.specs.Sound.{moves_of_facts};
+ghost use Rattle.tpol_tree.specs.Facts.{moves_of as moves_of_facts};
 ghost use Rattle.tpol_digest.specs.Update.{update_of};
 ghost use Rattle.tpol_driver.specs.declared.plan.Plan.{Plan};
 ghost use Rattle.tpol_driver.specs.declared.end.End.TheVariants.{Served};

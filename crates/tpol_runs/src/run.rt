@@ -1,7 +1,8 @@
 //! A run that is under way.
 
-ghost use Rattle.std.specs.Prelude.{◌≡◌, ◌≤◌, length, IfOk, IfErr};
+ghost use Rattle.std.specs.Prelude.{◌≡◌, ◌≤◌, List, length, IfOk, IfErr};
 ghost use Rattle.tpol_driver.specs.declared.plan.Plan.{Plan as PlanOf};
+ghost use Rattle.tpol_driver.specs.declared.tickets.HeldTicket.{HeldTicket};
 ghost use Rattle.tpol_driver.specs.Driving.{Standing};
 ghost use Rattle.tpol_driver.specs.States.{IsNext};
 ghost use Rattle.tpol_runs.specs.Courses.{begun, run_after, sent_by, stands_at};
@@ -26,11 +27,11 @@ pub struct Run {
 
 impl Model for Run {
     ghost use Rattle.tpol_runs.specs.Underway.{Underway};
-    ghost use Rattle.tpol_runs.specs.State.{driving_of};
+    ghost use Rattle.tpol_runs.specs.State.{driven_of};
 
     ghost Value = { Underway };
 
-    ghost view = { λ r. record { client = r.client; locality = r.locality; most_commands = r.most_commands; driving = driving_of r.state } };
+    ghost view = { λ r. record { client = r.client; locality = r.locality; most_commands = r.most_commands; driving = driven_of r.state } };
 
     ghost use Rattle.std.specs.Prelude.{◌≤◌};
 
@@ -103,7 +104,7 @@ impl Run {
 // The run in its next state.
 fn after(client: u32, locality: u8, most_commands: u32, next: Next) -> After
     requires { locality ≤ 4 }
-    ensures { (plan : PlanOf) (standing : Standing) → IsNext plan standing next
+    ensures { (plan : PlanOf) (earned : List HeldTicket) (standing : Standing) → IsNext plan earned standing next
         → result ≡ stands_at (record { client = client; locality = locality; most_commands = most_commands; driving = record { plan = plan; standing = standing } }) standing }
 {
     let state = match next {

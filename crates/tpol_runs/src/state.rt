@@ -1,7 +1,7 @@
 //! The states of the driver that have a next command.
 
-ghost use Rattle.std.specs.Prelude.{◌≡◌, IfOk, IfErr};
-ghost use Rattle.tpol_driver.specs.Driving.{hears, sends};
+ghost use Rattle.std.specs.Prelude.{◌≡◌, ◌++◌, IfOk, IfErr};
+ghost use Rattle.tpol_driver.specs.Driving.{earned_by, hears, sends};
 ghost use Rattle.tpol_driver.specs.States.{IsNext, IsSent};
 ghost use Rattle.tpol_runs.specs.State.{driving_of};
 
@@ -32,7 +32,7 @@ pub fn next(state: &State, alloc: Global) -> Result<Blob, NoMemory>
 
 // Goes on with the reply. With `NoMemory` the state comes back unchanged.
 pub fn take(state: State, alloc: Global, reply: &[u8]) -> Result<Next, (State, NoMemory)>
-    ensures next { let driving = driving_of state in IfOk result (IsNext driving.plan (hears driving.plan driving.standing reply.now)) }
+    ensures next { let driving = driving_of state in IfOk result (IsNext driving.plan (driving.earned ++ earned_by driving.plan driving.standing reply.now) (hears driving.plan driving.standing reply.now)) }
     ensures back { IfErr result (λ refused. refused.0 ≡ state) }
 {
     match state {

@@ -9,7 +9,7 @@ use Rattle.tpol_members.specs.declared.fault.PolicyKind.TheVariants as policy
 use Rattle.tpol_entities.specs.declared.fault.SceneKind.{SceneKind}
 use Rattle.tpol_entities.specs.declared.fault.SceneKind.TheVariants as scene
 use Rattle.tpol_steps.specs.declared.answer.Answer.{Answer}
-use Rattle.tpol_steps.specs.declared.answer.Verdict.TheVariants.{BadPolicy, BadScene, PathLimit, TooLarge}
+use Rattle.tpol_steps.specs.declared.answer.Verdict.TheVariants.{BadCert, BadPolicy, BadScene, PathLimit, TooLarge}
 use Rattle.tpol_steps.specs.Answer.{one_line}
 
 -- what is wrong, and where
@@ -27,6 +27,14 @@ bad_policy kind document place = one_line (at_place (codes "BadPolicy") (kind ++
 -- bytes that are no JSON text
 abbrev pub policy_not_json : Option (List ℕ) → Answer
 policy_not_json document = one_line (codes "error BadPolicy NotJson" ++ in_document document) BadPolicy
+
+-- a policy that one of the words names, and that the shelf has not
+abbrev pub no_such_policy : List ℕ → Answer
+no_such_policy name = one_line (codes "error BadPolicy NoSuchPolicy in " ++ name) BadPolicy
+
+-- what is wrong with a certificate
+abbrev pub bad_certificate : List ℕ → Answer
+bad_certificate fault = one_line (codes "error BadCert " ++ fault) BadCert
 
 abbrev pub path_limit : List ℕ → Option (List ℕ) → Answer
 path_limit kind document = one_line (codes "error PathLimit " ++ (kind ++ in_document document)) PathLimit

@@ -14,6 +14,7 @@ pub enum Verdict {
     BadPolicy,
     BadScene,
     PathLimit,
+    BadCert,
 }
 
 /// What a command has to say: its lines, each with its line end, and how it ends.

@@ -4,7 +4,8 @@
 //! outside failed or memory ran out. The layers above take `read_document` for the document in the source,
 //! `scene_of_bytes` for the scene in it, `scene_of_shelf` and `named_scene` for a scene of the shelf, `load_store`
 //! for the documents of the shelf, `fill_document`, and `check_limits` and `check_documents` for the paths of
-//! policies; `bad_scene` for a refusal of what a scene names, and `digest_line` and `note_line` for lines of several
+//! policies; `bad_scene` for a refusal of what a scene names, `no_such_policy` and `bad_certificate` for those of a
+//! policy and of a certificate that are checked, and `digest_line` and `note_line` for lines of several
 //! commands. What a step gives is a definition in `specs/`, a `Step`, and a refusal is its first fault; contracts
 //! above compare the two by `Answers`, and say by `IsInside` and `AsksShelf` what a call does with the outside.
 #![tactic(auto)]
@@ -25,6 +26,6 @@ pub use halt::Halt;
 pub use limits::{check_documents, check_limits};
 pub use lines::{digest_line, note_line};
 pub use read_step::read_document;
-pub use refusals::bad_scene;
+pub use refusals::{bad_certificate, bad_scene, no_such_policy};
 pub use scene_step::{named_scene, scene_of_bytes, scene_of_shelf};
 pub use store_step::load_store;

@@ -1,6 +1,6 @@
 ghost use Rattle.std.specs.Prelude.{◌≡◌, ◌++◌, codes, IfOk, OnOk};
 ghost use Rattle.std.specs.Option.{option_copied};
-ghost use Rattle.tpol_steps.specs.Refusals.{at_place, bad_policy, bad_scene, fill_kind_name, in_document, path_limit, policy_kind_name, policy_not_json, scene_kind_name, too_large_in};
+ghost use Rattle.tpol_steps.specs.Refusals.{at_place, bad_certificate, bad_policy, bad_scene, fill_kind_name, in_document, no_such_policy, path_limit, policy_kind_name, policy_not_json, scene_kind_name, too_large_in};
 
 use crate::answer::{Answer, Verdict};
 use std::alloc::Global;
@@ -33,6 +33,25 @@ pub fn policy_not_json(alloc: Global, document: Option<&Text>) -> Result<Answer,
     let mut line = Text::from_str(alloc, "error BadPolicy NotJson")?;
     push_document(&mut line, document)?;
     Answer::of_line(alloc, line.as_str(), Verdict::BadPolicy)
+}
+
+/// The answer where the shelf has no policy of this name, which is one of the words. It fails only where memory ran
+/// out.
+pub fn no_such_policy(alloc: Global, name: &Text) -> Result<Answer, NoMemory>
+    ensures { IfOk result (λ answer. answer ≡ no_such_policy name.now) }
+{
+    let mut line = Text::from_str(alloc, "error BadPolicy NoSuchPolicy in ")?;
+    line.push_str(name.as_str())?;
+    Answer::of_line(alloc, line.as_str(), Verdict::BadPolicy)
+}
+
+/// The answer of a certificate that is refused: what is wrong with it. It fails only where memory ran out.
+pub fn bad_certificate(alloc: Global, fault: &str) -> Result<Answer, NoMemory>
+    ensures { IfOk result (λ answer. answer ≡ bad_certificate fault.now) }
+{
+    let mut line = Text::from_str(alloc, "error BadCert ")?;
+    line.push_str(fault)?;
+    Answer::of_line(alloc, line.as_str(), Verdict::BadCert)
 }
 
 /// The answer of a policy whose paths are not walked. It fails only where memory ran out.
