@@ -11,10 +11,12 @@ use Rattle.tpol_tree.specs.declared.path.PathStep.TheVariants.{Outside}
 use Rattle.tpol_digest.proofs.Images.{both-second_none}
 use Rattle.tpol_digest.specs.Images.{IsImage}
 use Rattle.tpol_digest.specs.Paths.{path_of_move, followed_by, between, outside_path}
+use Rattle.tpol_lines.specs.declared.pen.Form.{Form}
+use Rattle.tpol_lines.specs.declared.pen.Form.TheVariants.{Line, Label}
 use Rattle.tpol_lines.specs.declared.pen.Pen.{Pen}
 use Rattle.tpol_lines.specs.Lines.{line_of}
 use Rattle.tpol_lines.specs.PathLine.{move_kind, step_text, label, kinds, path_line, path_lines}
-use Rattle.tpol_lines.specs.Pen.{behind_separator, line_behind}
+use Rattle.tpol_lines.specs.Pen.{behind_separator, written}
 use Rattle.tpol_lines.specs.Texts.{Texts, no_text, of_choice, of_kind, join, both, texts_of, step_texts, move_texts, lines_behind, texts_of_pen, Writes}
 
 pub same_texts : (a b : Texts) → a.choices ≡ b.choices → a.kinds ≡ b.kinds → a ≡ b
@@ -29,58 +31,58 @@ join_assoc a b c =
 join_none : (a : Texts) → join a no_text ≡ a
 join_none a = same_texts (join a no_text) a (append-nil a.choices) (append-nil a.kinds)
 
--- ---- lines
+-- ---- what is written
 
-pub lines-length : (n : ℕ) (before : Texts) (ts : List Texts) → length (lines_behind n before ts) ≡ length ts
-lines-length n before [] = refl
-lines-length n before (t ∷ ts) = ap suc (lines-length (n + 1) before ts)
+pub lines-length : (form : Form) (n : ℕ) (before : Texts) (ts : List Texts) → length (lines_behind form n before ts) ≡ length ts
+lines-length form n before [] = refl
+lines-length form n before (t ∷ ts) = ap suc (lines-length form (n + 1) before ts)
 
-pub lines-append : (n : ℕ) (before : Texts) (xs ys : List Texts) → lines_behind n before (xs ++ ys) ≡ lines_behind n before xs ++ lines_behind (n + length xs) before ys
-lines-append n before [] ys = let e : n ≡ n + 0 = omega arith in ap (λ m. lines_behind m before ys) e
-lines-append n before (x ∷ xs) ys =
-    let line = line_of (line_behind n (before.choices ++ x.choices) (before.kinds ++ x.kinds)) in
+pub lines-append : (form : Form) (n : ℕ) (before : Texts) (xs ys : List Texts) → lines_behind form n before (xs ++ ys) ≡ lines_behind form n before xs ++ lines_behind form (n + length xs) before ys
+lines-append form n before [] ys = let e : n ≡ n + 0 = omega arith in ap (λ m. lines_behind form m before ys) e
+lines-append form n before (x ∷ xs) ys =
+    let line = written form n (before.choices ++ x.choices) (before.kinds ++ x.kinds) in
     let e : n + 1 + length xs ≡ n + suc (length xs) = omega arith in
-    ap (λ l. line ∷ l) (lines-append (n + 1) before xs ys)
-    ∙ ap (λ m. line ∷ (lines_behind (n + 1) before xs ++ lines_behind m before ys)) e
+    ap (λ l. line ∷ l) (lines-append form (n + 1) before xs ys)
+    ∙ ap (λ m. line ∷ (lines_behind form (n + 1) before xs ++ lines_behind form m before ys)) e
 
-pub lines-join : (n : ℕ) (before a : Texts) (ts : List Texts) → lines_behind n before (map (join a) ts) ≡ lines_behind n (join before a) ts
-lines-join n before a [] = refl
-lines-join n before a (t ∷ ts) =
-    ap (λ choices. line_of (line_behind n choices (before.kinds ++ (a.kinds ++ t.kinds))) ∷ lines_behind (n + 1) before (map (join a) ts)) (sym (append_assoc before.choices a.choices t.choices))
-    ∙ ap (λ kinds. line_of (line_behind n ((before.choices ++ a.choices) ++ t.choices) kinds) ∷ lines_behind (n + 1) before (map (join a) ts)) (sym (append_assoc before.kinds a.kinds t.kinds))
-    ∙ ap (λ l. line_of (line_behind n ((before.choices ++ a.choices) ++ t.choices) ((before.kinds ++ a.kinds) ++ t.kinds)) ∷ l) (lines-join (n + 1) before a ts)
+pub lines-join : (form : Form) (n : ℕ) (before a : Texts) (ts : List Texts) → lines_behind form n before (map (join a) ts) ≡ lines_behind form n (join before a) ts
+lines-join form n before a [] = refl
+lines-join form n before a (t ∷ ts) =
+    ap (λ choices. written form n choices (before.kinds ++ (a.kinds ++ t.kinds)) ∷ lines_behind form (n + 1) before (map (join a) ts)) (sym (append_assoc before.choices a.choices t.choices))
+    ∙ ap (λ kinds. written form n ((before.choices ++ a.choices) ++ t.choices) kinds ∷ lines_behind form (n + 1) before (map (join a) ts)) (sym (append_assoc before.kinds a.kinds t.kinds))
+    ∙ ap (λ l. written form n ((before.choices ++ a.choices) ++ t.choices) ((before.kinds ++ a.kinds) ++ t.kinds) ∷ l) (lines-join form (n + 1) before a ts)
 
 -- ---- what a pen has written
 
-pub writes_then : (a b c : Pen) (xs ys : List Texts) → Writes a b xs → Writes b c ys → Writes a c (xs ++ ys)
-writes_then a b c xs ys g h = record {
+pub writes_then : (form : Form) (a b c : Pen) (xs ys : List Texts) → Writes form a b xs → Writes form b c ys → Writes form a c (xs ++ ys)
+writes_then form a b c xs ys g h = record {
   lines =
       let count : length b.lines ≡ length a.lines + length xs =
-      ap length g.lines ∙ length-append a.lines (lines_behind (length a.lines + 1) (texts_of_pen a) xs) ∙ ap (λ n. length a.lines + n) (lines-length (length a.lines + 1) (texts_of_pen a) xs) in
+      ap length g.lines ∙ length-append a.lines (lines_behind form (length a.lines + 1) (texts_of_pen a) xs) ∙ ap (λ n. length a.lines + n) (lines-length form (length a.lines + 1) (texts_of_pen a) xs) in
       let position : length b.lines + 1 ≡ length a.lines + 1 + length xs = omega arith in
       let texts : texts_of_pen b ≡ texts_of_pen a = same_texts (texts_of_pen b) (texts_of_pen a) g.choices g.kinds in
       h.lines
-      ∙ ap (λ n. b.lines ++ lines_behind n (texts_of_pen b) ys) position
-      ∙ ap (λ t. b.lines ++ lines_behind (length a.lines + 1 + length xs) t ys) texts
-      ∙ ap (λ l. l ++ lines_behind (length a.lines + 1 + length xs) (texts_of_pen a) ys) g.lines
-      ∙ append_assoc a.lines (lines_behind (length a.lines + 1) (texts_of_pen a) xs) (lines_behind (length a.lines + 1 + length xs) (texts_of_pen a) ys)
-      ∙ ap (λ l. a.lines ++ l) (sym (lines-append (length a.lines + 1) (texts_of_pen a) xs ys));
+      ∙ ap (λ n. b.lines ++ lines_behind form n (texts_of_pen b) ys) position
+      ∙ ap (λ t. b.lines ++ lines_behind form (length a.lines + 1 + length xs) t ys) texts
+      ∙ ap (λ l. l ++ lines_behind form (length a.lines + 1 + length xs) (texts_of_pen a) ys) g.lines
+      ∙ append_assoc a.lines (lines_behind form (length a.lines + 1) (texts_of_pen a) xs) (lines_behind form (length a.lines + 1 + length xs) (texts_of_pen a) ys)
+      ∙ ap (λ l. a.lines ++ l) (sym (lines-append form (length a.lines + 1) (texts_of_pen a) xs ys));
   choices = h.choices ∙ g.choices;
   kinds = h.kinds ∙ g.kinds;
 }
 
-pub writes_nothing : (a : Pen) → Writes a a []
-writes_nothing a = record { lines = sym (append-nil a.lines); choices = refl; kinds = refl }
+pub writes_nothing : (form : Form) (a : Pen) → Writes form a a []
+writes_nothing form a = record { lines = sym (append-nil a.lines); choices = refl; kinds = refl }
 
 -- the pen took a choice or a kind, wrote, and gave it back
-pub writes_behind : (a b c d : Pen) (text : Texts) (ts : List Texts) → b.lines ≡ a.lines → texts_of_pen b ≡ join (texts_of_pen a) text → Writes b c ts → d.lines ≡ c.lines → d.choices.items ≡ a.choices.items → d.kinds.items ≡ a.kinds.items → Writes a d (map (join text) ts)
-writes_behind a b c d text ts same longer g kept choices kinds = record {
+pub writes_behind : (form : Form) (a b c d : Pen) (text : Texts) (ts : List Texts) → b.lines ≡ a.lines → texts_of_pen b ≡ join (texts_of_pen a) text → Writes form b c ts → d.lines ≡ c.lines → d.choices.items ≡ a.choices.items → d.kinds.items ≡ a.kinds.items → Writes form a d (map (join text) ts)
+writes_behind form a b c d text ts same longer g kept choices kinds = record {
   lines =
       kept
       ∙ g.lines
-      ∙ ap (λ l. l ++ lines_behind (length l + 1) (texts_of_pen b) ts) same
-      ∙ ap (λ t. a.lines ++ lines_behind (length a.lines + 1) t ts) longer
-      ∙ ap (λ l. a.lines ++ l) (sym (lines-join (length a.lines + 1) (texts_of_pen a) text ts));
+      ∙ ap (λ l. l ++ lines_behind form (length l + 1) (texts_of_pen b) ts) same
+      ∙ ap (λ t. a.lines ++ lines_behind form (length a.lines + 1) t ts) longer
+      ∙ ap (λ l. a.lines ++ l) (sym (lines-join form (length a.lines + 1) (texts_of_pen a) text ts));
   choices = choices;
   kinds = kinds;
 }
@@ -90,24 +92,24 @@ given_back : (n : ℕ) (old more now : List ℕ) → n ≡ length old → now �
 given_back n old more now e f = ap (λ m. take m now) e ∙ ap (take (length old)) f ∙ take-append_seam old more
 
 -- a kind, and what was written behind it
-pub kind_written : (a b c d : Pen) (kind : List ℕ) (ts : List Texts) (n : ℕ) → b.lines ≡ a.lines → b.choices ≡ a.choices → b.kinds.items ≡ a.kinds.items ++ 44 ∷ kind → Writes b c ts → n ≡ length a.kinds.items → d.lines ≡ c.lines → d.choices ≡ c.choices → d.kinds.items ≡ take n c.kinds.items → Writes a d (map (join (of_kind kind)) ts)
-kind_written a b c d kind ts n lines choices longer g kept same_lines same_choices cut =
+pub kind_written : (form : Form) (a b c d : Pen) (kind : List ℕ) (ts : List Texts) (n : ℕ) → b.lines ≡ a.lines → b.choices ≡ a.choices → b.kinds.items ≡ a.kinds.items ++ 44 ∷ kind → Writes form b c ts → n ≡ length a.kinds.items → d.lines ≡ c.lines → d.choices ≡ c.choices → d.kinds.items ≡ take n c.kinds.items → Writes form a d (map (join (of_kind kind)) ts)
+kind_written form a b c d kind ts n lines choices longer g kept same_lines same_choices cut =
     let choice : b.choices.items ≡ a.choices.items = ap (λ v. v.items) choices in
-    writes_behind a b c d (of_kind kind) ts lines (same_texts (texts_of_pen b) (join (texts_of_pen a) (of_kind kind)) (choice ∙ sym (append-nil a.choices.items)) longer) g same_lines (ap (λ v. v.items) same_choices ∙ g.choices ∙ choice) (cut ∙ given_back n a.kinds.items (44 ∷ kind) c.kinds.items kept (g.kinds ∙ longer))
+    writes_behind form a b c d (of_kind kind) ts lines (same_texts (texts_of_pen b) (join (texts_of_pen a) (of_kind kind)) (choice ∙ sym (append-nil a.choices.items)) longer) g same_lines (ap (λ v. v.items) same_choices ∙ g.choices ∙ choice) (cut ∙ given_back n a.kinds.items (44 ∷ kind) c.kinds.items kept (g.kinds ∙ longer))
 
 -- a choice, and what was written behind it
-pub choice_written : (a b c d : Pen) (text : List ℕ) (ts : List Texts) (n : ℕ) → b.lines ≡ a.lines → b.kinds ≡ a.kinds → b.choices.items ≡ a.choices.items ++ 47 ∷ text → Writes b c ts → n ≡ length a.choices.items → d.lines ≡ c.lines → d.kinds ≡ c.kinds → d.choices.items ≡ take n c.choices.items → Writes a d (map (join (of_choice text)) ts)
-choice_written a b c d text ts n lines kinds longer g kept same_lines same_kinds cut =
+pub choice_written : (form : Form) (a b c d : Pen) (text : List ℕ) (ts : List Texts) (n : ℕ) → b.lines ≡ a.lines → b.kinds ≡ a.kinds → b.choices.items ≡ a.choices.items ++ 47 ∷ text → Writes form b c ts → n ≡ length a.choices.items → d.lines ≡ c.lines → d.kinds ≡ c.kinds → d.choices.items ≡ take n c.choices.items → Writes form a d (map (join (of_choice text)) ts)
+choice_written form a b c d text ts n lines kinds longer g kept same_lines same_kinds cut =
     let kind : b.kinds.items ≡ a.kinds.items = ap (λ v. v.items) kinds in
-    writes_behind a b c d (of_choice text) ts lines (same_texts (texts_of_pen b) (join (texts_of_pen a) (of_choice text)) longer (kind ∙ sym (append-nil a.kinds.items))) g same_lines (cut ∙ given_back n a.choices.items (47 ∷ text) c.choices.items kept (g.choices ∙ longer)) (ap (λ v. v.items) same_kinds ∙ g.kinds ∙ kind)
+    writes_behind form a b c d (of_choice text) ts lines (same_texts (texts_of_pen b) (join (texts_of_pen a) (of_choice text)) longer (kind ∙ sym (append-nil a.kinds.items))) g same_lines (cut ∙ given_back n a.choices.items (47 ∷ text) c.choices.items kept (g.choices ∙ longer)) (ap (λ v. v.items) same_kinds ∙ g.kinds ∙ kind)
 
--- the line of a path that is whole
-pub line_written : (a b : Pen) → b.lines ≡ a.lines ++ line_of (line_behind (length a.lines + 1) a.choices.items a.kinds.items) ∷ [] → b.choices ≡ a.choices → b.kinds ≡ a.kinds → Writes a b (no_text ∷ [])
-line_written a b lines choices kinds = record {
+-- what is written of a path that is whole
+pub line_written : (form : Form) (a b : Pen) → b.lines ≡ a.lines ++ written form (length a.lines + 1) a.choices.items a.kinds.items ∷ [] → b.choices ≡ a.choices → b.kinds ≡ a.kinds → Writes form a b (no_text ∷ [])
+line_written form a b lines choices kinds = record {
   lines =
       lines
-      ∙ ap (λ l. a.lines ++ line_of (line_behind (length a.lines + 1) l a.kinds.items) ∷ []) (sym (append-nil a.choices.items))
-      ∙ ap (λ l. a.lines ++ line_of (line_behind (length a.lines + 1) (a.choices.items ++ []) l) ∷ []) (sym (append-nil a.kinds.items));
+      ∙ ap (λ l. a.lines ++ written form (length a.lines + 1) l a.kinds.items ∷ []) (sym (append-nil a.choices.items))
+      ∙ ap (λ l. a.lines ++ written form (length a.lines + 1) (a.choices.items ++ []) l ∷ []) (sym (append-nil a.kinds.items));
   choices = ap (λ v. v.items) choices;
   kinds = ap (λ v. v.items) kinds;
 }
@@ -149,7 +151,7 @@ texts = record {
 
 -- ---- the whole list
 
-label_is : (steps : List PathStep) → label steps ≡ behind_separator (flat_map (λ step. 47 ∷ step_text step) steps) (codes "-")
+pub label_is : (steps : List PathStep) → label steps ≡ behind_separator (flat_map (λ step. 47 ∷ step_text step) steps) (codes "-")
 label_is [] = refl
 label_is (step ∷ rest) = ap (λ l. step_text step ++ l) (pieces rest)
   where
@@ -165,17 +167,22 @@ kinds_are (act ∷ rest) = ap (λ l. move_kind act ++ l) (pieces rest)
     pieces [] = refl
     pieces (x ∷ xs) = ap (λ l. (44 ∷ move_kind x) ++ l) (pieces xs)
 
-pub lines_of_paths : (n : ℕ) (paths : List Path) → lines_behind n no_text (map texts_of paths) ≡ path_lines n paths
+pub lines_of_paths : (n : ℕ) (paths : List Path) → lines_behind Line n no_text (map texts_of paths) ≡ path_lines n paths
 lines_of_paths n [] = refl
 lines_of_paths n (path ∷ rest) =
-    ap (λ l. line_of (codes "path " ++ decimal n ++ codes " " ++ l ++ codes " " ++ behind_separator (texts_of path).kinds []) ∷ lines_behind (n + 1) no_text (map texts_of rest)) (sym (label_is path.steps))
-    ∙ ap (λ l. line_of (codes "path " ++ decimal n ++ codes " " ++ label path.steps ++ codes " " ++ l) ∷ lines_behind (n + 1) no_text (map texts_of rest)) (sym (kinds_are path.moves))
+    ap (λ l. line_of (codes "path " ++ decimal n ++ codes " " ++ l ++ codes " " ++ behind_separator (texts_of path).kinds []) ∷ lines_behind Line (n + 1) no_text (map texts_of rest)) (sym (label_is path.steps))
+    ∙ ap (λ l. line_of (codes "path " ++ decimal n ++ codes " " ++ label path.steps ++ codes " " ++ l) ∷ lines_behind Line (n + 1) no_text (map texts_of rest)) (sym (kinds_are path.moves))
     ∙ ap (λ l. line_of (path_line n path) ∷ l) (lines_of_paths (n + 1) rest)
 
-pub whole_lines : (start end : Pen) (paths : List Path) → start.lines ≡ [] → start.choices.items ≡ [] → start.kinds.items ≡ [] → Writes start end (both (map texts_of paths) (no_text ∷ [])) → end.lines ≡ path_lines 1 paths
-whole_lines start end paths lines choices kinds g =
+pub labels_of_paths : (n : ℕ) (paths : List Path) → lines_behind Label n no_text (map texts_of paths) ≡ map (λ path. label path.steps) paths
+labels_of_paths n [] = refl
+labels_of_paths n (path ∷ rest) =
+    ap (λ l. l ∷ lines_behind Label (n + 1) no_text (map texts_of rest)) (sym (label_is path.steps))
+    ∙ ap (λ l. label path.steps ∷ l) (labels_of_paths (n + 1) rest)
+
+pub whole_lines : (form : Form) (start end : Pen) (paths : List Path) → start.lines ≡ [] → start.choices.items ≡ [] → start.kinds.items ≡ [] → Writes form start end (both (map texts_of paths) (no_text ∷ [])) → end.lines ≡ lines_behind form 1 no_text (map texts_of paths)
+whole_lines form start end paths lines choices kinds g =
     g.lines
-    ∙ ap (λ l. l ++ lines_behind (length l + 1) (texts_of_pen start) (both (map texts_of paths) (no_text ∷ []))) lines
-    ∙ ap (λ t. lines_behind 1 t (both (map texts_of paths) (no_text ∷ []))) (same_texts (texts_of_pen start) no_text choices kinds)
-    ∙ ap (lines_behind 1 no_text) (both-second_none texts (map texts_of paths))
-    ∙ lines_of_paths 1 paths
+    ∙ ap (λ l. l ++ lines_behind form (length l + 1) (texts_of_pen start) (both (map texts_of paths) (no_text ∷ []))) lines
+    ∙ ap (λ t. lines_behind form 1 t (both (map texts_of paths) (no_text ∷ []))) (same_texts (texts_of_pen start) no_text choices kinds)
+    ∙ ap (lines_behind form 1 no_text) (both-second_none texts (map texts_of paths))

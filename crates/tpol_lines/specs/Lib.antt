@@ -1,4 +1,5 @@
 pub mod BlockLine
+pub mod CertLine
 pub mod Events
 pub mod Generated
 pub mod Hex
@@ -9,3 +10,4 @@ pub mod PathLine
 pub mod Pen
 pub mod Runs
 pub mod Texts
+pub mod TriedLine

@@ -1,5 +1,5 @@
 -- The lines of paths that can never open.
-use Rattle.std.specs.Prelude.{ℕ, ◌-◌, List, [], ◌∷◌, codes, decimal, length, map, slice_get}
+use Rattle.std.specs.Prelude.{ℕ, ◌-◌, List, [], ◌∷◌, codes, decimal, map, slice_get}
 use Rattle.tpm_bindings.specs.declared.disagreement.Disagreement.{Disagreement}
 use Rattle.tpm_bindings.specs.declared.disagreement.Disagreement.TheVariants as rules
 use Rattle.tpol_lint.specs.declared.dead.Dead.{Dead}

@@ -18,11 +18,16 @@ chosen_line run position steps =
 abbrev pub nobranch_line : ℕ → List ℕ
 nobranch_line run = spaced (codes "run" ∷ decimal run ∷ codes "nobranch" ∷ [])
 
+-- a run that does not see the machine begins
+abbrev pub blind_line : ℕ → List ℕ
+blind_line run = spaced (codes "run" ∷ decimal run ∷ codes "blind" ∷ [])
+
 abbrev pub stage_text : Stage → List ℕ
 stage_text stages.Start = codes "start"
 stage_text (stages.Verify place) = spaced (codes "verify" ∷ decimal place ∷ [])
 stage_text (stages.Move place) = spaced (codes "move" ∷ decimal place ∷ [])
 stage_text stages.Goal = codes "goal"
+stage_text stages.Restart = codes "restart"
 
 abbrev pub end_text : End → List ℕ
 end_text (ends.Served bytes) = spaced (codes "served" ∷ bytes_text bytes ∷ [])

@@ -1,6 +1,6 @@
 -- The choices and the kinds of paths, as text.
-use Rattle.std.specs.Prelude.{◌≡◌, ℕ, ◌+◌, List, [], ◌∷◌, ◌++◌, length, map}
-use Rattle.std.specs.List.{flat_map}
+use Rattle.std.specs.Prelude.{◌≡◌, ℕ, ◌+◌, List, [], ◌∷◌, ◌++◌, codes, drop, length, map, nat_eq, Option, Some, None, if◌then◌else◌}
+use Rattle.std.specs.List.{flat_map, slice_get, starts_with}
 use Rattle.tpol_tree.specs.declared.closed.ClosedElements.{ClosedElements}
 use Rattle.tpol_tree.specs.declared.closed.ClosedElement.{ClosedElement}
 use Rattle.tpol_tree.specs.declared.closed.ClosedBranches.{ClosedBranches}
@@ -11,10 +11,10 @@ use Rattle.tpol_tree.specs.declared.path.PathStep.{PathStep}
 use Rattle.tpol_digest.specs.Images as images
 use Rattle.tpol_lines.specs.declared.path_lines.Ahead.{Ahead}
 use Rattle.tpol_lines.specs.declared.path_lines.Ahead.TheVariants.{Nothing, After'}
+use Rattle.tpol_lines.specs.declared.pen.Form.{Form}
 use Rattle.tpol_lines.specs.declared.pen.Pen.{Pen}
-use Rattle.tpol_lines.specs.Lines.{line_of}
 use Rattle.tpol_lines.specs.PathLine.{move_kind, step_text}
-use Rattle.tpol_lines.specs.Pen.{line_behind}
+use Rattle.tpol_lines.specs.Pen.{written}
 
 -- the choices, each behind a `/`, and the kinds of the policy commands, each behind a `,`
 pub record Texts : Type 0 where
@@ -74,18 +74,28 @@ texts_ahead documents Nothing = no_text ∷ []
 texts_ahead documents (After' kind rest levels p ahead) =
     map (join (of_kind kind.now)) (both (element_list_texts documents levels rest.now) (texts_ahead documents ahead))
 
--- a line for each, from this position on, behind the texts so far
-abbrev pub lines_behind : ℕ → Texts → List Texts → List (List ℕ)
-lines_behind position before [] = []
-lines_behind position before (texts ∷ rest) =
-    line_of (line_behind position (before.choices ++ texts.choices) (before.kinds ++ texts.kinds)) ∷ lines_behind (position + 1) before rest
+-- what is written of each, from this position on, behind the texts so far
+abbrev pub lines_behind : Form → ℕ → Texts → List Texts → List (List ℕ)
+lines_behind form position before [] = []
+lines_behind form position before (texts ∷ rest) =
+    written form position (before.choices ++ texts.choices) (before.kinds ++ texts.kinds) ∷ lines_behind form (position + 1) before rest
 
 -- a pen's texts so far
 abbrev pub texts_of_pen : Pen → Texts
 texts_of_pen pen = record { choices = pen.choices.items; kinds = pen.kinds.items }
 
--- the pen has written a line for each of these, behind its texts, and its texts are as before
-pub record Writes (before after : Pen) (texts : List Texts) : Type 0 where
-  pub lines : after.lines ≡ before.lines ++ lines_behind (length before.lines + 1) (texts_of_pen before) texts
+-- the pen has written of each of these, behind its texts, and its texts are as before
+pub record Writes (form : Form) (before after : Pen) (texts : List Texts) : Type 0 where
+  pub lines : after.lines ≡ before.lines ++ lines_behind form (length before.lines + 1) (texts_of_pen before) texts
   pub choices : after.choices.items ≡ before.choices.items
   pub kinds : after.kinds.items ≡ before.kinds.items
+
+-- a text goes on by the choices of one of these, by its index from 0
+pub record GoesOn (before : List ℕ) (texts : List Texts) (index : ℕ) (after : List ℕ) : Type 0 where
+  pub one : Texts
+  pub is_there : slice_get texts index ≡ Some one
+  pub follows : after ≡ before ++ one.choices
+
+-- what follows a slash at the front of a text
+abbrev pub behind_slash : List ℕ → Option (List ℕ)
+behind_slash text = if starts_with nat_eq text (codes "/") then Some (drop 1 text) else None

@@ -1,31 +1,41 @@
 // The line of a path that cannot be gone.
 
-ghost use Rattle.std.specs.Prelude.{◌≡◌, IfOk};
+ghost use Rattle.std.specs.Prelude.{◌≡◌, IfOk, List};
 ghost use Rattle.std.specs.String.{string_bytes};
 ghost use Rattle.tpol_lines.specs.BlockLine.{answer_text, block_line, why_text};
+ghost use Rattle.tpol_lines.specs.PathLine.{label};
+ghost use Rattle.tpol_tree.specs.declared.path.PathStep.{PathStep};
 
 use crate::events::check_word;
 use crate::hexadecimal::code_text;
-use crate::path_label::label;
 use std::alloc::Global;
-use tpol_base::{NoMemory, Text};
+use tpol_base::{Blob, NoMemory};
 use tpol_choose::{Block, Why};
-use tpol_tree::PathStep;
 
-/// The line of the path at a position, from 1, with its choices, and the first thing that stands in its way. It
-/// fails only where memory ran out.
+/// The line of the path at a position, from 1, with its choices as `label` gives them, and the first thing that
+/// stands in its way. It fails only where memory ran out.
 pub fn block_line(
     alloc: Global,
     position: u32,
-    steps: &[PathStep],
+    choices: &[u8],
     block: &Block,
-) -> Result<Text, NoMemory>
-    ensures { IfOk result (λ line. line ≡ block_line position steps.now block.now) }
+) -> Result<Blob, NoMemory>
+    ensures { (steps : List PathStep) → choices.now ≡ label steps
+        → IfOk result (λ line. line ≡ block_line position steps block.now) }
 {
-    let label = label(alloc, steps)?;
-    let label = label.as_str();
+    let head = format!(in alloc; "block {position} ")?;
     let why = why_text(alloc, block.at, &block.why)?;
-    Ok(Text::from_string(format!(in alloc; "block {position} {label} {why}")?))
+    let room = head
+        .len()
+        .saturating_add(choices.len())
+        .saturating_add(why.len())
+        .saturating_add(2);
+    let mut line = Vec::with_capacity(alloc, room)?;
+    line.extend_from_slice(head.as_bytes())?;
+    line.extend_from_slice(choices)?;
+    line.push(b' ')?;
+    line.extend_from_slice(why.as_bytes())?;
+    Ok(Blob::from_vec(line))
 }
 
 // What stands in the way, of the move at a place where it is a move's.

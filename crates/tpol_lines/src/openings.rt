@@ -1,16 +1,17 @@
 // The line of an opening.
 
-ghost use Rattle.std.specs.Prelude.{◌≡◌, IfOk};
+ghost use Rattle.std.specs.Prelude.{◌≡◌, IfOk, List};
 ghost use Rattle.tpol_digest.specs.Limits.{AreWithinLimits};
 ghost use Rattle.tpol_digest.specs.Paths.{paths_of};
 ghost use Rattle.tpol_lines.specs.OpeningLine.{branch_line, clash_line, events_text, opening_line, zero_line, IsListed};
+ghost use Rattle.tpol_lines.specs.PathLine.{label};
+ghost use Rattle.tpol_tree.specs.declared.path.PathStep.{PathStep};
 
-use crate::path_label::label;
+use crate::one_label::label_at;
 use std::alloc::Global;
 use tpol_base::{NoMemory, Text};
-use tpol_digest::path_at;
 use tpol_trace::Opening;
-use tpol_tree::{Approvals, Closed, PathStep};
+use tpol_tree::{Approvals, Closed};
 
 /// The line of the opening behind an event: by which path, with its choices, a session's facts led to the
 /// policy's digest, and the events of the facts; or the two strings of one digest, or the string whose digest
@@ -31,14 +32,8 @@ pub fn opening_line(
             path: position,
             events,
         } => {
-            let path = path_at(alloc, policy, approvals, *position)?;
-            branch_line(
-                alloc,
-                event,
-                *position,
-                path.steps.as_slice(),
-                events.as_slice(),
-            )
+            let choices = label_at(alloc, policy, approvals, *position)?;
+            branch_line(alloc, event, *position, choices.as_str(), events.as_slice())
         }
         Opening::Clash { first, second } => {
             clash_line(alloc, event, first.as_slice(), second.as_slice())
@@ -51,17 +46,16 @@ pub(crate) fn branch_line(
     alloc: Global,
     event: u32,
     position: u32,
-    steps: &[PathStep],
+    choices: &str,
     events: &[u32],
 ) -> Result<Text, NoMemory>
-    ensures { IfOk result (λ line. line ≡ branch_line event position steps.now events.now) }
+    ensures { (steps : List PathStep) → choices.now ≡ label steps
+        → IfOk result (λ line. line ≡ branch_line event position steps events.now) }
 {
-    let label = label(alloc, steps)?;
-    let label = label.as_str();
     let events = events_text(alloc, events)?;
     let events = events.as_str();
     Ok(Text::from_string(format!(in alloc;
-        "opening {event} path {position} {label} events {events}"
+        "opening {event} path {position} {choices} events {events}"
     )?))
 }
 

@@ -1,22 +1,23 @@
 // The lines of a policy's paths, written on one walk through the policy, without the paths.
 
-ghost use Rattle.std.specs.Prelude.{◌≡◌, IfOk, OnOk};
+ghost use Rattle.std.specs.Prelude.{◌≡◌, IfOk, OnOk, map};
 ghost use Rattle.tpol_digest.specs.Paths.{paths_of};
-ghost use Rattle.tpol_lines.specs.PathLine.{path_lines};
+ghost use Rattle.tpol_lines.specs.PathLine.{label, path_lines};
 ghost use Rattle.tpol_lines.specs.Texts as texts;
 
 use crate::kinds::assertion_kind;
 use crate::lines::Lines;
-use crate::pen::Pen;
+use crate::pen::{Form, Pen};
 use std::alloc::Global;
 use tpol_base::NoMemory;
 use tpol_digest::{MAX_LEVELS, accepts};
 use tpol_tree::{Approvals, ApprovedDoc, Closed, ClosedBranches, ClosedElement, ClosedElements};
 
-// What the walk goes through besides the policy: the approved documents.
+// What the walk goes through besides the policy: the approved documents; and what it writes of each path.
 #[derive(Clone, Copy)]
 struct Shelf<'a> {
     alloc: Global,
+    form: Form,
     approvals: &'a [ApprovedDoc],
 }
 
@@ -38,9 +39,31 @@ enum Ahead<'a> {
 pub fn write_paths(alloc: Global, policy: &Closed, approvals: &Approvals) -> Result<Lines, NoMemory>
     ensures { IfOk result (λ lines. lines ≡ path_lines 1 (paths_of policy.now approvals.now)) }
 {
+    write_ways(alloc, Form::Line, policy, approvals)
+}
+
+/// The choices of each path of a policy, in the order of the paths, as `label` gives them; no path is made. It
+/// fails only where memory ran out.
+pub fn labels(alloc: Global, policy: &Closed, approvals: &Approvals) -> Result<Lines, NoMemory>
+    ensures { IfOk result (λ labels. labels ≡ map (λ path. label path.steps) (paths_of policy.now approvals.now)) }
+{
+    write_ways(alloc, Form::Label, policy, approvals)
+}
+
+// What is written of each path of a policy.
+fn write_ways(
+    alloc: Global,
+    form: Form,
+    policy: &Closed,
+    approvals: &Approvals,
+) -> Result<Lines, NoMemory>
+    ensures { IfOk result (λ lines. lines
+        ≡ texts.lines_behind form 1 texts.no_text (map texts.texts_of (paths_of policy.now approvals.now))) }
+{
     let mut pen = Pen::new(alloc);
     let shelf = Shelf {
         alloc,
+        form,
         approvals: approvals.as_slice(),
     };
     write_elements(
@@ -58,7 +81,7 @@ pub fn write_paths(alloc: Global, policy: &Closed, approvals: &Approvals) -> Res
     Ok(lines)
 }
 
-// Writes the lines of all ways through elements and what comes behind them; in the elements documents may
+// Writes of all ways through elements and what comes behind them; in the elements documents may
 // be entered `levels` deep.
 #[cycle(path_lines)]
 fn write_elements(
@@ -68,7 +91,7 @@ fn write_elements(
     levels: u8,
     ahead: &Ahead<'_>,
 ) -> Result<(), NoMemory>
-    ensures { OnOk result (texts.Writes pen.old pen.new (texts.both
+    ensures { OnOk result (texts.Writes shelf.now.form pen.old pen.new (texts.both
         (texts.element_list_texts shelf.now.approvals.now levels elements.now) (texts.texts_ahead shelf.now.approvals.now ahead.now))) }
 {
     match elements {
@@ -89,7 +112,7 @@ fn write_element(
     levels: u8,
     ahead: &Ahead<'_>,
 ) -> Result<(), NoMemory>
-    ensures { OnOk result (texts.Writes pen.old pen.new (texts.both
+    ensures { OnOk result (texts.Writes shelf.now.form pen.old pen.new (texts.both
         (texts.element_texts shelf.now.approvals.now levels element.now)
         (texts.both (texts.element_list_texts shelf.now.approvals.now levels rest.now) (texts.texts_ahead shelf.now.approvals.now ahead.now)))) }
 {
@@ -132,7 +155,7 @@ fn write_branches(
     levels: u8,
     ahead: &Ahead<'_>,
 ) -> Result<(), NoMemory>
-    ensures { OnOk result (texts.Writes pen.old pen.new (texts.both
+    ensures { OnOk result (texts.Writes shelf.now.form pen.old pen.new (texts.both
         (texts.branch_texts shelf.now.approvals.now levels branches.now) (texts.texts_ahead shelf.now.approvals.now ahead.now))) }
 {
     match branches {
@@ -156,7 +179,7 @@ fn write_approvals(
     levels: u8,
     ahead: &Ahead<'_>,
 ) -> Result<(), NoMemory>
-    ensures { OnOk result (texts.Writes pen.old pen.new (texts.both
+    ensures { OnOk result (texts.Writes shelf.now.form pen.old pen.new (texts.both
         (texts.approval_texts shelf.now.approvals.now levels element.now) (texts.texts_ahead shelf.now.approvals.now ahead.now))) }
 {
     let kept = pen.choices.len();
@@ -178,10 +201,10 @@ fn write_approvals(
 // The same of what comes behind a branch or a document.
 #[cycle(path_lines)]
 fn write_ahead(shelf: &Shelf<'_>, pen: &mut Pen, ahead: &Ahead<'_>) -> Result<(), NoMemory>
-    ensures { OnOk result (texts.Writes pen.old pen.new (texts.texts_ahead shelf.now.approvals.now ahead.now)) }
+    ensures { OnOk result (texts.Writes shelf.now.form pen.old pen.new (texts.texts_ahead shelf.now.approvals.now ahead.now)) }
 {
     match ahead {
-        Ahead::Nothing => pen.write_line(shelf.alloc),
+        Ahead::Nothing => pen.write(shelf.alloc, shelf.form),
         Ahead::After {
             kind,
             rest,

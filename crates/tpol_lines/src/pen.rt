@@ -1,14 +1,23 @@
-ghost use Rattle.std.specs.Prelude.{◌≡◌, ◌+◌, ◌∷◌, ◌++◌, [], codes, length, OnOk};
+ghost use Rattle.std.specs.Prelude.{◌≡◌, ◌+◌, ◌∷◌, ◌++◌, [], codes, length, IfOk, OnOk};
 ghost use Rattle.json.specs.Print.{quoted};
 ghost use Rattle.tpol_lines.specs.Lines.{line_of};
-ghost use Rattle.tpol_lines.specs.Pen.{behind_separator, line_behind};
+ghost use Rattle.tpol_lines.specs.Pen.{behind_separator, line_behind, written};
 
 use crate::lines::Lines;
 use std::alloc::Global;
 use tpol_base::{Blob, NoMemory};
 use tpol_json::push_quoted;
 
-// Writes the lines of paths, each when its path is whole. It holds the choices and the kinds of the policy
+// What is written of a path that is whole.
+#[derive(Clone, Copy)]
+pub enum Form {
+    // Its line.
+    Line,
+    // Its choices alone, with no line end.
+    Label,
+}
+
+// Writes what is asked of paths, each when its path is whole. It holds the choices and the kinds of the policy
 // commands so far.
 #[derive(Drop)]
 pub struct Pen {
@@ -65,12 +74,24 @@ impl Pen {
         Ok(())
     }
 
-    // Writes the line of the path that is whole.
-    pub fn write_line(&mut self, alloc: Global) -> Result<(), NoMemory>
+    // Writes what is asked of the path that is whole.
+    pub fn write(&mut self, alloc: Global, form: Form) -> Result<(), NoMemory>
         ensures lines { OnOk result (self.new.lines ≡ self.old.lines
-            ++ line_of (line_behind (length self.old.lines + 1) self.old.choices.items self.old.kinds.items) ∷ []) }
+            ++ written form (length self.old.lines + 1) self.old.choices.items self.old.kinds.items ∷ []) }
         ensures choices { self.new.choices ≡ self.old.choices }
         ensures kinds { self.new.kinds ≡ self.old.kinds }
+    {
+        let text = match form {
+            Form::Line => self.line(alloc)?,
+            Form::Label => self.label(alloc)?,
+        };
+        self.lines.push(text)
+    }
+
+    // The line of the path that is whole, with its line end.
+    fn line(&self, alloc: Global) -> Result<Blob, NoMemory>
+        ensures { IfOk result (λ line. line
+            ≡ line_of (line_behind (length self.now.lines + 1) self.now.choices.items self.now.kinds.items)) }
     {
         let position = self.lines.len().checked_add(1).ok_or(NoMemory)?;
         let head = format!(in alloc; "path {position} ")?;
@@ -87,7 +108,14 @@ impl Pen {
         line.push(b' ')?;
         line.extend_from_slice(kinds)?;
         line.push(b'\n')?;
-        self.lines.push(Blob::from_vec(line))
+        Ok(Blob::from_vec(line))
+    }
+
+    // The choices of the path that is whole.
+    fn label(&self, alloc: Global) -> Result<Blob, NoMemory>
+        ensures { IfOk result (λ label. label ≡ behind_separator self.now.choices.items (codes "-")) }
+    {
+        Blob::from_slice(alloc, behind_separator(self.choices.as_slice(), b"-"))
     }
 }
 

@@ -2,7 +2,7 @@
 
 ghost use Rattle.std.specs.Prelude.{◌≡◌, IfOk};
 ghost use Rattle.std.specs.String.{string_bytes};
-ghost use Rattle.tpol_lines.specs.Runs.{chosen_line, end_line, end_text, nobranch_line, over_line, stage_text};
+ghost use Rattle.tpol_lines.specs.Runs.{blind_line, chosen_line, end_line, end_text, nobranch_line, over_line, stage_text};
 
 use crate::hexadecimal::{bytes_text, code_text};
 use crate::path_label::label;
@@ -31,6 +31,13 @@ pub fn nobranch_line(alloc: Global, run: u16) -> Result<Text, NoMemory>
     ensures { IfOk result (λ line. line ≡ nobranch_line run) }
 {
     Ok(Text::from_string(format!(in alloc; "run {run} nobranch")?))
+}
+
+/// The line of a run that begins without seeing the machine. It fails only where memory ran out.
+pub fn blind_line(alloc: Global, run: u16) -> Result<Text, NoMemory>
+    ensures { IfOk result (λ line. line ≡ blind_line run) }
+{
+    Ok(Text::from_string(format!(in alloc; "run {run} blind")?))
 }
 
 /// The line of a run's end: the bytes that the goal gave (`-` for none), or at which command it failed, with
@@ -62,7 +69,8 @@ fn end_text(alloc: Global, end: &End) -> Result<String, NoMemory>
     }
 }
 
-fn stage_text(alloc: Global, stage: &Stage) -> Result<String, NoMemory>
+// The command that a reply is about.
+pub(crate) fn stage_text(alloc: Global, stage: &Stage) -> Result<String, NoMemory>
     ensures { IfOk result (λ text. string_bytes text ≡ stage_text stage.now) }
 {
     match stage {
@@ -70,6 +78,7 @@ fn stage_text(alloc: Global, stage: &Stage) -> Result<String, NoMemory>
         Stage::Verify(place) => Ok(format!(in alloc; "verify {place}")?),
         Stage::Move(place) => Ok(format!(in alloc; "move {place}")?),
         Stage::Goal => Ok(String::from_str(alloc, "goal")?),
+        Stage::Restart => Ok(String::from_str(alloc, "restart")?),
     }
 }
 

@@ -9,14 +9,21 @@ use std::alloc::Global;
 use tpol_base::{Blob, Check, NoMemory, Rc, Text};
 use tpol_choose::{Block, Why};
 use tpol_digest::check_paths;
-use tpol_driver::{End, Stage};
-use tpol_lines::{block_line, end_line, opening_line};
+use tpol_driver::{End, Stage, Tried};
+use tpol_lines::{blind_line, block_line, end_line, opening_line, tried_line};
 use tpol_trace::Opening;
 use tpol_tree::{Approvals, Assertion, Closed, ClosedElement, ClosedElements};
 
 fn reads(line: Result<Text, NoMemory>, wanted: &str) -> bool {
     match line {
         Ok(text) => text.as_str() == wanted,
+        Err(_) => false,
+    }
+}
+
+fn shows(line: Result<Blob, NoMemory>, wanted: &str) -> bool {
+    match line {
+        Ok(bytes) => bytes.as_slice() == wanted.as_bytes(),
         Err(_) => false,
     }
 }
@@ -39,6 +46,55 @@ fn ends_of_runs(rt: HostRuntime) {
     for (end, wanted) in &ends {
         assert!(rt; reads(end_line(rt.alloc(), 7, end), *wanted));
     }
+}
+
+#[test]
+fn paths_of_blind_runs(rt: HostRuntime) {
+    let paths = [
+        (1, Tried::Skipped, "block 1 - skipped"),
+        (
+            1,
+            Tried::Refused {
+                at: Stage::Move(2),
+                rc: Rc { code: 0x1c4 },
+            },
+            "block 1 - move 2 000001c4",
+        ),
+        (
+            64,
+            Tried::Refused {
+                at: Stage::Verify(12),
+                rc: Rc { code: 0x2db },
+            },
+            "block 64 - verify 12 000002db",
+        ),
+        (
+            3,
+            Tried::Refused {
+                at: Stage::Goal,
+                rc: Rc { code: 0x9a3 },
+            },
+            "block 3 - goal 000009a3",
+        ),
+    ];
+    for (position, tried, wanted) in &paths {
+        assert!(rt; reads(tried_line(rt.alloc(), *position, &[], tried), *wanted));
+    }
+}
+
+#[test]
+fn blind_runs(rt: HostRuntime) {
+    let denied = End::Denied {
+        at: Stage::Restart,
+        rc: Rc { code: 0x910 },
+    };
+    assert!(rt; reads(blind_line(rt.alloc(), 3), "run 3 blind"));
+    assert!(rt;
+        reads(
+            end_line(rt.alloc(), 3, &denied),
+            "run 3 denied restart 00000910"
+        )
+    );
 }
 
 // A policy of a PolicyAuthValue.
@@ -108,6 +164,6 @@ fn checks_of_a_goal(rt: HostRuntime) {
             at: 0,
             why: Why::Deferred(check),
         };
-        assert!(rt; reads(block_line(rt.alloc(), 3, &[], &block), wanted));
+        assert!(rt; shows(block_line(rt.alloc(), 3, b"-", &block), wanted));
     }
 }

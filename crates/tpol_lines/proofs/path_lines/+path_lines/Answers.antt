@@ -74,16 +74,16 @@ write_approvals-write_ahead-requires t c =
 
 pub write_ahead-returns-in-Nothing : goal.write_ahead-returns-in-Nothing
 write_ahead-returns-in-Nothing t c =
-    rw c.in-Nothing.is (on_ok_weaker c.write_line.result (λ e. line_written c.args.pen.now c.write_line.new.self e c.write_line.ensures.choices c.write_line.ensures.kinds) c.write_line.ensures.lines)
+    rw c.in-Nothing.is (on_ok_weaker c.write.result (λ e. line_written c.args.shelf.now.form c.args.pen.now c.write.new.self e c.write.ensures.choices c.write.ensures.kinds) c.write.ensures.lines)
 
 pub write_ahead-returns-in_ok-write_elements-in-After : goal.write_ahead-returns-in_ok-write_elements-in-After
 write_ahead-returns-in_ok-write_elements-in-After t c =
     let documents = c.args.shelf.now.approvals.now in
     let after : Pen = record { lines = c.write_elements.new.pen.lines; choices = c.write_elements.new.pen.choices; kinds = c.truncate.new.self } in
-    rw c.in-After.is (kind_written c.args.pen.now c.push_kind.new.self c.write_elements.new.pen after c.in-After.kind.now (both (element_list_texts documents c.in-After.levels c.in-After.rest.now) (texts_ahead documents c.in-After.ahead.now)) c.len-kept.result c.in_ok-push_kind-in-After.ensures.lines c.in_ok-push_kind-in-After.ensures.choices c.in_ok-push_kind-in-After.ensures.kinds c.in_ok-write_elements-in-After.ensures (c.len-kept.ensures ∙ c.args.pen.now.kinds.ok.0) refl refl c.truncate.ensures.items)
+    rw c.in-After.is (kind_written c.args.shelf.now.form c.args.pen.now c.push_kind.new.self c.write_elements.new.pen after c.in-After.kind.now (both (element_list_texts documents c.in-After.levels c.in-After.rest.now) (texts_ahead documents c.in-After.ahead.now)) c.len-kept.result c.in_ok-push_kind-in-After.ensures.lines c.in_ok-push_kind-in-After.ensures.choices c.in_ok-push_kind-in-After.ensures.kinds c.in_ok-write_elements-in-After.ensures (c.len-kept.ensures ∙ c.args.pen.now.kinds.ok.0) refl refl c.truncate.ensures.items)
 
 pub write_branches-returns-in-End : goal.write_branches-returns-in-End
-write_branches-returns-in-End t c = rw c.in-End.is (writes_nothing c.args.pen.now)
+write_branches-returns-in-End t c = rw c.in-End.is (writes_nothing c.args.shelf.now.form c.args.pen.now)
 
 pub write_branches-returns-in_ok-write_elements-in-More : goal.write_branches-returns-in_ok-write_elements-in-More
 write_branches-returns-in_ok-write_elements-in-More t c =
@@ -95,12 +95,12 @@ write_branches-returns-in_ok-write_elements-in-More t c =
     let middle : Pen = record { lines = c.write_elements.new.pen.lines; choices = c.truncate.new.self; kinds = c.write_elements.new.pen.kinds } in
     let name = c.as_str.ensures ∙ ap (λ (b : ClosedBranch). b.name) c.deref.ensures in
     let pushed = c.in_ok-push_name-in-More.ensures.choices ∙ ap (λ n. c.args.pen.now.choices.items ++ 47 ∷ quoted n) name in
-    let inner = subst (λ (b : ClosedBranch). Writes c.push_name.new.self c.write_elements.new.pen (both (element_list_texts documents levels b.policy.elements) ahead)) c.deref-in-More.ensures c.in_ok-write_elements-in-More.ensures in
-    let first = choice_written c.args.pen.now c.push_name.new.self c.write_elements.new.pen middle (quoted branch.name) (both (element_list_texts documents levels branch.policy.elements) ahead) c.len-kept.result c.in_ok-push_name-in-More.ensures.lines c.in_ok-push_name-in-More.ensures.kinds pushed inner (c.len-kept.ensures ∙ c.args.pen.now.choices.ok.0) refl refl c.truncate.ensures.items in
+    let inner = subst (λ (b : ClosedBranch). Writes c.args.shelf.now.form c.push_name.new.self c.write_elements.new.pen (both (element_list_texts documents levels b.policy.elements) ahead)) c.deref-in-More.ensures c.in_ok-write_elements-in-More.ensures in
+    let first = choice_written c.args.shelf.now.form c.args.pen.now c.push_name.new.self c.write_elements.new.pen middle (quoted branch.name) (both (element_list_texts documents levels branch.policy.elements) ahead) c.len-kept.result c.in_ok-push_name-in-More.ensures.lines c.in_ok-push_name-in-More.ensures.kinds pushed inner (c.len-kept.ensures ∙ c.args.pen.now.choices.ok.0) refl refl c.truncate.ensures.items in
     let firsts = map (join (of_choice (quoted branch.name))) (element_list_texts documents levels branch.policy.elements) in
     let same : map (join (of_choice (quoted branch.name))) (both (element_list_texts documents levels branch.policy.elements) ahead) ++ both (branch_texts documents levels rest) ahead ≡ both (firsts ++ branch_texts documents levels rest) ahead =
     ap (λ l. l ++ both (branch_texts documents levels rest) ahead) (sym (both-join texts (of_choice (quoted branch.name)) (element_list_texts documents levels branch.policy.elements) ahead)) ∙ sym (both-append texts firsts (branch_texts documents levels rest) ahead) in
-    rw c.in-More.is (on_ok_weaker c.write_branches.result (λ h. subst (Writes c.args.pen.now c.write_branches.new.pen) same (writes_then c.args.pen.now middle c.write_branches.new.pen (map (join (of_choice (quoted branch.name))) (both (element_list_texts documents levels branch.policy.elements) ahead)) (both (branch_texts documents levels rest) ahead) first (subst (λ r. Writes middle c.write_branches.new.pen (both (branch_texts documents levels r) ahead)) c.deref-in-More-2.ensures h))) c.write_branches.ensures)
+    rw c.in-More.is (on_ok_weaker c.write_branches.result (λ h. subst (Writes c.args.shelf.now.form c.args.pen.now c.write_branches.new.pen) same (writes_then c.args.shelf.now.form c.args.pen.now middle c.write_branches.new.pen (map (join (of_choice (quoted branch.name))) (both (element_list_texts documents levels branch.policy.elements) ahead)) (both (branch_texts documents levels rest) ahead) first (subst (λ r. Writes c.args.shelf.now.form middle c.write_branches.new.pen (both (branch_texts documents levels r) ahead)) c.deref-in-More-2.ensures h))) c.write_branches.ensures)
 
 pub write_element-returns-in-Assert : goal.write_element-returns-in-Assert
 write_element-returns-in-Assert t c =
@@ -112,7 +112,7 @@ write_element-returns-in-Assert t c =
     let pushed = c.in_ok-push_kind-in-Assert.ensures.kinds ∙ ap (λ k. c.args.pen.now.kinds.items ++ 44 ∷ k) c.assertion_kind.ensures in
     let same : map (join (of_kind kind)) behind ≡ both (element_texts documents levels c.args.element.now) behind =
     sym (both-one texts (of_kind kind) behind) ∙ ap (λ l. both l behind) (sym (of_assertion texts documents levels c.in-Assert.assertion)) ∙ ap (λ e. both (element_texts documents levels e) behind) (sym c.in-Assert.is) in
-    subst (Writes c.args.pen.now after) same (kind_written c.args.pen.now c.push_kind.new.self c.write_elements.new.pen after kind behind c.len-kept.result c.in_ok-push_kind-in-Assert.ensures.lines c.in_ok-push_kind-in-Assert.ensures.choices pushed c.in_ok-write_elements-in-Assert.ensures (c.len-kept.ensures ∙ c.args.pen.now.kinds.ok.0) refl refl c.truncate.ensures.items)
+    subst (Writes c.args.shelf.now.form c.args.pen.now after) same (kind_written c.args.shelf.now.form c.args.pen.now c.push_kind.new.self c.write_elements.new.pen after kind behind c.len-kept.result c.in_ok-push_kind-in-Assert.ensures.lines c.in_ok-push_kind-in-Assert.ensures.choices pushed c.in_ok-write_elements-in-Assert.ensures (c.len-kept.ensures ∙ c.args.pen.now.kinds.ok.0) refl refl c.truncate.ensures.items)
 
 pub write_element-returns-in-Or : goal.write_element-returns-in-Or
 write_element-returns-in-Or t c =
@@ -122,7 +122,7 @@ write_element-returns-in-Or t c =
     let inner = branch_texts documents levels c.in-Or.branches in
     let same : both inner (map (join (of_kind (codes "Or"))) behind) ≡ both (element_texts documents levels c.args.element.now) behind =
     sym (both-closed texts (of_kind (codes "Or")) inner behind) ∙ ap (λ l. both l behind) (sym (of_or texts documents levels c.in-Or.branches)) ∙ ap (λ e. both (element_texts documents levels e) behind) (sym c.in-Or.is) in
-    on_ok_weaker c.write_branches.result (λ g. subst (Writes c.args.pen.now c.write_branches.new.pen) same g) c.write_branches.ensures
+    on_ok_weaker c.write_branches.result (λ g. subst (Writes c.args.shelf.now.form c.args.pen.now c.write_branches.new.pen) same g) c.write_branches.ensures
 
 pub write_element-returns : goal.write_element-returns
 write_element-returns t c =
@@ -143,12 +143,12 @@ write_element-returns t c =
           ∙ sym (both-closed texts (of_kind (codes "ApproveNv")) inner behind)
           ∙ ap (λ l. both l behind) (ap (λ e. map (λ t. join t (of_kind (codes "ApproveNv"))) (approval_texts documents levels e)) w.in-AuthorizeNv.is ∙ sym (of_index texts documents levels w.in-AuthorizeNv.index) ∙ ap (element_texts documents levels) (sym w.in-AuthorizeNv.is))
     ] in
-    on_ok_weaker c.write_approvals.result (λ g. subst (Writes c.args.pen.now c.write_approvals.new.pen) closed g) c.write_approvals.ensures
+    on_ok_weaker c.write_approvals.result (λ g. subst (Writes c.args.shelf.now.form c.args.pen.now c.write_approvals.new.pen) closed g) c.write_approvals.ensures
 
 pub write_elements-returns-in-End : goal.write_elements-returns-in-End
 write_elements-returns-in-End t c =
     let ahead = texts_ahead c.args.shelf.now.approvals.now c.args.ahead.now in
-    rw c.in-End.is (on_ok_weaker c.write_ahead.result (λ g. subst (Writes c.args.pen.now c.write_ahead.new.pen) (sym (both-first_none texts ahead)) g) c.write_ahead.ensures)
+    rw c.in-End.is (on_ok_weaker c.write_ahead.result (λ g. subst (Writes c.args.shelf.now.form c.args.pen.now c.write_ahead.new.pen) (sym (both-first_none texts ahead)) g) c.write_ahead.ensures)
 
 pub write_elements-returns-in-More : goal.write_elements-returns-in-More
 write_elements-returns-in-More t c =
@@ -163,12 +163,12 @@ write_elements-returns-in-More t c =
     ∙ sym (both_assoc texts (element_texts documents levels element) (element_list_texts documents levels rest) ahead)
     ∙ ap (λ l. both l ahead) (sym (of_more texts documents levels element rest))
     ∙ ap (λ e. both (element_list_texts documents levels e) ahead) (sym c.in-More.is) in
-    on_ok_weaker c.write_element.result (λ g. subst (Writes c.args.pen.now c.write_element.new.pen) same g) c.write_element.ensures
+    on_ok_weaker c.write_element.result (λ g. subst (Writes c.args.shelf.now.form c.args.pen.now c.write_element.new.pen) same g) c.write_element.ensures
 
 -- ---- the documents
 
 pub write_approvals-loop-document-init : goal.write_approvals-loop-document-init
-write_approvals-loop-document-init t c = writes_nothing c.args.pen.now
+write_approvals-loop-document-init t c = writes_nothing c.args.shelf.now.form c.args.pen.now
 
 pub write_approvals-loop-document-preserved : goal.write_approvals-loop-document-preserved
 write_approvals-loop-document-preserved t c =
@@ -188,18 +188,18 @@ write_approvals-loop-document-preserved t c =
           let kept = c.len-kept.ensures ∙ c.args.pen.now.choices.ok.0 ∙ ap length (sym c.loop-document.invariant.choices) in
           let pushed = w.in_ok-push_name.ensures.choices ∙ ap (λ n. c.loop-document.pen.choices.items ++ 47 ∷ 64 ∷ quoted n) w.as_str.ensures in
           let after : Pen = record { lines = w.write_elements.new.pen.lines; choices = w.truncate.new.self; kinds = w.write_elements.new.pen.kinds } in
-          let wrote = choice_written c.loop-document.pen w.push_name.new.self w.write_elements.new.pen after (64 ∷ name) (both inner ahead) c.len-kept.result w.in_ok-push_name.ensures.lines w.in_ok-push_name.ensures.kinds pushed w.in_ok-write_elements.ensures kept refl refl w.truncate.ensures.items in
+          let wrote = choice_written c.args.shelf.now.form c.loop-document.pen w.push_name.new.self w.write_elements.new.pen after (64 ∷ name) (both inner ahead) c.len-kept.result w.in_ok-push_name.ensures.lines w.in_ok-push_name.ensures.kinds pushed w.in_ok-write_elements.ensures kept refl refl w.truncate.ensures.items in
           let entered = document_entered texts documents levels element document level (sym c.accepts.ensures ∙ w.if-accepts.true) in
           let same : both done ahead ++ map (join (of_choice (64 ∷ name))) (both inner ahead) ≡ both (document_texts documents levels element (take (i + 1) documents)) ahead =
           ap (λ l. both done ahead ++ l) (sym (both-join texts (of_choice (64 ∷ name)) inner ahead) ∙ ap (λ l. both l ahead) (sym entered))
           ∙ sym (both-append texts done (document_images texts_of join step_texts documents levels element document) ahead)
           ∙ ap (λ l. both l ahead) (sym more) in
-          subst (λ p. Writes c.args.pen.now p (both (document_texts documents levels element (take (i + 1) documents)) ahead)) (sym w.pen-is) (subst (Writes c.args.pen.now after) same (writes_then c.args.pen.now c.loop-document.pen after (both done ahead) (map (join (of_choice (64 ∷ name))) (both inner ahead)) c.loop-document.invariant wrote))
+          subst (λ p. Writes c.args.shelf.now.form c.args.pen.now p (both (document_texts documents levels element (take (i + 1) documents)) ahead)) (sym w.pen-is) (subst (Writes c.args.shelf.now.form c.args.pen.now after) same (writes_then c.args.shelf.now.form c.args.pen.now c.loop-document.pen after (both done ahead) (map (join (of_choice (64 ∷ name))) (both inner ahead)) c.loop-document.invariant wrote))
       | write_approvals-else-accepts w ↦
           let passed = document_passed texts documents levels element document (sym c.accepts.ensures ∙ w.if-accepts.false) in
           let same : both done ahead ≡ both (document_texts documents levels element (take (i + 1) documents)) ahead =
           ap (λ l. both l ahead) (sym (append-nil done) ∙ ap (λ l. done ++ l) (sym passed) ∙ sym more) in
-          subst (λ p. Writes c.args.pen.now p (both (document_texts documents levels element (take (i + 1) documents)) ahead)) (sym w.pen-is) (subst (Writes c.args.pen.now c.loop-document.pen) same c.loop-document.invariant)
+          subst (λ p. Writes c.args.shelf.now.form c.args.pen.now p (both (document_texts documents levels element (take (i + 1) documents)) ahead)) (sym w.pen-is) (subst (Writes c.args.shelf.now.form c.args.pen.now c.loop-document.pen) same c.loop-document.invariant)
     ]
 
 pub write_approvals-returns : goal.write_approvals-returns
@@ -210,14 +210,14 @@ write_approvals-returns t c =
     let ahead = texts_ahead documents c.args.ahead.now in
     let whole = document_texts documents levels element documents in
     let before = c.if-levels-gt0.pen in
-    let all : Writes c.args.pen.now before (both whole ahead) =
+    let all : Writes c.args.shelf.now.form c.args.pen.now before (both whole ahead) =
     elim c.if-levels-gt0.branch [
-      | write_approvals-then-levels-gt0+else-loop-document-test w ↦ subst (λ p. Writes c.args.pen.now p (both whole ahead)) (sym w.pen-is) (subst (λ l. Writes c.args.pen.now w.loop-document.pen (both (document_texts documents levels element l) ahead)) (take_all w.loop-document.document-index documents w.loop-document-test.false) w.loop-document.invariant)
-      | write_approvals-else-levels-gt0 w ↦ subst (λ p. Writes c.args.pen.now p (both whole ahead)) (sym w.pen-is) (subst (Writes c.args.pen.now c.args.pen.now) (ap (λ l. both l ahead) (sym (no_documents texts documents levels element w.if-levels-gt0.false))) (writes_nothing c.args.pen.now))
+      | write_approvals-then-levels-gt0+else-loop-document-test w ↦ subst (λ p. Writes c.args.shelf.now.form c.args.pen.now p (both whole ahead)) (sym w.pen-is) (subst (λ l. Writes c.args.shelf.now.form c.args.pen.now w.loop-document.pen (both (document_texts documents levels element l) ahead)) (take_all w.loop-document.document-index documents w.loop-document-test.false) w.loop-document.invariant)
+      | write_approvals-else-levels-gt0 w ↦ subst (λ p. Writes c.args.shelf.now.form c.args.pen.now p (both whole ahead)) (sym w.pen-is) (subst (Writes c.args.shelf.now.form c.args.pen.now c.args.pen.now) (ap (λ l. both l ahead) (sym (no_documents texts documents levels element w.if-levels-gt0.false))) (writes_nothing c.args.shelf.now.form c.args.pen.now))
     ] in
     let kept = c.len-kept.ensures ∙ c.args.pen.now.choices.ok.0 ∙ ap length (sym all.choices) in
     let after : Pen = record { lines = c.write_ahead.new.pen.lines; choices = c.truncate-2.new.self; kinds = c.write_ahead.new.pen.kinds } in
-    let outside = choice_written before c.push_outside.new.self c.write_ahead.new.pen after (codes "@*") ahead c.len-kept.result c.in_ok-push_outside.ensures.lines c.in_ok-push_outside.ensures.kinds c.in_ok-push_outside.ensures.choices c.in_ok-write_ahead.ensures kept refl refl c.truncate-2.ensures.items in
+    let outside = choice_written c.args.shelf.now.form before c.push_outside.new.self c.write_ahead.new.pen after (codes "@*") ahead c.len-kept.result c.in_ok-push_outside.ensures.lines c.in_ok-push_outside.ensures.kinds c.in_ok-push_outside.ensures.choices c.in_ok-write_ahead.ensures kept refl refl c.truncate-2.ensures.items in
     let same : both whole ahead ++ map (join (of_choice (codes "@*"))) ahead ≡ both (approval_texts documents levels element) ahead =
     ap (λ l. both whole ahead ++ l) (sym (both-one texts (of_choice (codes "@*")) ahead)) ∙ sym (both-append texts whole (of_choice (codes "@*") ∷ []) ahead) in
-    subst (Writes c.args.pen.now after) same (writes_then c.args.pen.now before after (both whole ahead) (map (join (of_choice (codes "@*"))) ahead) all outside)
+    subst (Writes c.args.shelf.now.form c.args.pen.now after) same (writes_then c.args.shelf.now.form c.args.pen.now before after (both whole ahead) (map (join (of_choice (codes "@*"))) ahead) all outside)

@@ -25,4 +25,4 @@ decreases-write_ahead l = load l.shelf.now.approvals.now l.ahead.now
 
 abbrev pub invariant-write_approvals-loop-document : goal.invariant-write_approvals-loop-document
 invariant-write_approvals-loop-document l =
-    Writes l.initial.pen l.pen (both (document_texts l.shelf.approvals.now l.levels l.element (take l.document-index l.shelf.approvals.now)) (texts_ahead l.shelf.approvals.now l.ahead))
+    Writes l.shelf.form l.initial.pen l.pen (both (document_texts l.shelf.approvals.now l.levels l.element (take l.document-index l.shelf.approvals.now)) (texts_ahead l.shelf.approvals.now l.ahead))

@@ -1,11 +1,9 @@
-use Rattle.std.proofs.Common.{[], ◌∷◌, subst}
+use Rattle.std.proofs.Common.{◌∙◌}
+use Rattle.std.proofs.lemmas.Result.{IfOk-weaker}
 use Rattle.tpol_digest.specs.Paths.{paths_of}
-use Rattle.tpol_lines.specs.Texts.{no_text, both, element_list_texts, Writes}
-use Rattle.tpol_lines.proofs.TextLaws.{whole_lines}
+use Rattle.tpol_lines.proofs.TextLaws.{lines_of_paths}
 use Rattle.tpol_lines.proofs.path_lines.write_paths.Goals as goal
 
 pub returns : goal.returns
 returns c =
-    let policy = c.args.policy.now in
-    let wrote = subst (λ l. Writes c.new-pen.result c.write_elements.new.pen (both (element_list_texts l 4 policy.elements) (no_text ∷ []))) c.as_slice.ensures c.in_ok-write_elements.ensures in
-    whole_lines c.new-pen.result c.write_elements.new.pen (paths_of policy c.args.approvals.now) c.new-pen.ensures.lines c.new-pen.ensures.choices c.new-pen.ensures.kinds wrote
+    IfOk-weaker c.write_ways.result _ _ (λ lines e. e ∙ lines_of_paths 1 (paths_of c.args.policy.now c.args.approvals.now)) c.write_ways.ensures

@@ -1,0 +1,9 @@
+use Rattle.std.proofs.Common.{◌∙◌}
+use Rattle.std.proofs.lemmas.Result.{IfOk-weaker}
+use Rattle.tpol_digest.specs.Paths.{paths_of}
+use Rattle.tpol_lines.proofs.TextLaws.{labels_of_paths}
+use Rattle.tpol_lines.proofs.path_lines.labels.Goals as goal
+
+pub returns : goal.returns
+returns c =
+    IfOk-weaker c.write_ways.result _ _ (λ labels e. e ∙ labels_of_paths 1 (paths_of c.args.policy.now c.args.approvals.now)) c.write_ways.ensures
