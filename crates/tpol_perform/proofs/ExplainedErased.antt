@@ -1,9 +1,11 @@
 -- A scene is explained by the lines of its performance, whichever memory its policies lie in.
-use Rattle.std.proofs.Common.{◌≡◌, ◌∙◌, ap, refl, sym, subst, ℕ, Bool, true, List, map, find, reverse, Option, Some, None, IfSome, IsSome, Ok, Err}
+use Rattle.std.proofs.Common.{◌≡◌, ◌≤◌, ◌∙◌, ap, refl, sym, subst, ℕ, true, List, length, map, find, reverse, Option, Some, None, IfSome, IsSome, Ok, Err}
 use Rattle.std.specs.List.{AllByRecursion}
 use Rattle.std.specs.Prelude.{All}
 use Rattle.std.specs.Option.{option_map}
 use Rattle.tpol_base.specs.declared.document.Document.{Document}
+use Rattle.tpol_cert.proofs.ChoicesErased.{certified_erased}
+use Rattle.tpol_cert.proofs.Fitting.{paths_have_certificates}
 use Rattle.tpol_digest.proofs.Erasures.{paths_ignore_boxes}
 use Rattle.tpol_digest.specs.Digest.{policy_digest}
 use Rattle.tpol_digest.specs.Paths.{paths_of}
@@ -22,6 +24,7 @@ use Rattle.tpol_prepare.specs.declared.entities.CompiledEntity.{CompiledEntity}
 use Rattle.tpol_steps.specs.declared.answer.Verdict.TheVariants.{Done}
 use Rattle.tpol_steps.specs.declared.halt.Halt.{Halt}
 use Rattle.tpol_steps.specs.declared.halt.Halt.TheVariants.{Refused, ReadFailed, ShelfFailed, NoMemory}
+use Rattle.tpol_prepare.specs.declared.manner.Manner.{Manner}
 use Rattle.tpol_prepare.specs.declared.prepared.PreparedScene.{PreparedScene}
 use Rattle.tpol_prepare.specs.declared.scenario.Scenario.{Scenario}
 use Rattle.tpol_prepare.specs.declared.scenario.StagedScene.{StagedScene}
@@ -29,6 +32,7 @@ use Rattle.tpol_prepare.specs.Entities.{erased_entity}
 use Rattle.tpol_perform.specs.Explained.{IsExplained, IsExplainedScene}
 use Rattle.tpol_perform.specs.Performance.{PerformanceState}
 use Rattle.tpol_prepare.specs.Prepared.{prepared_step}
+use Rattle.tpol_prepare.specs.Manner.{explains}
 use Rattle.tpol_prepare.specs.Scenario.{HasPolicyAt, HavePolicies, IsScenarioOf, erased_scenario, erased_staged, is_entity, limited_step, policy_of_entity, scenario_with, staged_by, staged_step, staged_with}
 use Rattle.tpol_steps.specs.SceneStep.{scene_of_bytes}
 use Rattle.tpol_perform.specs.Script.{performance_answer, performed}
@@ -54,6 +58,7 @@ use Rattle.tpol_tree.specs.declared.facts.Fact.{Fact}
 use Rattle.tpol_tree.specs.ClosedErased.{erased, erased_document}
 use Rattle.tpol_tree.specs.declared.closed.Closed.{Closed}
 use Rattle.tpol_tree.specs.declared.path.ApprovedDoc.{ApprovedDoc}
+use Rattle.tpol_tree.specs.declared.path.Path.{Path}
 
 -- ---- facts that agree open by no dead path
 
@@ -85,6 +90,7 @@ openable setup scenario is entities approvals handle = by (policy_of_entity scen
         record {
           opens = λ facts sound digest. facts_open closed scenario.approvals facts walkable.well_formed sound digest;
           digests = paths_have_digests closed scenario.approvals walkable.well_formed;
+          certified = λ position. paths_have_certificates closed scenario.approvals position walkable.branches walkable.within;
           alive = λ facts agree. alive closed scenario.approvals walkable.branches (record { policy_itself = policy_has HasClosedBounds scenario.entities handle closed entities e; documents = approvals }) facts agree;
         }
 
@@ -114,68 +120,74 @@ openable_erased scenario h handle =
     by (Some c) can = record {
       opens = λ facts sound digest. subst (λ o. IsSome o) (sym (opening_of_erased c scenario.approvals facts)) (can.opens facts sound (digest ∙ policy_digest_erased c));
       digests = subst (AllByRecursion HasDigests) (sym (paths_ignore_boxes c scenario.approvals)) can.digests;
+      certified = λ position counted inside.
+          certified_erased c scenario.approvals position (can.certified position counted (subst (λ (paths : List Path). position ≤ length paths) (paths_ignore_boxes c scenario.approvals) inside));
       alive = λ facts agree.
           subst (λ o. IfSome o (NamesNoDead (paths_of (erased c) (map erased_document scenario.approvals)))) (sym (opening_of_erased c scenario.approvals facts))
           (subst (λ paths. IfSome (opening_of c scenario.approvals facts) (NamesNoDead paths)) (sym (paths_ignore_boxes c scenario.approvals)) (can.alive facts agree));
     }
 
-explained_erased : (staged : StagedScene) → staged.scenario.explains ≡ true → IsStaged staged → IsExplained (erased_staged staged) (performed staged).lines
-explained_erased staged explains is =
+explained_erased : (staged : StagedScene) → explains staged.scenario.manner ≡ true → IsStaged staged → IsExplained (erased_staged staged) (performed staged).lines
+explained_erased staged tells is =
     subst (λ (p : PerformanceState). IsExplained (erased_staged staged) p.lines) (performed_erased staged)
-    (performed_explains (erased_staged staged) explains (have_erased staged.setup staged.scenario.entities is.scenario.policies)
+    (performed_explains (erased_staged staged) tells (have_erased staged.setup staged.scenario.entities is.scenario.policies)
     (openable_erased staged.scenario (openable staged.setup staged.scenario is.scenario is.entities is.approvals)) is.setup.pcrs)
 
--- ---- what is staged for `explain` tells openings
+-- ---- what is staged is carried out in the manner that it was staged for
 
-through : {A : Type 0} (first : Step A) (next : A → Step StagedScene) (staged : StagedScene) → ((x : A) → next x ≡ Ok staged → staged.scenario.explains ≡ true) → (first >>= next) ≡ Ok staged → staged.scenario.explains ≡ true
-through (Ok x) next staged h e = h x e
-through (Err answer) next staged h e = absurd cc
+module _ (manner : Manner) where
+  abbrev HasManner : StagedScene → Type 0
+  HasManner staged = staged.scenario.manner ≡ manner
 
-explains_by : (scene : Scene) (prepared : PreparedScene) (approvals : List ApprovedDoc) (staged : StagedScene) → staged_by true scene prepared approvals ≡ Ok staged → staged.scenario.explains ≡ true
-unfolding staged_by
-explains_by scene prepared approvals staged =
-    through (limited_step prepared approvals) (λ within. Ok (scenario_with true scene prepared approvals)) staged
-    (λ within e. let same : scenario_with true scene prepared approvals ≡ staged = cc in subst (λ (s : StagedScene). s.scenario.explains ≡ true) same refl)
+  through : {A : Type 0} (first : Step A) (next : A → Step StagedScene) (staged : StagedScene) → ((x : A) → next x ≡ Ok staged → HasManner staged) → (first >>= next) ≡ Ok staged → HasManner staged
+  through (Ok x) next staged h e = h x e
+  through (Err answer) next staged h e = absurd cc
 
-explains_with : (scene : Scene) (store : List NamedPolicy) (staged : StagedScene) → staged_with true scene store ≡ Ok staged → staged.scenario.explains ≡ true
-unfolding staged_with
-explains_with scene store staged =
-    through (prepared_step store scene) (λ prepared. staged_by true scene prepared (approved_documents store (Some prepared.sight))) staged
-    (λ prepared. explains_by scene prepared (approved_documents store (Some prepared.sight)) staged)
+  manner_by : (scene : Scene) (prepared : PreparedScene) (approvals : List ApprovedDoc) (staged : StagedScene) → staged_by manner scene prepared approvals ≡ Ok staged → HasManner staged
+  unfolding staged_by
+  manner_by scene prepared approvals staged =
+      through (limited_step prepared approvals) (λ within. Ok (scenario_with manner scene prepared approvals)) staged
+      (λ within e. let same : scenario_with manner scene prepared approvals ≡ staged = cc in subst HasManner same refl)
 
-explains_staged : (input : List ℕ) (all : List Document) (staged : StagedScene) → staged_step true input all ≡ Ok staged → staged.scenario.explains ≡ true
-unfolding staged_step
-explains_staged input all staged =
-    through (scene_of_bytes input) (λ scene. store_step all >>= λ store. staged_with true scene store) staged
-    (λ scene. through (store_step all) (λ store. staged_with true scene store) staged (λ store. explains_with scene store staged))
+  manner_with : (scene : Scene) (store : List NamedPolicy) (staged : StagedScene) → staged_with manner scene store ≡ Ok staged → HasManner staged
+  unfolding staged_with
+  manner_with scene store staged =
+      through (prepared_step store scene) (λ prepared. staged_by manner scene prepared (approved_documents store (Some prepared.sight))) staged
+      (λ prepared. manner_by scene prepared (approved_documents store (Some prepared.sight)) staged)
 
--- ---- what `explain` answers
+  manner_staged : (input : List ℕ) (all : List Document) (staged : StagedScene) → staged_step manner input all ≡ Ok staged → HasManner staged
+  unfolding staged_step
+  manner_staged input all staged =
+      through (scene_of_bytes input) (λ scene. store_step all >>= λ store. staged_with manner scene store) staged
+      (λ scene. through (store_step all) (λ store. staged_with manner scene store) staged (λ store. manner_with scene store staged))
+
+-- ---- what is answered where openings are told
 
 -- a step has one value
 one_value : (step : Step StagedScene) (a b : StagedScene) → step ≡ Ok a → step ≡ Ok b → a ≡ b
 one_value step a b h k = cc
 
 -- of a scene that was staged
-pub staged_explained : (explains : Bool) (documents : Option (List Document)) (input : List ℕ) (staged : StagedScene) (answer : Answer)
-    → explains ≡ true → IfSome documents (λ all. Answers erased_staged (staged_step explains input all) (Ok staged)) → IsStaged staged → answer ≡ performance_answer staged
-    → IfSome documents (λ all. IsExplainedScene input all answer.lines)
-staged_explained explains None input staged answer tells answers is same = tt
-staged_explained explains (Some all) input staged answer tells answers is same =
-    let step : staged_step true input all ≡ Ok (erased_staged staged) = subst (λ b. staged_step b input all ≡ Ok (erased_staged staged)) tells answers in
-    let told : IsExplained (erased_staged staged) answer.lines =
-    subst (λ (a : Answer). IsExplained (erased_staged staged) a.lines) (sym same) (explained_erased staged (explains_staged input all (erased_staged staged) step) is) in
-    λ other e. let one : erased_staged staged ≡ other = one_value (staged_step true input all) (erased_staged staged) other step e in subst (λ (s : StagedScene). IsExplained s answer.lines) one told
+pub staged_explained : (manner : Manner) (documents : Option (List Document)) (input : List ℕ) (staged : StagedScene) (answer : Answer)
+    → explains manner ≡ true → IfSome documents (λ all. Answers erased_staged (staged_step manner input all) (Ok staged)) → IsStaged staged → answer ≡ performance_answer staged
+    → IfSome documents (λ all. IsExplainedScene manner input all answer.lines)
+staged_explained manner None input staged answer tells answers is same = tt
+staged_explained manner (Some all) input staged answer tells answers is same =
+    let told : explains staged.scenario.manner ≡ true = ap explains (manner_staged manner input all (erased_staged staged) answers) ∙ tells in
+    let explained : IsExplained (erased_staged staged) answer.lines =
+    subst (λ (a : Answer). IsExplained (erased_staged staged) a.lines) (sym same) (explained_erased staged told is) in
+    λ other e. let one : erased_staged staged ≡ other = one_value (staged_step manner input all) (erased_staged staged) other answers e in subst (λ (s : StagedScene). IsExplained s answer.lines) one explained
 
 -- and of one that was not
-pub halted_explained : (explains : Bool) (documents : Option (List Document)) (input : List ℕ) (halt : Halt)
-    → explains ≡ true → IfSome documents (λ all. Halts halt (staged_step explains input all))
-    → IfAnswered (Err halt) (λ answer. answer.verdict ≡ Done → IfSome documents (λ all. IsExplainedScene input all answer.lines))
-halted_explained explains None input (Refused answer) tells halts = λ done. tt
-halted_explained explains (Some all) input (Refused answer) tells halts =
-    λ done other e. absurd (no_value answer other (sym (subst (λ b. staged_step b input all ≡ Err answer) tells halts) ∙ e))
+pub halted_explained : (manner : Manner) (documents : Option (List Document)) (input : List ℕ) (halt : Halt)
+    → IfSome documents (λ all. Halts halt (staged_step manner input all))
+    → IfAnswered (Err halt) (λ answer. answer.verdict ≡ Done → IfSome documents (λ all. IsExplainedScene manner input all answer.lines))
+halted_explained manner None input (Refused answer) halts = λ done. tt
+halted_explained manner (Some all) input (Refused answer) halts =
+    λ done other e. absurd (no_value answer other (sym halts ∙ e))
   where
     no_value : (a : Answer) (s : StagedScene) → Err a ≡ Ok s → ⊥
     no_value a s h = cc
-halted_explained explains documents input ReadFailed tells halts = tt
-halted_explained explains documents input ShelfFailed tells halts = tt
-halted_explained explains documents input NoMemory tells halts = tt
+halted_explained manner documents input ReadFailed halts = tt
+halted_explained manner documents input ShelfFailed halts = tt
+halted_explained manner documents input NoMemory halts = tt

@@ -1,4 +1,5 @@
 pub mod AgreeingFacts
+pub mod Certified
 pub mod Chosen
 pub mod ExplainedErased
 pub mod Masks

@@ -13,7 +13,8 @@ use Rattle.tpol_base.specs.declared.handle.HandleKind.TheVariants as kinds
 use Rattle.tpol_base.specs.Handle.{kind_of_handle, rh_endorsement, rh_lockout, rh_owner}
 use Rattle.tpol_base.proofs.Digests.{same_digest}
 use Rattle.tpol_digest.specs.Digest.{digest_of_moves, policy_digest}
-use Rattle.tpol_digest.specs.Sound.{IsSound, moves_of_facts}
+use Rattle.tpol_digest.specs.Sound.{IsSound}
+use Rattle.tpol_tree.specs.Facts.{moves_of as moves_of_facts}
 use Rattle.tpol_name.specs.declared.entries.IndexEntry.{IndexEntry}
 use Rattle.tpol_name.specs.declared.entries.ObjectEntry.{ObjectEntry}
 use Rattle.tpol_name.specs.declared.setup.Setup.{Setup}

@@ -1,5 +1,6 @@
 -- A command that a policy session opened is told: by the machine's laws, and by the line behind the command's.
-use Rattle.std.proofs.Common.{◌≡◌, ◌∙◌, ap, sym, subst, ℕ, true, List, [], ◌∷◌, append_assoc, length, Option, Some, None, IfSome, IsSome}
+use Rattle.std.proofs.Common.{◌≡◌, ◌≤◌, ◌∙◌, ap, refl, sym, subst, ℕ, Bool, true, false, List, [], ◌∷◌, ◌++◌, append_assoc, length, Option, Some, None, IfSome, IsSome}
+use Rattle.std.proofs.lemmas.List.{append-nil}
 use Rattle.std.specs.List.{AllByRecursion}
 use Rattle.std.specs.Option.{option_and_then, option_map}
 use Rattle.tpm_bindings.specs.Agreement.{Agree}
@@ -25,18 +26,23 @@ use Rattle.tpm_world.specs.World.{world_of}
 use Rattle.tpol_base.specs.declared.digest.Digest32.{Digest32}
 use Rattle.tpol_digest.specs.Digest.{digest_of_moves, policy_digest}
 use Rattle.tpol_digest.specs.Paths.{paths_of}
-use Rattle.tpol_digest.specs.Sound.{IsSound, moves_of_facts}
+use Rattle.tpol_digest.specs.Sound.{IsSound}
+use Rattle.tpol_tree.specs.Facts.{moves_of as moves_of_facts}
+use Rattle.tpol_cert.specs.Laws.{HasCertificate}
+use Rattle.tpol_lines.specs.CertLine.{certificate_line}
 use Rattle.tpol_lines.specs.Events.{command_line}
 use Rattle.tpol_lines.specs.Lines.{line_of}
-use Rattle.tpol_lines.specs.OpeningLine.{opening_line}
+use Rattle.tpol_lines.specs.OpeningLine.{IsListed, opening_line}
 use Rattle.tpol_lint.specs.Opened.{NamesNoDead}
 use Rattle.tpol_name.specs.declared.setup.Setup.{Setup}
 use Rattle.tpol_prepare.specs.declared.scenario.Scenario.{Scenario}
-use Rattle.tpol_perform.specs.CommandsTold.{command_told, opening_told, policy_opened, with_opening}
-use Rattle.tpol_perform.specs.Explained.{IsJudged, IsOpened, IsPrintedBehind, IsTold}
+use Rattle.tpol_perform.specs.CommandsTold.{certificate_of_opening, command_told, opening_told, policy_opened, with_certificate, with_opening}
+use Rattle.tpol_perform.specs.Explained.{IsCertifiedBehind, IsJudged, IsOpened, IsPrintedBehind, IsTold}
 use Rattle.tpol_perform.specs.Performance.{PerformanceState, number_in}
 use Rattle.tpol_perform.specs.Meeting.{MeetsPolicy}
+use Rattle.tpol_prepare.specs.Manner.{certifies}
 use Rattle.tpol_prepare.specs.Scenario.{HavePolicies, policy_of_entity}
+use Rattle.tpol_perform.proofs.Chosen.{opening_listed}
 use Rattle.tpol_perform.proofs.OpenedMeets.{opened_meets}
 use Rattle.tpol_perform.proofs.PathPcrs.{HasDigests}
 use Rattle.tpol_perform.proofs.PcrsAtUse.{pcrs-at-use, pcrs-length}
@@ -44,6 +50,7 @@ use Rattle.tpol_perform.proofs.AgreeingFacts.{facts-agree}
 use Rattle.tpol_perform.proofs.SoundFacts.{facts-sound}
 use Rattle.tpol_trace.proofs.Meaning.{opening_means}
 use Rattle.tpol_trace.specs.declared.answer.Opening.{Opening}
+use Rattle.tpol_trace.specs.declared.answer.Opening.TheVariants.{Branch, Clash, ZeroInput}
 use Rattle.tpol_trace.specs.Openings.{opening_of}
 use Rattle.tpol_tree.specs.declared.closed.Closed.{Closed}
 use Rattle.tpol_tree.specs.declared.facts.Fact.{Fact}
@@ -53,11 +60,12 @@ use Rattle.tpol_wire.specs.declared.command.Command.{Command}
 -- ---- what is opened
 
 -- facts that are sound and give the policy's digest open it, each PolicyPCR of its paths has the digest of its values,
--- and facts that agree open it by no dead path
+-- facts that agree open it by no dead path, and each path has a certificate
 pub record IsOpenable (approvals : List ApprovedDoc) (closed : Closed) : Type 0 where
   pub opens : (facts : List Fact) → IsSound (moves_of_facts facts) → digest_of_moves (moves_of_facts facts) ≡ policy_digest closed → IsSome (opening_of closed approvals facts)
   pub digests : AllByRecursion HasDigests (paths_of closed approvals)
   pub alive : (facts : List Fact) → Agree (moves_of facts) → IfSome (opening_of closed approvals facts) (NamesNoDead (paths_of closed approvals))
+  pub certified : (position : ℕ) → 1 ≤ position → position ≤ length (paths_of closed approvals) → HasCertificate closed approvals position
 
 abbrev pub AreOpenable : Scenario → Type 0
 AreOpenable scenario = (handle : ℕ) → IfSome (policy_of_entity scenario.entities handle) (IsOpenable scenario.approvals)
@@ -88,6 +96,21 @@ module _ (setup : Setup) (past : List Event) (locality : ℕ) (buffer : List ℕ
       ∙ ap (λ (state : SessionState). Some (opened_with state.facts)) (live-view setup past session asked.state asked.has_state)))
 
 -- ---- what is printed of it
+
+pub behind_more : (first second : List ℕ) (lines more : List (List ℕ)) → IsPrintedBehind first second lines → IsPrintedBehind first second (lines ++ more)
+behind_more first second lines more h = record {
+  before = h.before;
+  after = h.after ++ more;
+  split =
+      ap (λ (l : List (List ℕ)). l ++ more) h.split
+      ∙ append_assoc h.before (line_of first ∷ line_of second ∷ h.after) more;
+}
+
+-- a certificate adds lines, if any
+with_more : (certified : Bool) (event : ℕ) (bytes : Option (List ℕ)) (q : PerformanceState) → (more : List (List ℕ)) × ((with_certificate certified event bytes q).lines ≡ q.lines ++ more)
+with_more false event bytes q = ([], sym (append-nil q.lines))
+with_more true event None q = ([], sym (append-nil q.lines))
+with_more true event (Some bytes) q = (line_of (certificate_line event bytes) ∷ [], refl)
 
 module _ (scenario : Scenario) (p : PerformanceState) (client locality : ℕ) (buffer : List ℕ) (legal : IsLegal p.setup p.past) (policies : HavePolicies p.setup scenario.entities) (openable : AreOpenable scenario) (whole : length p.setup.pcrs ≡ 24) where
   abbrev answered : Answered
@@ -124,20 +147,61 @@ module _ (scenario : Scenario) (p : PerformanceState) (client locality : ℕ) (b
       meets : MeetsPolicy scenario.entities opened
       meets = opened_meets p.setup scenario.entities opened policies (facts-sound p.setup p.past legal session) auth_policy
 
+      abbrev line : Closed → Opening → List ℕ
+      line closed value = opening_line (next_number p.past) (paths_of closed scenario.approvals) value
+
+      abbrev opened_by_way : Closed → Option Opening → PerformanceState
+      opened_by_way closed opening = with_opening (number_in p) (paths_of closed scenario.approvals) opening told
+
       -- with the line of the opening
-      printed : (closed : Closed) (opening : Option Opening) (value : Opening) → opening ≡ Some value
-          → IsPrintedBehind text (opening_line (next_number p.past) (paths_of closed scenario.approvals) value)
-          (with_opening (number_in p) (paths_of closed scenario.approvals) opening told).lines
+      printed : (closed : Closed) (opening : Option Opening) (value : Opening) → opening ≡ Some value → IsPrintedBehind text (line closed value) (opened_by_way closed opening).lines
       printed closed opening value same = record {
         before = p.lines;
         after = [];
         split =
-            ap (λ o. (with_opening (number_in p) (paths_of closed scenario.approvals) o told).lines) same
-            ∙ append_assoc p.lines (line_of text ∷ []) (line_of (opening_line (next_number p.past) (paths_of closed scenario.approvals) value) ∷ []);
+            ap (λ o. (opened_by_way closed o).lines) same
+            ∙ append_assoc p.lines (line_of text ∷ []) (line_of (line closed value) ∷ []);
       }
 
+      -- and with that of its certificate
+      abbrev certified_lines : Bool → Closed → Option Opening → List (List ℕ)
+      certified_lines certified closed opening =
+          (with_certificate certified (number_in p) (certificate_of_opening closed scenario.approvals opening) (opened_by_way closed opening)).lines
+
+      printed_still : (certified : Bool) (closed : Closed) (opening : Option Opening) (value : Opening) → opening ≡ Some value → IsPrintedBehind text (line closed value) (certified_lines certified closed opening)
+      printed_still certified closed opening value same =
+          let more = with_more certified (number_in p) (certificate_of_opening closed scenario.approvals opening) (opened_by_way closed opening) in
+          subst (IsPrintedBehind text (line closed value)) (sym more.1)
+          (behind_more text (line closed value) (opened_by_way closed opening).lines more.0 (printed closed opening value same))
+
+      -- where it names a path
+      behind_way : (closed : Closed) (value : Opening) → IsOpenable scenario.approvals closed → IsListed (paths_of closed scenario.approvals) value
+          → IsCertifiedBehind (line closed value) (next_number p.past) closed scenario.approvals value (certified_lines true closed (Some value))
+      behind_way closed (Branch position events) can listed =
+          let has = can.certified position listed.0 listed.1 in
+          let way = Branch position events in
+          record {
+            bytes = has.bytes;
+            certifies = has.certifies;
+            printed = record {
+              before = told.lines;
+              after = [];
+              split =
+                  ap (λ (bytes : Option (List ℕ)). (with_certificate true (number_in p) bytes (opened_by_way closed (Some way))).lines) has.spelled
+                  ∙ append_assoc told.lines (line_of (line closed way) ∷ []) (line_of (certificate_line (next_number p.past) has.bytes) ∷ []);
+            };
+          }
+      behind_way closed (Clash first second) can listed = tt
+      behind_way closed (ZeroInput input) can listed = tt
+
+      certified : (closed : Closed) (opening : Option Opening) (value : Opening) (tells : Bool) → opening ≡ Some value → tells ≡ true → IsOpenable scenario.approvals closed → IsListed (paths_of closed scenario.approvals) value
+          → IsCertifiedBehind (line closed value) (next_number p.past) closed scenario.approvals value (certified_lines tells closed opening)
+      certified closed opening value tells same is can listed =
+          subst (λ b. IsCertifiedBehind (line closed value) (next_number p.past) closed scenario.approvals value (certified_lines b closed opening)) (sym is)
+          (subst (λ o. IsCertifiedBehind (line closed value) (next_number p.past) closed scenario.approvals value (certified_lines true closed o)) (sym same) (behind_way closed value can listed))
+
       by_policy : (policy : Option Closed) → IfSome policy (λ closed. digest_of_moves (moves_of_facts facts) ≡ policy_digest closed) → IfSome policy (IsOpenable scenario.approvals)
-          → IfSome policy (λ closed. IsOpened p.setup scenario p.past facts handle closed text (policy_opened scenario.approvals (number_in p) facts policy told).lines)
+          → IfSome policy (λ closed. IsOpened p.setup scenario p.past facts handle closed text (policy_opened scenario.manner scenario.approvals (number_in p) facts policy told).lines)
       unfolding policy_opened
       by_policy None digest can = tt
       by_policy (Some closed) digest can =
@@ -149,7 +213,10 @@ module _ (scenario : Scenario) (p : PerformanceState) (client locality : ℕ) (b
             opening = there.value;
             means = means;
             alive = subst (λ o. IfSome o (NamesNoDead (paths_of closed scenario.approvals))) there.is (can.alive facts agree);
-            printed = printed closed (opening_of closed scenario.approvals facts) there.value there.is;
+            printed = printed_still (certifies scenario.manner) closed (opening_of closed scenario.approvals facts) there.value there.is;
+            certified = λ tells.
+                certified closed (opening_of closed scenario.approvals facts) there.value (certifies scenario.manner) there.is tells can
+                (opening_listed closed scenario.approvals facts there.value means);
             of_pcrs = opened-pcrs p.setup p.past locality buffer opened is;
             pcrs = pcrs-at-use (pcrs_of p.setup p.past) (pcrs-length p.setup p.past whole) closed scenario.approvals facts there.value
                 (opened-pcrs p.setup p.past locality buffer opened is) can.digests means;

@@ -5,7 +5,7 @@ use Rattle.std.specs.Option.{option_map}
 use Rattle.tpol_digest.proofs.Erasures.{inputs_ignore_boxes, paths_ignore_boxes}
 use Rattle.tpol_digest.specs.Inputs.{inputs_of_facts}
 use Rattle.tpol_digest.specs.Paths.{paths_of}
-use Rattle.tpol_digest.specs.Sound.{moves_of_facts}
+use Rattle.tpol_tree.specs.Facts.{moves_of as moves_of_facts}
 use Rattle.tpol_trace.specs.Matching.{approval_for, documents_before, is_listed, last_facts, matches, matches_by, matches_last}
 use Rattle.tpol_digest.specs.Update.{update_of}
 use Rattle.tpol_trace.specs.Same.{approved_of, are_same, same_digest, same_update}

@@ -17,7 +17,7 @@ use Rattle.tpol_base.specs.Pcr.{pcr_selection}
 use Rattle.tpol_base.specs.declared.digest.Digest32.{Digest32}
 use Rattle.tpol_base.proofs.Digests.{same_digest}
 use Rattle.tpol_digest.specs.Paths.{paths_of}
-use Rattle.tpol_digest.specs.Sound.{moves_of_facts}
+use Rattle.tpol_tree.specs.Facts.{moves_of as moves_of_facts}
 use Rattle.tpol_digest.specs.Update.{Update, joined, update_of}
 use Rattle.tpol_hash.specs.Sha256.{sha256_digest}
 use Rattle.tpol_name.specs.declared.setup.Setup.{Setup}

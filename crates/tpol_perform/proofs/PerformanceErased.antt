@@ -5,6 +5,7 @@ use Rattle.std.specs.Str.{bytes_eq}
 use Rattle.tpm_engine.specs.declared.opened.Opened.{Opened}
 use Rattle.tpm_engine.specs.Legal.{answer_to, opened_to}
 use Rattle.tpm_engine.specs.Sights.{sight_after}
+use Rattle.tpol_cert.proofs.ChoicesErased.{certificate_erased}
 use Rattle.tpol_choose.specs.Blocks.{chosen_path}
 use Rattle.tpol_digest.proofs.Erasures.{paths_ignore_boxes}
 use Rattle.tpol_digest.specs.Paths.{paths_of}
@@ -16,18 +17,22 @@ use Rattle.tpol_steps.specs.declared.answer.Verdict.TheVariants.{Done}
 use Rattle.tpol_steps.specs.declared.filled.FilledDocument.{FilledDocument}
 use Rattle.tpol_prepare.specs.declared.entities.CompiledEntity.{CompiledEntity}
 use Rattle.tpol_perform.specs.declared.new_run.NewRun.{NewRun}
+use Rattle.tpol_prepare.specs.declared.manner.Manner.{Manner}
 use Rattle.tpol_prepare.specs.declared.scenario.Scenario.{Scenario}
 use Rattle.tpol_prepare.specs.declared.scenario.StagedScene.{StagedScene}
 use Rattle.tpol_perform.specs.Begin.{begun_along, begun_at, begun_on, new_run, run_begun}
-use Rattle.tpol_perform.specs.CommandsTold.{command_told, commanded, opening_told, policy_opened, with_opening}
+use Rattle.tpol_perform.specs.CommandsTold.{certificate_of_opening, command_told, commanded, opening_told, policy_opened, with_certificate, with_opening}
 use Rattle.tpol_prepare.specs.Entities.{erased_entity}
 use Rattle.tpol_steps.specs.Filled.{erased_filled}
 use Rattle.tpol_perform.specs.Performance.{PerformanceState, number_in, start_of}
+use Rattle.tpol_prepare.specs.Manner.{certifies, explains}
 use Rattle.tpol_prepare.specs.Scenario.{erased_scenario, erased_staged, is_document, is_entity, paths_in, paths_named}
 use Rattle.tpol_perform.specs.Script.{all_happened, happened, performance_answer, performed, turn_told}
 use Rattle.tpol_perform.specs.Turns.{replied, sent, sent_now, turned, turned_and, turned_by, turned_on, turned_times, turned_to_end, turned_to_end_by, most_turns}
 use Rattle.tpol_prepare.proofs.EntitiesErased.{reversed_erased}
 use Rattle.tpol_perform.proofs.OpeningErased.{opening_of_erased}
+use Rattle.tpol_trace.specs.declared.answer.Opening.{Opening}
+use Rattle.tpol_trace.specs.declared.answer.Opening.TheVariants.{Branch, Clash, ZeroInput}
 use Rattle.tpol_trace.specs.Openings.{opening_of}
 use Rattle.tpol_tree.specs.ClosedErased.{erased, erased_document}
 use Rattle.tpol_tree.specs.declared.closed.Closed.{Closed}
@@ -37,37 +42,46 @@ use Rattle.tpol_tree.specs.declared.path.Path.{Path}
 
 -- ---- openings
 
-opened_erased : (approvals : List ApprovedDoc) (event : ℕ) (facts : List Fact) (closed : Closed) (p : PerformanceState) → policy_opened (map erased_document approvals) event facts (Some (erased closed)) p ≡ policy_opened approvals event facts (Some closed) p
-unfolding policy_opened
-opened_erased approvals event facts closed p =
-    ap (λ (paths : List Path). with_opening event paths (opening_of (erased closed) (map erased_document approvals) facts) p) (paths_ignore_boxes closed approvals)
-    ∙ ap (λ opening. with_opening event (paths_of closed approvals) opening p) (opening_of_erased closed approvals facts)
+certificate_of_erased : (closed : Closed) (approvals : List ApprovedDoc) (opening : Option Opening) → certificate_of_opening (erased closed) (map erased_document approvals) opening ≡ certificate_of_opening closed approvals opening
+certificate_of_erased closed approvals None = refl
+certificate_of_erased closed approvals (Some (Branch position events)) = certificate_erased closed approvals position
+certificate_of_erased closed approvals (Some (Clash first second)) = refl
+certificate_of_erased closed approvals (Some (ZeroInput input)) = refl
 
-entity_erased : (approvals : List ApprovedDoc) (event : ℕ) (facts : List Fact) (handle : ℕ) (p : PerformanceState) (entities : List CompiledEntity)
-    → policy_opened (map erased_document approvals) event facts (option_map (λ entity. entity.document.closed) (find (is_entity handle) (map erased_entity entities))) p
-    ≡ policy_opened approvals event facts (option_map (λ entity. entity.document.closed) (find (is_entity handle) entities)) p
+opened_erased : (manner : Manner) (approvals : List ApprovedDoc) (event : ℕ) (facts : List Fact) (closed : Closed) (p : PerformanceState) → policy_opened manner (map erased_document approvals) event facts (Some (erased closed)) p ≡ policy_opened manner approvals event facts (Some closed) p
 unfolding policy_opened
-entity_erased approvals event facts handle p [] = refl
-entity_erased approvals event facts handle p (entity ∷ rest) =
-    elim (entity.handle == handle) as (λ b. policy_opened (map erased_document approvals) event facts (option_map (λ (e : CompiledEntity). e.document.closed) (if b then Some (erased_entity entity) else find (is_entity handle) (map erased_entity rest))) p
-    ≡ policy_opened approvals event facts (option_map (λ (e : CompiledEntity). e.document.closed) (if b then Some entity else find (is_entity handle) rest)) p) [
-      | true ↦ opened_erased approvals event facts entity.document.closed p
-      | false ↦ entity_erased approvals event facts handle p rest
+opened_erased manner approvals event facts closed p =
+    let opening = opening_of closed approvals facts in
+    let certificate = certificate_of_opening (erased closed) (map erased_document approvals) opening in
+    ap (λ (found : Option Opening). with_certificate (certifies manner) event (certificate_of_opening (erased closed) (map erased_document approvals) found) (with_opening event (paths_of (erased closed) (map erased_document approvals)) found p)) (opening_of_erased closed approvals facts)
+    ∙ (ap (λ (paths : List Path). with_certificate (certifies manner) event certificate (with_opening event paths opening p)) (paths_ignore_boxes closed approvals)
+    ∙ ap (λ (bytes : Option (List ℕ)). with_certificate (certifies manner) event bytes (with_opening event (paths_of closed approvals) opening p)) (certificate_of_erased closed approvals opening))
+
+entity_erased : (manner : Manner) (approvals : List ApprovedDoc) (event : ℕ) (facts : List Fact) (handle : ℕ) (p : PerformanceState) (entities : List CompiledEntity)
+    → policy_opened manner (map erased_document approvals) event facts (option_map (λ entity. entity.document.closed) (find (is_entity handle) (map erased_entity entities))) p
+    ≡ policy_opened manner approvals event facts (option_map (λ entity. entity.document.closed) (find (is_entity handle) entities)) p
+unfolding policy_opened
+entity_erased manner approvals event facts handle p [] = refl
+entity_erased manner approvals event facts handle p (entity ∷ rest) =
+    elim (entity.handle == handle) as (λ b. policy_opened manner (map erased_document approvals) event facts (option_map (λ (e : CompiledEntity). e.document.closed) (if b then Some (erased_entity entity) else find (is_entity handle) (map erased_entity rest))) p
+    ≡ policy_opened manner approvals event facts (option_map (λ (e : CompiledEntity). e.document.closed) (if b then Some entity else find (is_entity handle) rest)) p) [
+      | true ↦ opened_erased manner approvals event facts entity.document.closed p
+      | false ↦ entity_erased manner approvals event facts handle p rest
     ]
 
-told_erased : (explains : Bool) (scenario : Scenario) (event : ℕ) (opened : Option Opened) (p : PerformanceState) → opening_told explains (erased_scenario scenario) event opened p ≡ opening_told explains scenario event opened p
+told_erased : (told : Bool) (scenario : Scenario) (event : ℕ) (opened : Option Opened) (p : PerformanceState) → opening_told told (erased_scenario scenario) event opened p ≡ opening_told told scenario event opened p
 told_erased false scenario event opened p = refl
 told_erased true scenario event None p = refl
 told_erased true scenario event (Some opened) p =
-    ap (λ (l : List CompiledEntity). policy_opened (map erased_document scenario.approvals) event opened.facts (option_map (λ entity. entity.document.closed) (find (is_entity opened.entity) l)) p) (reversed_erased scenario.entities)
-    ∙ entity_erased scenario.approvals event opened.facts opened.entity p (reverse scenario.entities)
+    ap (λ (l : List CompiledEntity). policy_opened scenario.manner (map erased_document scenario.approvals) event opened.facts (option_map (λ entity. entity.document.closed) (find (is_entity opened.entity) l)) p) (reversed_erased scenario.entities)
+    ∙ entity_erased scenario.manner scenario.approvals event opened.facts opened.entity p (reverse scenario.entities)
 
 -- ---- commands and turns
 
 commanded_erased : (scenario : Scenario) (client locality : ℕ) (buffer : List ℕ) (p : PerformanceState) → commanded (erased_scenario scenario) client locality buffer p ≡ commanded scenario client locality buffer p
 unfolding commanded
 commanded_erased scenario client locality buffer p =
-    told_erased scenario.explains scenario (number_in p) (opened_to p.setup p.past locality buffer)
+    told_erased (explains scenario.manner) scenario (number_in p) (opened_to p.setup p.past locality buffer)
     (command_told client locality buffer (answer_to p.setup p.past locality buffer) p)
 
 sent_erased : (scenario : Scenario) (run : ℕ) (command : Sent) (p : PerformanceState) → sent (erased_scenario scenario) run command p ≡ sent scenario run command p

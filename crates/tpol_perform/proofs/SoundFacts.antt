@@ -13,7 +13,8 @@ use Rattle.tpol_base.specs.CommandCode.{number_of_code}
 use Rattle.tpol_base.specs.ResponseCode.{of_parameter, rc_reference_h0, rc_value}
 use Rattle.tpol_base.proofs.Digests as digests
 use Rattle.tpol_digest.specs.Digest.{digest_of_moves, zero_digest}
-use Rattle.tpol_digest.specs.Sound.{Among, IsSound, IsSoundFrom, Meets, moves_of_facts}
+use Rattle.tpol_digest.specs.Sound.{Among, IsSound, IsSoundFrom, Meets}
+use Rattle.tpol_tree.specs.Facts.{moves_of as moves_of_facts}
 use Rattle.tpol_name.specs.declared.setup.Setup.{Setup}
 use Rattle.tpol_tree.specs.declared.facts.Fact.{Fact}
 use Rattle.tpol_tree.specs.declared.path.Move.TheVariants as moves
@@ -22,7 +23,7 @@ use Rattle.tpol_wire.specs.declared.command.Command.TheVariants as commands
 use Rattle.tpol_wire.specs.Reading.{reading}
 use Rattle.tpol_wire.specs.ReplyReading.{reply_reading}
 use Rattle.tpm_bindings.proofs.Merging.{moves_of-push}
-use Rattle.tpm_bindings.specs.Facts.{same_digest}
+use Rattle.tpol_base.specs.Digest.{is_same_digest as same_digest}
 use Rattle.tpm_bindings.specs.State.{SessionState}
 use Rattle.tpm_engine.proofs.Lookups.{live-view}
 use Rattle.tpm_engine.proofs.Stopping.{map-none, or_else-none, unless-none}

@@ -1,5 +1,5 @@
 -- The lines of a scene tell each event of its journal.
-use Rattle.std.proofs.Common.{◌≡◌, ◌∙◌, ap, refl, sym, subst, ℕ, zero, suc, ◌+◌, ◌-◌, true, List, [], ◌∷◌, ◌++◌, append_assoc, length, slice_get, Option, Some, None, IfSome}
+use Rattle.std.proofs.Common.{◌≡◌, ◌∙◌, ap, refl, sym, subst, ℕ, zero, suc, ◌+◌, ◌-◌, Bool, true, false, List, [], ◌∷◌, ◌++◌, append_assoc, length, slice_get, Option, Some, None, IfSome}
 use Rattle.std.specs.Prelude.{⊤}
 use Rattle.std.proofs.lemmas.List.{append-nil}
 use Rattle.tpm_engine.specs.declared.event.Event.{Event}
@@ -17,6 +17,7 @@ use Rattle.tpol_digest.specs.Paths.{paths_of}
 use Rattle.tpol_driver.specs.declared.end.End.{End}
 use Rattle.tpol_lines.specs.Lines.{line_of}
 use Rattle.tpol_lines.specs.BlockLine.{block_line}
+use Rattle.tpol_lines.specs.CertLine.{certificate_line}
 use Rattle.tpol_lines.specs.Events.{command_line, presence_line, reset_line, time_line}
 use Rattle.tpol_lines.specs.OpeningLine.{opening_line}
 use Rattle.tpol_lines.specs.Runs.{chosen_line, end_line, nobranch_line, over_line}
@@ -31,31 +32,32 @@ use Rattle.tpol_perform.specs.declared.new_run.NewRun.{NewRun}
 use Rattle.tpol_prepare.specs.declared.scenario.Scenario.{Scenario}
 use Rattle.tpol_prepare.specs.declared.scenario.StagedScene.{StagedScene}
 use Rattle.tpol_perform.specs.Begin.{begun_along, begun_at, begun_nowhere, begun_on, new_run, plan_along, run_begun, with_block, with_blocks, with_new_run}
-use Rattle.tpol_perform.specs.CommandsTold.{command_told, commanded, opening_told, policy_opened, with_opening}
-use Rattle.tpol_perform.specs.Explained.{IsExplained, IsJudged, IsOpened, IsPrintedBehind, IsTold}
+use Rattle.tpol_perform.specs.CommandsTold.{certificate_of_opening, command_told, commanded, opening_told, policy_opened, with_certificate, with_opening}
+use Rattle.tpol_perform.specs.Explained.{IsCertifiedBehind, IsExplained, IsJudged, IsOpened, IsTold}
 use Rattle.tpol_perform.specs.Performance.{PerformanceState, number_in, start_of, with_event, with_line}
+use Rattle.tpol_prepare.specs.Manner.{certifies, explains}
 use Rattle.tpol_prepare.specs.Scenario.{HavePolicies, paths_named, policy_of_entity}
 use Rattle.tpol_perform.specs.Script.{all_happened, happened, performed, turn_told}
 use Rattle.tpol_perform.specs.Turns.{most_turns, replied, sent, sent_now, turned, turned_and, turned_by, turned_on, turned_times, turned_to_end, turned_to_end_by, with_end}
-use Rattle.tpol_perform.proofs.OpenedTold.{AreOpenable, command_is_told}
+use Rattle.tpol_perform.proofs.OpenedTold.{AreOpenable, behind_more, command_is_told}
 use Rattle.tpol_trace.specs.declared.answer.Opening.{Opening}
+use Rattle.tpol_trace.specs.declared.answer.Opening.TheVariants.{Branch, Clash, ZeroInput}
 use Rattle.tpol_trace.specs.Openings.{opening_of}
 use Rattle.tpol_tree.specs.declared.closed.Closed.{Closed}
 use Rattle.tpol_tree.specs.declared.facts.Fact.{Fact}
+use Rattle.tpol_tree.specs.declared.path.ApprovedDoc.{ApprovedDoc}
 use Rattle.tpol_tree.specs.declared.path.Path.{Path}
 use Rattle.tpol_tree.specs.declared.path.PathStep.{PathStep}
 use Rattle.tpol_wire.specs.declared.command.Command.{Command as CommandOf}
 
 -- ---- lines grow
 
-behind_more : (first second : List ℕ) (lines more : List (List ℕ)) → IsPrintedBehind first second lines → IsPrintedBehind first second (lines ++ more)
-behind_more first second lines more h = record {
-  before = h.before;
-  after = h.after ++ more;
-  split =
-      ap (λ (l : List (List ℕ)). l ++ more) h.split
-      ∙ append_assoc h.before (line_of first ∷ line_of second ∷ h.after) more;
-}
+certified_more : (text : List ℕ) (event : ℕ) (closed : Closed) (approvals : List ApprovedDoc) (opening : Opening) (lines more : List (List ℕ))
+    → IsCertifiedBehind text event closed approvals opening lines → IsCertifiedBehind text event closed approvals opening (lines ++ more)
+certified_more text event closed approvals (Branch position events) lines more h =
+    record { bytes = h.bytes; certifies = h.certifies; printed = behind_more text (certificate_line event h.bytes) lines more h.printed }
+certified_more text event closed approvals (Clash first second) lines more h = tt
+certified_more text event closed approvals (ZeroInput input) lines more h = tt
 
 opened_more : (setup : Setup) (scenario : Scenario) (past : List Event) (facts : List Fact) (handle : ℕ) (policy : Option Closed) (text : List ℕ) (lines more : List (List ℕ))
     → IfSome policy (λ closed. IsOpened setup scenario past facts handle closed text lines)
@@ -68,6 +70,8 @@ opened_more setup scenario past facts handle (Some closed) text lines more h = r
   means = h.means;
   alive = h.alive;
   printed = behind_more text (opening_line (next_number past) (paths_of closed scenario.approvals) h.opening) lines more h.printed;
+  certified = λ tells.
+      certified_more (opening_line (next_number past) (paths_of closed scenario.approvals) h.opening) (next_number past) closed scenario.approvals h.opening lines more (h.certified tells);
   of_pcrs = h.of_pcrs;
   pcrs = h.pcrs;
 }
@@ -122,7 +126,7 @@ record IsFurther (p q : PerformanceState) : Type 0 where
   more : List (List ℕ)
   grown : q.lines ≡ p.lines ++ more
 
-module _ (setup : Setup) (scenario : Scenario) (explains : scenario.explains ≡ true) (policies : HavePolicies setup scenario.entities) (openable : AreOpenable scenario) (whole : length setup.pcrs ≡ 24) where
+module _ (setup : Setup) (scenario : Scenario) (tells : explains scenario.manner ≡ true) (policies : HavePolicies setup scenario.entities) (openable : AreOpenable scenario) (whole : length setup.pcrs ≡ 24) where
   abbrev Told : PerformanceState → Type 0
   Told p = IsToldSoFar setup scenario p
 
@@ -158,14 +162,32 @@ module _ (setup : Setup) (scenario : Scenario) (explains : scenario.explains ≡
   line_further : (line : List ℕ) (p : PerformanceState) → IsFurther p (with_line line p)
   line_further line p = record { setup_same = refl; past_same = refl; more = line_of line ∷ []; grown = refl }
 
+  further_then : (p q r : PerformanceState) → IsFurther p q → IsFurther q r → IsFurther p r
+  further_then p q r h k = record {
+    setup_same = k.setup_same ∙ h.setup_same;
+    past_same = k.past_same ∙ h.past_same;
+    more = h.more ++ k.more;
+    grown = k.grown ∙ ap (λ (l : List (List ℕ)). l ++ k.more) h.grown ∙ append_assoc p.lines h.more k.more;
+  }
+
   opening_further : (event : ℕ) (paths : List Path) (opening : Option Opening) (p : PerformanceState) → IsFurther p (with_opening event paths opening p)
   opening_further event paths None p = no_further p
   opening_further event paths (Some opening) p = line_further (opening_line event paths opening) p
 
-  policy_further : (event : ℕ) (facts : List Fact) (policy : Option Closed) (p : PerformanceState) → IsFurther p (policy_opened scenario.approvals event facts policy p)
+  certificate_further : (certified : Bool) (event : ℕ) (bytes : Option (List ℕ)) (p : PerformanceState) → IsFurther p (with_certificate certified event bytes p)
+  certificate_further false event bytes p = no_further p
+  certificate_further true event None p = no_further p
+  certificate_further true event (Some bytes) p = line_further (certificate_line event bytes) p
+
+  policy_further : (event : ℕ) (facts : List Fact) (policy : Option Closed) (p : PerformanceState) → IsFurther p (policy_opened scenario.manner scenario.approvals event facts policy p)
   unfolding policy_opened
   policy_further event facts None p = no_further p
-  policy_further event facts (Some closed) p = opening_further event (paths_of closed scenario.approvals) (opening_of closed scenario.approvals facts) p
+  policy_further event facts (Some closed) p =
+      let opening = opening_of closed scenario.approvals facts in
+      let q = with_opening event (paths_of closed scenario.approvals) opening p in
+      let bytes = certificate_of_opening closed scenario.approvals opening in
+      further_then p q (with_certificate (certifies scenario.manner) event bytes q)
+      (opening_further event (paths_of closed scenario.approvals) opening p) (certificate_further (certifies scenario.manner) event bytes q)
 
   told_further : (event : ℕ) (opened : Option Opened) (p : PerformanceState) → IsFurther p (opening_told true scenario event opened p)
   told_further event None p = no_further p
@@ -185,7 +207,7 @@ module _ (setup : Setup) (scenario : Scenario) (explains : scenario.explains ≡
       let before : AreTold p.setup scenario q.lines p.past =
       subst (λ (l : List (List ℕ)). AreTold p.setup scenario l p.past) (sym further.grown)
       (all_more p.setup scenario p.past now.lines further.more (all_more p.setup scenario p.past p.lines (line_of (command_line (number_in p) client locality buffer answered.reply answered.outcome) ∷ []) h.each)) in
-      subst (λ b. Told (opening_told b scenario (number_in p) opened now)) (sym explains)
+      subst (λ b. Told (opening_told b scenario (number_in p) opened now)) (sym tells)
       (record {
         starts = further.setup_same ∙ h.starts;
         legal = legal_as p.setup (event_of client locality buffer answered ∷ p.past) q further.setup_same further.past_same (refl, h.legal);
@@ -304,12 +326,12 @@ module _ (setup : Setup) (scenario : Scenario) (explains : scenario.explains ≡
   all_told script = all_so script (start_of setup) at_start
 
 -- a scene that is carried out is explained by its lines
-pub performed_explains : (staged : StagedScene) → staged.scenario.explains ≡ true → HavePolicies staged.setup staged.scenario.entities → AreOpenable staged.scenario
+pub performed_explains : (staged : StagedScene) → explains staged.scenario.manner ≡ true → HavePolicies staged.setup staged.scenario.entities → AreOpenable staged.scenario
     → length staged.setup.pcrs ≡ 24 → IsExplained staged (performed staged).lines
 unfolding performed
-performed_explains staged explains policies openable whole =
+performed_explains staged tells policies openable whole =
     let end = all_happened staged.scenario staged.script (start_of staged.setup) in
-    let told : IsToldSoFar staged.setup staged.scenario end = all_told staged.setup staged.scenario explains policies openable whole staged.script in
+    let told : IsToldSoFar staged.setup staged.scenario end = all_told staged.setup staged.scenario tells policies openable whole staged.script in
     let each : AreTold staged.setup staged.scenario end.lines end.past = subst (λ (s : Setup). AreTold s staged.scenario end.lines end.past) told.starts told.each in
     record {
       legal = subst (λ (s : Setup). IsLegal s end.past) told.starts told.legal;

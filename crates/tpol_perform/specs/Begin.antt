@@ -37,6 +37,7 @@ plan_along scenario path run = record {
   grants = run.grants;
   directory = scenario.directory;
   nonce_seed = run_seed scenario.seed run.number;
+  tickets = [];
 }
 
 -- one more run

@@ -1,7 +1,7 @@
 -- What `explain` tells of a scene: for every command of the journal that asks for a policy session, exactly when
 -- the session authorizes it, and exactly when it is served (its own rules hold too, and its own policy session, if
 -- it has one, has room for one more fact), told by the events before it alone; and by which written path of its
--- policy an entity was opened.
+-- policy an entity was opened, with the certificate of that path where certificates are told.
 use Rattle.std.specs.Prelude.{◌≡◌, ◌≢◌, ◌↔◌, ◌⊎◌, ⊤, ℕ, ◌-◌, All, slice_get, true, List, ◌∷◌, ◌++◌, Some, IfSome, Ok, option_map}
 use Rattle.tpm_engine.specs.declared.event.Event.{Event}
 use Rattle.tpm_engine.specs.declared.event.Event.TheVariants as events
@@ -17,18 +17,22 @@ use Rattle.tpm_rules.specs.Entity.{auth_policy_of}
 use Rattle.tpm_world.specs.Entities.{entity_at}
 use Rattle.tpm_world.specs.World.{world_of}
 use Rattle.tpol_base.specs.declared.document.Document.{Document}
+use Rattle.tpol_cert.specs.Certificates.{Certifies}
 use Rattle.tpol_digest.specs.Digest.{digest_of_moves, policy_digest}
 use Rattle.tpol_digest.specs.Paths.{paths_of}
-use Rattle.tpol_digest.specs.Sound.{moves_of_facts}
+use Rattle.tpol_tree.specs.Facts.{moves_of as moves_of_facts}
 use Rattle.tpol_digest.specs.Update.{joined}
 use Rattle.tpol_hash.specs.Sha256.{sha256_digest}
+use Rattle.tpol_lines.specs.CertLine.{certificate_line}
 use Rattle.tpol_lines.specs.Events.{command_line}
 use Rattle.tpol_lines.specs.Lines.{line_of}
 use Rattle.tpol_lines.specs.OpeningLine.{opening_line}
 use Rattle.tpol_lint.specs.Opened.{NamesNoDead}
 use Rattle.tpol_name.specs.declared.setup.Setup.{Setup}
+use Rattle.tpol_prepare.specs.declared.manner.Manner.{Manner}
 use Rattle.tpol_prepare.specs.declared.scenario.Scenario.{Scenario}
 use Rattle.tpol_prepare.specs.declared.scenario.StagedScene.{StagedScene}
+use Rattle.tpol_prepare.specs.Manner.{certifies}
 use Rattle.tpol_prepare.specs.Scenario.{policy_of_entity, staged_step}
 use Rattle.tpol_perform.specs.Script.{performed}
 use Rattle.tpol_trace.specs.declared.answer.Opening.{Opening}
@@ -37,6 +41,7 @@ use Rattle.tpol_trace.specs.Openings.{IsOpening}
 use Rattle.tpol_tree.specs.declared.closed.Assertion.TheVariants.{Pcr}
 use Rattle.tpol_tree.specs.declared.closed.Closed.{Closed}
 use Rattle.tpol_tree.specs.declared.facts.Fact.{Fact}
+use Rattle.tpol_tree.specs.declared.path.ApprovedDoc.{ApprovedDoc}
 use Rattle.tpol_tree.specs.declared.path.Move.{Move}
 use Rattle.tpol_tree.specs.declared.path.Move.TheVariants.{Assert}
 use Rattle.tpol_tree.specs.declared.path.Path.{Path}
@@ -49,6 +54,18 @@ pub record IsPrintedBehind (first second : List ℕ) (lines : List (List ℕ)) :
   pub before : List (List ℕ)
   pub after : List (List ℕ)
   pub split : lines ≡ before ++ line_of first ∷ line_of second ∷ after
+
+-- bytes that certify the path at a position stand in a line right behind this one
+pub record HasCertificateBehind (text : List ℕ) (event : ℕ) (closed : Closed) (approvals : List ApprovedDoc) (position : ℕ) (lines : List (List ℕ)) : Type 0 where
+  pub bytes : List ℕ
+  pub certifies : Certifies bytes closed approvals position
+  pub printed : IsPrintedBehind text (certificate_line event bytes) lines
+
+-- so do bytes that certify the path which an opening names, behind the opening's line
+abbrev pub IsCertifiedBehind : List ℕ → ℕ → Closed → List ApprovedDoc → Opening → List (List ℕ) → Type 0
+IsCertifiedBehind text event closed approvals (Branch position events) lines =
+    HasCertificateBehind text event closed approvals position lines
+IsCertifiedBehind text event closed approvals _ lines = ⊤
 
 -- ---- PCRs at the use
 
@@ -84,6 +101,9 @@ pub record IsOpened (setup : Setup) (scenario : Scenario) (past : List Event) (f
   pub alive : NamesNoDead (paths_of closed scenario.approvals) opening
   -- its line stands right behind the command's
   pub printed : IsPrintedBehind text (opening_line (next_number past) (paths_of closed scenario.approvals) opening) lines
+  -- and behind that, where certificates are told, the line of one that certifies the way
+  pub certified : certifies scenario.manner ≡ true
+      → IsCertifiedBehind (opening_line (next_number past) (paths_of closed scenario.approvals) opening) (next_number past) closed scenario.approvals opening lines
   -- the facts found the PCRs as they are now, and these have the values that the path asks for
   pub of_pcrs : AreOfPcrs (pcrs_of setup past) facts
   pub pcrs : IsAtPcrs (pcrs_of setup past) (paths_of closed scenario.approvals) opening
@@ -120,6 +140,6 @@ pub record IsExplained (staged : StagedScene) (lines : List (List ℕ)) : Type 0
       → IsTold staged.setup staged.scenario lines earlier event
 
 -- if the bytes are the document of a scene that can be carried out with the policies of the shelf, lines explain it
-abbrev pub IsExplainedScene : List ℕ → List Document → List (List ℕ) → Type 0
-IsExplainedScene input all lines =
-    (staged : StagedScene) → staged_step true input all ≡ Ok staged → IsExplained staged lines
+abbrev pub IsExplainedScene : Manner → List ℕ → List Document → List (List ℕ) → Type 0
+IsExplainedScene manner input all lines =
+    (staged : StagedScene) → staged_step manner input all ≡ Ok staged → IsExplained staged lines

@@ -2,7 +2,8 @@
 use Rattle.std.specs.Prelude.{◌≡◌, List, IfSome}
 use Rattle.tpm_engine.specs.declared.opened.Opened.{Opened}
 use Rattle.tpol_digest.specs.Digest.{digest_of_moves, policy_digest}
-use Rattle.tpol_digest.specs.Sound.{IsSound, moves_of_facts}
+use Rattle.tpol_digest.specs.Sound.{IsSound}
+use Rattle.tpol_tree.specs.Facts.{moves_of as moves_of_facts}
 use Rattle.tpol_prepare.specs.declared.entities.CompiledEntity.{CompiledEntity}
 use Rattle.tpol_prepare.specs.Scenario.{policy_of_entity}
 

@@ -1,10 +1,11 @@
 -- The events of a script, one after another.
-use Rattle.std.specs.Prelude.{ℕ, Bool, List, [], ◌∷◌, Option, Some, None, Ok}
+use Rattle.std.specs.Prelude.{ℕ, List, [], ◌∷◌, Option, Some, None, Ok}
 use Rattle.tpol_base.specs.declared.document.Document.{Document}
 use Rattle.tpol_scene.specs.declared.script.ScriptEvent.{ScriptEvent}
 use Rattle.tpol_scene.specs.declared.script.ScriptEvent.TheVariants.{Command, Begin, Turn, Time, Presence, Reset}
 use Rattle.tpol_steps.specs.declared.answer.Answer.{Answer}
 use Rattle.tpol_steps.specs.declared.answer.Verdict.TheVariants.{Done}
+use Rattle.tpol_prepare.specs.declared.manner.Manner.{Manner}
 use Rattle.tpol_prepare.specs.declared.scenario.Scenario.{Scenario}
 use Rattle.tpol_prepare.specs.declared.scenario.StagedScene.{StagedScene}
 use Rattle.tpol_perform.specs.Begin.{new_run, run_begun}
@@ -41,6 +42,7 @@ performed staged = all_happened staged.scenario staged.script (start_of staged.s
 abbrev pub performance_answer : StagedScene → Answer
 performance_answer staged = record { lines = (performed staged).lines; verdict = Done }
 
--- the commands `run` and `explain`: the scene in the source with the policies of the shelf, and its script
-unfoldable pub perform_step : Bool → List ℕ → List Document → Step Answer
-perform_step explains input all = staged_step explains input all >>= λ staged. Ok (performance_answer staged)
+-- a command that carries out a scene in this manner: the scene in the source with the policies of the shelf, and its
+-- script
+unfoldable pub perform_step : Manner → List ℕ → List Document → Step Answer
+perform_step manner input all = staged_step manner input all >>= λ staged. Ok (performance_answer staged)

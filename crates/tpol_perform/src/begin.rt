@@ -1,10 +1,15 @@
 //! A run begins.
 
-ghost use Rattle.std.specs.Prelude.{◌≡◌, ◌+◌, ◌-◌, ◌≤◌, ◌<◌, [], None, Some, All, IfOk, IfSome, OnOk, drop, length, slice_get};
+ghost use Rattle.std.specs.Prelude.{◌≡◌, ◌+◌, ◌≤◌, [], None, Some, All, IfOk, List, OnOk, length, map};
 ghost use Rattle.tpol_choose.specs.Blocks.{first_block};
 ghost use Rattle.tpol_digest.specs.Paths.{paths_of};
+ghost use Rattle.tpol_lines.specs.PathLine.{label};
 ghost use Rattle.tpol_lines.specs.Runs.{chosen_line, nobranch_line};
 ghost use Rattle.tpol_name.specs.Setups.{IsSight};
+ghost use Rattle.tpol_name.specs.declared.sight.Sight.{Sight as OneSight};
+ghost use Rattle.tpol_perform.specs.declared.new_run.NewRun.{NewRun as OneRun};
+ghost use Rattle.tpol_tree.specs.declared.path.Path.{Path as OnePath};
+ghost use Rattle.tpol_tree.specs.declared.path.PathStep.{PathStep};
 ghost use Rattle.tpol_perform.specs.Begin.{begun_along, begun_nowhere, begun_on, plan_along, run_begun, run_seed, with_block, with_blocks, with_new_run};
 ghost use Rattle.tpol_perform.specs.Performance.{with_line};
 ghost use Rattle.tpol_prepare.specs.Scenario.{IsScenarioOf, IsWalkable, paths_named};
@@ -13,12 +18,12 @@ ghost use Rattle.tpol_runs.specs.Courses.{begun};
 use crate::new_run::NewRun;
 use crate::performance::Performance;
 use std::alloc::Global;
-use tpol_base::{Digest32, ExactClone, NoMemory};
-use tpol_choose::{can, choose};
-use tpol_digest::{count_paths, path_at};
-use tpol_driver::Plan;
+use tpol_base::{Blob, Digest32, ExactClone, NoMemory};
+use tpol_choose::{Block, blocks, choose};
+use tpol_digest::path_at;
+use tpol_driver::{Plan, Tickets};
 use tpol_hash::Hasher;
-use tpol_lines::{block_line, chosen_line, nobranch_line};
+use tpol_lines::{block_line, chosen_line, labels, nobranch_line};
 use tpol_name::Sight;
 use tpol_prepare::Scenario;
 use tpol_steps::FilledDocument;
@@ -151,7 +156,7 @@ impl Performance {
         ensures setup { OnOk result (self.new.setup ≡ self.old.setup) }
     {
         match self.print_chosen(alloc, run.number, position, &path) {
-            Ok(()) => self.begin_plan(scenario, path, run),
+            Ok(()) => self.begin_plan(alloc, scenario, path, run),
             Err(NoMemory) => {
                 drop(path);
                 drop(run);
@@ -174,13 +179,19 @@ impl Performance {
     }
 
     // One more run, along this path.
-    fn begin_plan(&mut self, scenario: &Scenario, path: Path, run: NewRun) -> Result<(), NoMemory>
+    fn begin_plan(
+        &mut self,
+        alloc: Global,
+        scenario: &Scenario,
+        path: Path,
+        run: NewRun,
+    ) -> Result<(), NoMemory>
         requires moves { length path.moves ≤ 512 }
         requires locality { run.locality ≤ 4 }
         ensures { OnOk result (self.new ≡ with_new_run run.number (Some (begun run.client run.locality (plan_along scenario.now path run))) self.old) }
     {
         let (number, client, locality) = (run.number, run.client, run.locality);
-        let plan = plan_along(scenario, path, run)?;
+        let plan = plan_along(alloc, scenario, path, run)?;
         self.runs.begin(number, client, locality, plan)
     }
 
@@ -215,7 +226,6 @@ impl Performance {
     }
 
     // A line for each path tells what stands in its way.
-    #[tactic(auto, using(crate::proofs::TurnSteps::blocks_step, crate::proofs::TurnSteps::blocks_end))]
     fn print_blocks(
         &mut self,
         alloc: Global,
@@ -230,66 +240,78 @@ impl Performance {
         ensures past { OnOk result (self.new.past ≡ self.old.past) }
         ensures setup { OnOk result (self.new.setup ≡ self.old.setup) }
     {
-        let count = count_paths(&document.closed, approvals) as u32;
-        for index in 0..count {
-            self.print_block(alloc, approvals, sight, document, run, index + 1)?;
+        let blocks = blocks(
+            alloc,
+            &document.closed,
+            approvals,
+            sight,
+            &run.grants,
+            &run.goal,
+            run.locality,
+        )?;
+        match labels(alloc, &document.closed, approvals) {
+            Ok(labels) => {
+                let printed = self.print_block_list(alloc, labels.as_slice(), &blocks);
+                drop(labels);
+                drop(blocks);
+                printed
+            }
+            Err(NoMemory) => {
+                drop(blocks);
+                Err(NoMemory)
+            }
+        }
+    }
+
+    // The lines of what stands in the way of paths with these labels, from the first on.
+    #[tactic(auto, using(crate::proofs::TurnSteps::blocks_over))]
+    fn print_block_list(
+        &mut self,
+        alloc: Global,
+        labels: &[Blob],
+        blocks: &[Option<Block>],
+    ) -> Result<(), NoMemory>
+        requires alike { length labels.now ≡ length blocks.now }
+        requires few { length blocks.now ≤ 65536 }
+        ensures told { (sight : OneSight) (run : OneRun) (paths : List OnePath)
+            → blocks.now ≡ map (λ path. first_block path sight run.grants run.goal run.locality) paths
+            → labels.now ≡ map (λ path. label path.steps) paths
+            → OnOk result (self.new ≡ with_blocks sight run 1 paths self.old) }
+        ensures past { OnOk result (self.new.past ≡ self.old.past) }
+        ensures setup { OnOk result (self.new.setup ≡ self.old.setup) }
+    {
+        for index in 0..blocks.len() {
+            let position = index as u32 + 1;
+            self.print_block(alloc, position, labels[index].as_slice(), &blocks[index])?;
         }
         Ok(())
     }
 
-    // The line of what stands in the way of the path at this position.
-    #[tactic(auto, using(crate::proofs::Chosen::path_is_short))]
+    // The line of what stands in the way of the path at this position, with these choices.
     fn print_block(
         &mut self,
         alloc: Global,
-        approvals: &Approvals,
-        sight: &Sight,
-        document: &FilledDocument,
-        run: &NewRun,
         position: u32,
+        choices: &[u8],
+        block: &Option<Block>,
     ) -> Result<(), NoMemory>
-        requires walked { IsWalkable approvals.now document.now.closed }
-        requires sight { IsSight sight.now }
-        requires positions { (1 ≤ position) × (position ≤ length (paths_of document.now.closed approvals.now)) }
-        ensures told { OnOk result (IfSome (slice_get (paths_of document.now.closed approvals.now) (position - 1)) (λ path.
-            self.new ≡ with_block position path.steps (first_block path sight.now run.now.grants run.now.goal run.now.locality) self.old)) }
+        ensures told { (steps : List PathStep) → choices.now ≡ label steps
+            → OnOk result (self.new ≡ with_block position steps block.now self.old) }
         ensures past { OnOk result (self.new.past ≡ self.old.past) }
         ensures setup { OnOk result (self.new.setup ≡ self.old.setup) }
     {
-        let path = path_at(alloc, &document.closed, approvals, position)?;
-        let printed = self.print_block_of(alloc, sight, &path, run, position);
-        drop(path);
-        printed
-    }
-
-    // The line of what stands in the way of this path, which is at this position.
-    fn print_block_of(
-        &mut self,
-        alloc: Global,
-        sight: &Sight,
-        path: &Path,
-        run: &NewRun,
-        position: u32,
-    ) -> Result<(), NoMemory>
-        requires sight { IsSight sight.now }
-        requires moves { length path.now.moves ≤ 512 }
-        ensures told { OnOk result (self.new ≡ with_block position path.now.steps (first_block path.now sight.now run.now.grants run.now.goal run.now.locality) self.old) }
-        ensures past { OnOk result (self.new.past ≡ self.old.past) }
-        ensures setup { OnOk result (self.new.setup ≡ self.old.setup) }
-    {
-        let steps = path.steps.as_slice();
-        match can(path, sight, &run.grants, &run.goal, run.locality) {
-            Ok(()) => Ok(()),
-            Err(block) => {
-                let line = block_line(alloc, position, steps, &block)?;
-                self.print(alloc, line.as_str())
+        match block {
+            None => Ok(()),
+            Some(block) => {
+                let line = block_line(alloc, position, choices, block)?;
+                self.print_bytes(line)
             }
         }
     }
 }
 
 // What a run along this path is to do.
-fn plan_along(scenario: &Scenario, path: Path, run: NewRun) -> Result<Plan, NoMemory>
+fn plan_along(alloc: Global, scenario: &Scenario, path: Path, run: NewRun) -> Result<Plan, NoMemory>
     ensures { IfOk result (λ plan. plan ≡ plan_along scenario.now path run) }
 {
     match scenario.directory.exact_clone() {
@@ -306,6 +328,7 @@ fn plan_along(scenario: &Scenario, path: Path, run: NewRun) -> Result<Plan, NoMe
                 grants,
                 directory,
                 nonce_seed: run_seed(&scenario.seed, number),
+                tickets: Tickets::new(alloc),
             })
         }
         Err(NoMemory) => {

@@ -8,6 +8,7 @@ ghost use Rattle.tpol_perform.specs.CommandsTold.{command_told, commanded, openi
 ghost use Rattle.tpol_perform.specs.Performance.{number_in, with_line};
 ghost use Rattle.tpol_perform.specs.Meeting.{MeetsPolicy};
 ghost use Rattle.tpol_prepare.specs.declared.entities.CompiledEntity.{CompiledEntity as CompiledEntityOf};
+ghost use Rattle.tpol_prepare.specs.Manner.{explains};
 ghost use Rattle.tpol_prepare.specs.Scenario.{HavePolicies, IsScenarioOf, IsWalkable};
 
 use crate::performance::Performance;
@@ -47,7 +48,7 @@ impl Performance {
         }
     }
 
-    // The line of what was opened, where openings are asked for.
+    // What is told of what was opened, where openings are told.
     fn tell_opening(
         &mut self,
         alloc: Global,
@@ -56,11 +57,11 @@ impl Performance {
     ) -> Result<(), NoMemory>
         requires walked { All (λ entity. IsWalkable scenario.now.approvals entity.document.closed) scenario.now.entities }
         requires meets { IfSome executed.now.opened (MeetsPolicy scenario.now.entities) }
-        ensures told { OnOk result (self.new ≡ opening_told scenario.now.explains scenario.now executed.now.event executed.now.opened self.old) }
+        ensures told { OnOk result (self.new ≡ opening_told (explains scenario.now.manner) scenario.now executed.now.event executed.now.opened self.old) }
         ensures past { OnOk result (self.new.past ≡ self.old.past) }
         ensures setup { OnOk result (self.new.setup ≡ self.old.setup) }
     {
-        if scenario.explains {
+        if scenario.manner.explains() {
             self.print_opening(alloc, scenario, executed.event, &executed.opened)
         } else {
             Ok(())

@@ -1,24 +1,30 @@
-//! The lines of openings.
+//! The lines of openings and of their certificates.
 
-ghost use Rattle.std.specs.Prelude.{◌≡◌, All, IfSome, OnOk, Some};
+ghost use Rattle.std.specs.Prelude.{◌≡◌, true, All, IfSome, OnOk, Some};
 ghost use Rattle.tpol_digest.specs.Digest.{digest_of_moves, policy_digest};
-ghost use Rattle.tpol_digest.specs.Sound.{IsSound, moves_of_facts};
-ghost use Rattle.tpol_perform.specs.CommandsTold.{entity_opened, policy_opened};
+ghost use Rattle.tpol_digest.specs.Limits.{AreWithinLimits};
+ghost use Rattle.tpol_digest.specs.Paths.{paths_of};
+ghost use Rattle.tpol_digest.specs.Sound.{IsSound};
+ghost use Rattle.tpol_tree.specs.Facts.{moves_of as moves_of_facts};
+ghost use Rattle.tpol_lines.specs.OpeningLine.{IsListed};
+ghost use Rattle.tpol_perform.specs.CommandsTold.{certificate_of_opening, entity_opened, policy_opened, with_certificate, with_opening_of};
 ghost use Rattle.tpol_perform.specs.Meeting.{MeetsPolicy};
+ghost use Rattle.tpol_prepare.specs.Manner.{certifies};
 ghost use Rattle.tpol_prepare.specs.Scenario.{IsWalkable};
 
 use crate::performance::Performance;
 use std::alloc::Global;
 use tpm_engine::Opened;
 use tpol_base::NoMemory;
-use tpol_lines::opening_line;
+use tpol_cert::certify;
+use tpol_lines::{certificate_line, opening_line};
 use tpol_prepare::Scenario;
-use tpol_trace::opening;
+use tpol_trace::{Opening, opening};
 use tpol_tree::{Approvals, Closed, Facts};
 
 impl Performance {
     /// Prints the line of what a policy session opened by this event, where the scene names the policy of what
-    /// was opened. It fails only where memory ran out.
+    /// was opened, and behind it its certificate, where certificates are told. It fails only where memory ran out.
     pub fn print_opening(
         &mut self,
         alloc: Global,
@@ -55,37 +61,84 @@ impl Performance {
     {
         match scenario.policy_of_entity(opened.entity) {
             None => Ok(()),
-            Some(policy) => self.print_policy_opening(
-                alloc,
-                event,
-                policy,
-                &scenario.approvals,
-                &opened.facts,
-            ),
+            Some(policy) => {
+                self.print_policy_opening(alloc, scenario, event, policy, &opened.facts)
+            }
         }
     }
 
-    // The line of facts that opened an entity with this policy.
+    // The same of facts that opened an entity with this policy.
     #[tactic(auto, unfolding(crate::specs::CommandsTold::policy_opened))]
     fn print_policy_opening(
+        &mut self,
+        alloc: Global,
+        scenario: &Scenario,
+        event: u32,
+        policy: &Closed,
+        facts: &Facts,
+    ) -> Result<(), NoMemory>
+        requires walked { IsWalkable scenario.now.approvals policy.now }
+        requires sound { IsSound (moves_of_facts facts.now) }
+        requires digest { digest_of_moves (moves_of_facts facts.now) ≡ policy_digest policy.now }
+        ensures told { OnOk result (self.new ≡ policy_opened scenario.now.manner scenario.now.approvals event facts.now (Some policy.now) self.old) }
+        ensures past { OnOk result (self.new.past ≡ self.old.past) }
+        ensures setup { OnOk result (self.new.setup ≡ self.old.setup) }
+    {
+        let opening = opening(alloc, policy, &scenario.approvals, facts)?;
+        let told = self.print_lines(alloc, scenario, event, policy, &opening);
+        drop(opening);
+        told
+    }
+
+    // The line of an opening, and that of its certificate where certificates are told.
+    fn print_lines(
+        &mut self,
+        alloc: Global,
+        scenario: &Scenario,
+        event: u32,
+        policy: &Closed,
+        opening: &Opening,
+    ) -> Result<(), NoMemory>
+        requires within { AreWithinLimits (paths_of policy.now scenario.now.approvals) }
+        requires listed { IsListed (paths_of policy.now scenario.now.approvals) opening.now }
+        ensures told { OnOk result (self.new ≡ with_opening_of (certifies scenario.now.manner) policy.now scenario.now.approvals event (Some opening.now) self.old) }
+        ensures past { OnOk result (self.new.past ≡ self.old.past) }
+        ensures setup { OnOk result (self.new.setup ≡ self.old.setup) }
+    {
+        let line = opening_line(alloc, event, policy, &scenario.approvals, opening)?;
+        self.print(alloc, line.as_str())?;
+        if scenario.manner.certifies() {
+            self.print_certificate(alloc, event, policy, &scenario.approvals, opening)
+        } else {
+            Ok(())
+        }
+    }
+
+    // The line of the certificate of an opening, which it has where it names a path.
+    #[tactic(auto, using(crate::proofs::Certified::certificate_shown))]
+    fn print_certificate(
         &mut self,
         alloc: Global,
         event: u32,
         policy: &Closed,
         approvals: &Approvals,
-        facts: &Facts,
+        opening: &Opening,
     ) -> Result<(), NoMemory>
-        requires walked { IsWalkable approvals.now policy.now }
-        requires sound { IsSound (moves_of_facts facts.now) }
-        requires digest { digest_of_moves (moves_of_facts facts.now) ≡ policy_digest policy.now }
-        ensures told { OnOk result (self.new ≡ policy_opened approvals.now event facts.now (Some policy.now) self.old) }
+        requires within { AreWithinLimits (paths_of policy.now approvals.now) }
+        requires listed { IsListed (paths_of policy.now approvals.now) opening.now }
+        ensures told { OnOk result (self.new ≡ with_certificate true event (certificate_of_opening policy.now approvals.now (Some opening.now)) self.old) }
         ensures past { OnOk result (self.new.past ≡ self.old.past) }
         ensures setup { OnOk result (self.new.setup ≡ self.old.setup) }
     {
-        let opening = opening(alloc, policy, approvals, facts)?;
-        let line = opening_line(alloc, event, policy, approvals, &opening);
-        drop(opening);
-        let line = line?;
-        self.print(alloc, line.as_str())
+        match opening {
+            Opening::Branch { path, .. } => {
+                let bytes = certify(alloc, policy, approvals, *path)?;
+                let line = certificate_line(alloc, event, bytes.as_slice());
+                drop(bytes);
+                self.print(alloc, line?.as_str())
+            }
+            Opening::Clash { .. } => Ok(()),
+            Opening::ZeroInput { .. } => Ok(()),
+        }
     }
 }

@@ -1,9 +1,10 @@
-// The commands `run` and `explain`.
+// The commands that carry out a scene.
 
 ghost use Rattle.std.specs.Prelude.{◌≡◌, ◌≤◌, true, All, IfOk, IfSome, IsOk, length};
 ghost use Rattle.tpol_name.specs.Setups.{IsSetup};
 ghost use Rattle.tpol_perform.specs.Explained.{IsExplainedScene};
 ghost use Rattle.tpol_perform.specs.Script.{perform_step, performance_answer};
+ghost use Rattle.tpol_prepare.specs.Manner.{explains};
 ghost use Rattle.tpol_prepare.specs.Scenario.{CanHappen, IsScenarioOf};
 ghost use Rattle.tpol_steps.specs.SceneStep.{scene_of_bytes};
 ghost use Rattle.tpol_steps.specs.Steps.{Answers, AsksShelf, IfAnswered};
@@ -12,29 +13,29 @@ use crate::performance::Performance;
 use crate::script::perform;
 use std::alloc::Global;
 use tpol_base::{NoMemory, Shelf};
-use tpol_prepare::{StagedScene, stage};
+use tpol_prepare::{Manner, StagedScene, stage};
 use tpol_steps::{Answer, Halt, Verdict};
 
-/// The commands `run` and `explain`: carries out the scene in the source, with the policies of the shelf, and
-/// tells each event; `explain` tells besides by which path of its policy an entity was opened.
+/// The commands that carry out a scene: the one in the source, with the policies of the shelf. Each event is told, and
+/// what else the manner says.
 ///
 /// `Refused` tells the first refusal of the scene or of what it names, as `stage` does; `ShelfFailed` comes only where
 /// the shelf failed, and `NoMemory` where memory ran out.
 #[tactic(auto, using(crate::proofs::PerformanceErased::answer_erased, crate::proofs::ExplainedErased::halted_explained), unfolding(crate::specs::Script::perform_step))]
 pub fn perform_scene<H: Shelf>(
     alloc: Global,
-    explains: bool,
+    manner: Manner,
     input: &[u8],
     shelf: &mut H,
 ) -> Result<Answer, Halt>
     ensures answer { IfSome (H.documents shelf.old) (λ all.
-        Answers (λ answer. answer) (perform_step explains input.now all) result) }
-    ensures explained { explains ≡ true → IfAnswered result (λ answer. answer.verdict ≡ Verdict.Done
-        → IfSome (H.documents shelf.old) (λ all. IsExplainedScene input.now all answer.lines)) }
+        Answers (λ answer. answer) (perform_step manner input.now all) result) }
+    ensures explained { explains manner ≡ true → IfAnswered result (λ answer. answer.verdict ≡ Verdict.Done
+        → IfSome (H.documents shelf.old) (λ all. IsExplainedScene manner input.now all answer.lines)) }
     ensures keeps { H.documents shelf.new ≡ H.documents shelf.old }
     ensures asks { AsksShelf true (IsOk (scene_of_bytes input.now)) shelf.old shelf.new (H.faults shelf.old) (H.faults shelf.new) result }
 {
-    let staged = stage(alloc, explains, input, shelf)?;
+    let staged = stage(alloc, manner, input, shelf)?;
     Ok(performance_answer(alloc, staged)?)
 }
 

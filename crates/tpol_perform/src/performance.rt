@@ -8,8 +8,8 @@ ghost use Rattle.tpol_perform.specs.Performance.{presence_set, start_of, time_pa
 use std::alloc::Global;
 use std::marker::Model;
 use tpm_engine::Machine;
-use tpol_base::NoMemory;
-use tpol_lines::{Lines, presence_line, push_line, reset_line, time_line};
+use tpol_base::{Blob, NoMemory};
+use tpol_lines::{Lines, presence_line, push_bytes, push_line, reset_line, time_line};
 use tpol_name::Setup;
 use tpol_runs::Runs;
 
@@ -50,6 +50,13 @@ impl Performance {
         ensures { OnOk result (self.new ≡ with_line line.now self.old) }
     {
         push_line(alloc, &mut self.lines, line)
+    }
+
+    /// Prints one more line of these bytes, whose line end is added here. It fails only where memory ran out.
+    pub fn print_bytes(&mut self, line: Blob) -> Result<(), NoMemory>
+        ensures { OnOk result (self.new ≡ with_line line self.old) }
+    {
+        push_bytes(&mut self.lines, line)
     }
 
     /// So many milliseconds pass. The call fails only where memory ran out.

@@ -1,5 +1,5 @@
 -- A scene whose policies are filled and can be walked is staged.
-use Rattle.std.proofs.Common.{◌≡◌, ℕ, Bool, List, [], All, map, refl, subst, sym, Option, Some, None, Ok}
+use Rattle.std.proofs.Common.{◌≡◌, ℕ, List, [], All, map, refl, subst, sym, Option, Some, None, Ok}
 use Rattle.std.specs.Prelude.{Result, IfSome}
 use Rattle.tpol_base.specs.declared.document.Document.{Document}
 use Rattle.tpol_digest.specs.Digest.{policy_digest}
@@ -11,6 +11,7 @@ use Rattle.tpol_scene.specs.declared.scene.Scene.{Scene}
 use Rattle.tpol_scene.specs.declared.script.ScriptEvent.{ScriptEvent}
 use Rattle.tpol_store.specs.Approvals.{HasApprovedBounds, approved_documents}
 use Rattle.tpol_store.specs.Stores.{NamedPolicy}
+use Rattle.tpol_prepare.specs.declared.manner.Manner.{Manner}
 use Rattle.tpol_prepare.specs.declared.prepared.PreparedScene.{PreparedScene}
 use Rattle.tpol_prepare.specs.declared.scenario.StagedScene.{StagedScene}
 use Rattle.tpol_prepare.specs.Entities.{IsReadyEntity}
@@ -53,13 +54,13 @@ script_kept store scene result e is = script_over scene.setup result.setup scene
 -- ---- the steps to it
 
 -- a scene whose policies are filled and within the limits is staged, whichever memory they lie in
-pub staged_as : (explains : Bool) (store : List NamedPolicy) (scene : Scene) (prepared : PreparedScene) (approvals : List ApprovedDoc)
+pub staged_as : (manner : Manner) (store : List NamedPolicy) (scene : Scene) (prepared : PreparedScene) (approvals : List ApprovedDoc)
     → prepared_step store scene ≡ Ok (erased_prepared prepared)
     → limited_step (erased_prepared prepared) (approved_documents store (Some prepared.sight)) ≡ Ok tt
     → map erased_document approvals ≡ approved_documents store (Some prepared.sight)
-    → staged_with explains scene store ≡ Ok (erased_staged (scenario_with explains scene prepared approvals))
+    → staged_with manner scene store ≡ Ok (erased_staged (scenario_with manner scene prepared approvals))
 unfolding staged_with staged_by
-staged_as explains store scene prepared approvals fills within same = rw (fills, within, ← same) refl
+staged_as manner store scene prepared approvals fills within same = rw (fills, within, ← same) refl
 
 -- what ends a step ends all behind it
 halts_then : {A B : Type 0} (halt : Halt) (step : Step A) (next : A → Step B) → Halts halt step → Halts halt (step >>= next)
@@ -69,27 +70,27 @@ halts_then ShelfFailed step next h = tt
 halts_then NoMemory step next h = tt
 
 -- and one whose policies are not within the limits is refused
-pub staged_halts : (explains : Bool) (store : List NamedPolicy) (scene : Scene) (prepared : PreparedScene) (halt : Halt)
+pub staged_halts : (manner : Manner) (store : List NamedPolicy) (scene : Scene) (prepared : PreparedScene) (halt : Halt)
     → prepared_step store scene ≡ Ok (erased_prepared prepared)
     → Halts halt (limited_step (erased_prepared prepared) (approved_documents store (Some prepared.sight)))
-    → Halts halt (staged_with explains scene store)
+    → Halts halt (staged_with manner scene store)
 unfolding staged_with staged_by
-staged_halts explains store scene prepared halt fills refused =
+staged_halts manner store scene prepared halt fills refused =
     rw fills (halts_then halt (limited_step (erased_prepared prepared) (approved_documents store (Some prepared.sight))) _ refused)
 
 -- with the policies of the shelf, if its documents are known
-pub on_shelf : {A : Type 0} (explains : Bool) (scene : Scene) (view : A → StagedScene) (all : Option (List Document)) (store : List NamedPolicy) (result : Result A Halt)
-    → IfSome all (λ documents. store_step documents ≡ Ok store) → Answers view (staged_with explains scene store) result
-    → IfSome all (λ documents. Answers view (staged_from explains scene documents) result)
-on_shelf explains scene view None store result loads answers = tt
-on_shelf explains scene view (Some documents) store result loads answers = rw loads answers
+pub on_shelf : {A : Type 0} (manner : Manner) (scene : Scene) (view : A → StagedScene) (all : Option (List Document)) (store : List NamedPolicy) (result : Result A Halt)
+    → IfSome all (λ documents. store_step documents ≡ Ok store) → Answers view (staged_with manner scene store) result
+    → IfSome all (λ documents. Answers view (staged_from manner scene documents) result)
+on_shelf manner scene view None store result loads answers = tt
+on_shelf manner scene view (Some documents) store result loads answers = rw loads answers
 
 -- ---- all of it
 
-pub is_staged : (explains : Bool) (scene : Scene) (prepared : PreparedScene) (approvals : List ApprovedDoc) → IsSetup prepared.setup
-    → IsScenarioOf prepared.setup (scenario_with explains scene prepared approvals).scenario → All IsReadyEntity prepared.entities → All IsReadyDocument prepared.begun → All HasApprovedBounds approvals
-    → HasClients scene → IsScriptOf prepared.setup scene.clients scene.script → IsStaged (scenario_with explains scene prepared approvals)
-is_staged explains scene prepared approvals setup scenario entities begun bounded clients script = record {
+pub is_staged : (manner : Manner) (scene : Scene) (prepared : PreparedScene) (approvals : List ApprovedDoc) → IsSetup prepared.setup
+    → IsScenarioOf prepared.setup (scenario_with manner scene prepared approvals).scenario → All IsReadyEntity prepared.entities → All IsReadyDocument prepared.begun → All HasApprovedBounds approvals
+    → HasClients scene → IsScriptOf prepared.setup scene.clients scene.script → IsStaged (scenario_with manner scene prepared approvals)
+is_staged manner scene prepared approvals setup scenario entities begun bounded clients script = record {
   setup = setup;
   scenario = scenario;
   directory = refl;

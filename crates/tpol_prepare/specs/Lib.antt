@@ -1,5 +1,6 @@
 pub mod Entities
 pub mod FilledDocuments
+pub mod Manner
 pub mod Prepared
 pub mod References
 pub mod Scenario

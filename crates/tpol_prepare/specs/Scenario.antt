@@ -19,6 +19,7 @@ use Rattle.tpol_scene.specs.declared.script.ScriptEvent.TheVariants.{Command, Be
 use Rattle.tpol_store.specs.Approvals.{approved_documents}
 use Rattle.tpol_store.specs.Stores.{NamedPolicy}
 use Rattle.tpol_prepare.specs.declared.entities.CompiledEntity.{CompiledEntity}
+use Rattle.tpol_prepare.specs.declared.manner.Manner.{Manner}
 use Rattle.tpol_prepare.specs.declared.prepared.PreparedScene.{PreparedScene}
 use Rattle.tpol_prepare.specs.declared.scenario.Scenario.{Scenario}
 use Rattle.tpol_prepare.specs.declared.scenario.StagedScene.{StagedScene}
@@ -70,11 +71,11 @@ grants_of clients number = unwrap_or (option_map (λ client. client.1) (find (is
 abbrev pub entity_document : CompiledEntity → FilledDocument
 entity_document entity = entity.document
 
-abbrev pub scenario_with : Bool → Scene → PreparedScene → List ApprovedDoc → StagedScene
-scenario_with explains scene prepared approvals = record {
+abbrev pub scenario_with : Manner → Scene → PreparedScene → List ApprovedDoc → StagedScene
+scenario_with manner scene prepared approvals = record {
   setup = prepared.setup;
   scenario = record {
-    explains = explains;
+    manner = manner;
     seed = prepared.setup.seed;
     directory = directory_of prepared.setup;
     entities = prepared.entities;
@@ -90,26 +91,26 @@ unfoldable pub limited_step : PreparedScene → List ApprovedDoc → Step (Unit 
 limited_step prepared approvals =
     limits_step approvals (map entity_document prepared.entities) >>= λ entities_are. limits_step approvals prepared.begun
 
-unfoldable pub staged_by : Bool → Scene → PreparedScene → List ApprovedDoc → Step StagedScene
-staged_by explains scene prepared approvals =
-    limited_step prepared approvals >>= λ within. Ok (scenario_with explains scene prepared approvals)
+unfoldable pub staged_by : Manner → Scene → PreparedScene → List ApprovedDoc → Step StagedScene
+staged_by manner scene prepared approvals =
+    limited_step prepared approvals >>= λ within. Ok (scenario_with manner scene prepared approvals)
 
 -- the scene with the policies of a store
-unfoldable pub staged_with : Bool → Scene → List NamedPolicy → Step StagedScene
-staged_with explains scene store =
+unfoldable pub staged_with : Manner → Scene → List NamedPolicy → Step StagedScene
+staged_with manner scene store =
     prepared_step store scene >>= λ prepared.
-    staged_by explains scene prepared (approved_documents store (Some prepared.sight))
+    staged_by manner scene prepared (approved_documents store (Some prepared.sight))
 
 -- the scene with the policies of the shelf
-abbrev pub staged_from : Bool → Scene → List Document → Step StagedScene
-staged_from explains scene all = store_step all >>= λ store. staged_with explains scene store
+abbrev pub staged_from : Manner → Scene → List Document → Step StagedScene
+staged_from manner scene all = store_step all >>= λ store. staged_with manner scene store
 
 -- the scene that the bytes are the document of, with the policies of the shelf
-unfoldable pub staged_step : Bool → List ℕ → List Document → Step StagedScene
-staged_step explains input all = do
+unfoldable pub staged_step : Manner → List ℕ → List Document → Step StagedScene
+staged_step manner input all = do
   scene ← scene_of_bytes input
   store ← store_step all
-  staged_with explains scene store
+  staged_with manner scene store
 
 -- ---- what holds of it
 
@@ -159,5 +160,5 @@ abbrev pub erased_staged : StagedScene → StagedScene
 erased_staged staged = record staged { scenario = erased_scenario staged.scenario }
 
 -- what is staged of a scene with its policies, filled, and what is approved, beside something else
-abbrev pub staged_of : {A : Type 0} → Bool → Scene → PreparedScene × (List ApprovedDoc × A) → StagedScene
-staged_of explains scene policies = erased_staged (scenario_with explains scene policies.0 policies.1.0)
+abbrev pub staged_of : {A : Type 0} → Manner → Scene → PreparedScene × (List ApprovedDoc × A) → StagedScene
+staged_of manner scene policies = erased_staged (scenario_with manner scene policies.0 policies.1.0)

@@ -11,11 +11,13 @@
 
 mod documents;
 mod entities;
+mod manner;
 mod prepared;
 mod references;
 mod scenario;
 
 pub use entities::{CompiledEntity, CompiledSetup};
+pub use manner::Manner;
 pub use prepared::{PreparedScene, opening_of, sight_of_scene};
 pub use references::Reference;
 pub use scenario::{Scenario, StagedScene, stage};

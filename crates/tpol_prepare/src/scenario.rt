@@ -1,7 +1,7 @@
 //! Scenes that can be carried out.
 
 ghost use Rattle.std.specs.Option.{option_copied};
-ghost use Rattle.std.specs.Prelude.{◌≡◌, ◌≤◌, Bool, Some, true, All, IfSome, IfOk, IsOk, ⊤, find, length, map, reverse};
+ghost use Rattle.std.specs.Prelude.{◌≡◌, ◌≤◌, Some, true, All, IfSome, IfOk, IsOk, ⊤, find, length, map, reverse};
 ghost use Rattle.tpol_name.specs.Directories.{directory_of};
 ghost use Rattle.tpol_name.specs.Setups.{IsSetup};
 ghost use Rattle.tpol_scene.specs.Conditions.{HasClients, HasScript};
@@ -10,6 +10,7 @@ ghost use Rattle.tpol_store.specs.Stores.{IsReadable, policies_of, stored};
 ghost use Rattle.tpol_fill.specs.Forms.{IsFilledApproval};
 ghost use Rattle.tpol_prepare.specs.Entities.{IsReadyEntity, erased_entity};
 ghost use Rattle.tpol_prepare.specs.Prepared.{erased_prepared};
+ghost use Rattle.tpol_prepare.specs.declared.manner.Manner.{Manner as AnyManner};
 ghost use Rattle.tpol_prepare.specs.Scenario.{CanHappen, IsScenarioOf, IsWalkable, entity_document, erased_staged, grants_of, is_client, is_document, is_entity, limited_step, policy_of_entity, scenario_with, staged_from, staged_of, staged_step, staged_with};
 ghost use Rattle.tpol_prepare.specs.Staged.{IsStaged};
 ghost use Rattle.tpol_steps.specs.Filled.{IsReadyDocument};
@@ -19,6 +20,7 @@ ghost use Rattle.tpol_steps.specs.Steps.{Answers, AsksShelf, IsInside};
 ghost use Rattle.tpol_tree.specs.ClosedErased.{erased_document};
 
 use crate::entities::CompiledEntity;
+use crate::manner::Manner;
 use crate::prepared::{PreparedScene, prepare};
 use std::alloc::Global;
 use tpol_base::{Digest32, ExactClone, NoMemory, Sequence, Shelf};
@@ -29,12 +31,12 @@ use tpol_steps::{FilledDocument, Halt, check_documents, check_limits, load_store
 use tpol_store::Store;
 use tpol_tree::{Approvals, Closed};
 
-/// What the events of a scene go by: whether openings are told, the seed and the directory of the machine, the
+/// What the events of a scene go by: how it is carried out, the seed and the directory of the machine, the
 /// entities whose policies are named, the documents that the script begins, what is approved, and what each
 /// client may use.
 #[derive(Drop)]
 pub struct Scenario {
-    pub explains: bool,
+    pub manner: Manner,
     pub seed: Digest32,
     pub directory: Directory,
     pub entities: Sequence<CompiledEntity>,
@@ -51,8 +53,8 @@ pub struct StagedScene {
     pub script: Script,
 }
 
-/// Reads the scene in the source, and looks up, fills and checks the policies that it names. The lines of openings
-/// are told of it where it `explains`.
+/// Reads the scene in the source, and looks up, fills and checks the policies that it names. It is carried out in this
+/// manner.
 ///
 /// `Refused` tells the first refusal: of the scene, of the shelf's documents, of a name without a policy, of a policy
 /// that is not filled, or of one that is not within the limits. `ShelfFailed` comes only where the shelf failed, and
@@ -60,11 +62,11 @@ pub struct StagedScene {
 #[tactic(auto, unfolding(crate::specs::Scenario::staged_step))]
 pub fn stage<H: Shelf>(
     alloc: Global,
-    explains: bool,
+    manner: Manner,
     input: &[u8],
     shelf: &mut H,
 ) -> Result<StagedScene, Halt>
-    ensures answer { IfSome (H.documents shelf.old) (λ all. Answers erased_staged (staged_step explains input.now all) result) }
+    ensures answer { IfSome (H.documents shelf.old) (λ all. Answers erased_staged (staged_step manner input.now all) result) }
     ensures keeps { H.documents shelf.new ≡ H.documents shelf.old }
     ensures asks { AsksShelf true (IsOk (scene_of_bytes input.now)) shelf.old shelf.new (H.faults shelf.old) (H.faults shelf.new) result }
     ensures staged { IfOk result IsStaged }
@@ -74,13 +76,13 @@ pub fn stage<H: Shelf>(
     ensures few { IfOk result (λ staged. length staged.script ≤ 4096) }
 {
     let scene = scene_of_bytes(alloc, input)?;
-    stage_scene(alloc, explains, scene, shelf)
+    stage_scene(alloc, manner, scene, shelf)
 }
 
 // The same of a scene, with the policies of the shelf.
 fn stage_scene<H: Shelf>(
     alloc: Global,
-    explains: bool,
+    manner: Manner,
     scene: Scene,
     shelf: &mut H,
 ) -> Result<StagedScene, Halt>
@@ -88,14 +90,14 @@ fn stage_scene<H: Shelf>(
     requires clients { HasClients scene }
     requires script { HasScript scene }
     requires few { length scene.script ≤ 4096 }
-    ensures answer { IfSome (H.documents shelf.old) (λ all. Answers erased_staged (staged_from explains scene all) result) }
+    ensures answer { IfSome (H.documents shelf.old) (λ all. Answers erased_staged (staged_from manner scene all) result) }
     ensures keeps { H.documents shelf.new ≡ H.documents shelf.old }
     ensures asks { AsksShelf true ⊤ shelf.old shelf.new (H.faults shelf.old) (H.faults shelf.new) result }
     ensures staged { IfOk result IsStaged }
     ensures few { IfOk result (λ staged. length staged.script ≤ 4096) }
 {
     match policies_on_shelf(alloc, &scene, shelf) {
-        Ok(policies) => Ok(staged(explains, scene, policies)),
+        Ok(policies) => Ok(staged(manner, scene, policies)),
         Err(halt) => {
             drop(scene);
             Err(halt)
@@ -115,12 +117,12 @@ fn policies_on_shelf<H: Shelf>(
     requires setup { IsSetup scene.now.setup }
     requires clients { HasClients scene.now }
     requires script { HasScript scene.now }
-    ensures answer { (explains : Bool) → IfSome (H.documents shelf.old) (λ all.
-        Answers (staged_of explains scene.now) (staged_from explains scene.now all) result) }
+    ensures answer { (manner : AnyManner) → IfSome (H.documents shelf.old) (λ all.
+        Answers (staged_of manner scene.now) (staged_from manner scene.now all) result) }
     ensures keeps { H.documents shelf.new ≡ H.documents shelf.old }
     ensures asks { AsksShelf true ⊤ shelf.old shelf.new (H.faults shelf.old) (H.faults shelf.new) result }
     ensures directory { IfOk result (λ found. found.1.1 ≡ directory_of found.0.setup) }
-    ensures staged { (explains : Bool) → IfOk result (λ found. IsStaged (scenario_with explains scene.now found.0 found.1.0)) }
+    ensures staged { (manner : AnyManner) → IfOk result (λ found. IsStaged (scenario_with manner scene.now found.0 found.1.0)) }
 {
     let store = load_store(alloc, shelf)?;
     policies_of_scene(alloc, &store, scene)
@@ -133,11 +135,11 @@ fn policies_of_scene(alloc: Global, store: &Store, scene: &Scene) -> Result<Scen
     requires setup { IsSetup scene.now.setup }
     requires clients { HasClients scene.now }
     requires script { HasScript scene.now }
-    ensures answer { (explains : Bool) →
-        Answers (staged_of explains scene.now) (staged_with explains scene.now (policies_of store.now)) result }
+    ensures answer { (manner : AnyManner) →
+        Answers (staged_of manner scene.now) (staged_with manner scene.now (policies_of store.now)) result }
     ensures inside { IsInside result }
     ensures directory { IfOk result (λ found. found.1.1 ≡ directory_of found.0.setup) }
-    ensures staged { (explains : Bool) → IfOk result (λ found. IsStaged (scenario_with explains scene.now found.0 found.1.0)) }
+    ensures staged { (manner : AnyManner) → IfOk result (λ found. IsStaged (scenario_with manner scene.now found.0 found.1.0)) }
 {
     let prepared = prepare(alloc, store, scene)?;
     match approve_scene(alloc, store, &prepared) {
@@ -217,9 +219,9 @@ fn check_entities(
 }
 
 // The parts of a scene that can be carried out, put together.
-fn staged(explains: bool, scene: Scene, policies: ScenePolicies) -> StagedScene
+fn staged(manner: Manner, scene: Scene, policies: ScenePolicies) -> StagedScene
     requires { policies.1.1 ≡ directory_of policies.0.setup }
-    ensures { result ≡ scenario_with explains scene policies.0 policies.1.0 }
+    ensures { result ≡ scenario_with manner scene policies.0 policies.1.0 }
 {
     let Scene {
         setup: bare,
@@ -237,7 +239,7 @@ fn staged(explains: bool, scene: Scene, policies: ScenePolicies) -> StagedScene
     drop(bare);
     drop(sight);
     let scenario = Scenario {
-        explains,
+        manner,
         seed: setup.seed,
         directory,
         entities,

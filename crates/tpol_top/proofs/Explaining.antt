@@ -1,106 +1,49 @@
--- What `explain` answers, from the scene to the words.
-use Rattle.std.proofs.Common.{inl, inr, ◌≡◌, ◌∙◌, refl, subst, sym, ℕ, false, List, take, Option, Some, None, IfSome, Result, Ok, Err}
-use Rattle.std.proofs.lemmas.Bool.{false≢true}
-use Rattle.std.specs.Prelude.{⊤, ◌⊎◌}
+-- What is answered of a scene whose openings are told.
+use Rattle.std.proofs.Common.{◌≡◌, ℕ, true, List, Option, Some, None, IfSome, Result, Ok, Err}
 use Rattle.tpol_base.specs.declared.document.Document.{Document}
+use Rattle.tpol_front.specs.Report.{OfHeld, seen_by}
+use Rattle.tpol_front.specs.Told.{IfCommand}
+use Rattle.tpol_perform.specs.Explained.{IsExplainedScene}
+use Rattle.tpol_prepare.specs.declared.manner.Manner.{Manner}
+use Rattle.tpol_prepare.specs.Manner.{explains}
 use Rattle.tpol_steps.specs.declared.answer.Answer.{Answer}
-use Rattle.tpol_steps.specs.declared.answer.Verdict.{Verdict}
-use Rattle.tpol_steps.specs.declared.answer.Verdict.TheVariants.{Done, Usage, TooLarge, BadPolicy, BadScene, PathLimit}
+use Rattle.tpol_steps.specs.declared.answer.Verdict.TheVariants.{Done}
 use Rattle.tpol_steps.specs.declared.halt.Halt.{Halt}
 use Rattle.tpol_steps.specs.declared.halt.Halt.TheVariants.{Refused, ReadFailed, ShelfFailed, NoMemory}
-use Rattle.tpol_top.specs.declared.request.Request.{Request}
-use Rattle.tpol_top.specs.declared.request.Request.TheVariants.{Explain}
-use Rattle.tpol_top.specs.declared.status.Status.{Status}
-use Rattle.tpol_top.specs.declared.status.Status.TheVariants as statuses
-use Rattle.tpol_top.specs.Explain.{IfExplain, OfExplain, OfHeld}
-use Rattle.tpol_perform.specs.Explained.{IsExplained, IsExplainedScene}
-use Rattle.tpol_top.specs.Report.{OfReport, most_read, report_of}
-use Rattle.tpol_top.specs.Status.{status_of}
 use Rattle.tpol_steps.specs.Steps.{IfAnswered}
-use Rattle.tpol_top.specs.Words.{reads_source_for, request_of}
+use Rattle.tpol_top.specs.declared.request.Request.{Request}
+use Rattle.tpol_top.specs.declared.request.Request.TheVariants.{Perform}
+use Rattle.tpol_top.specs.Commands.{policy_commands}
+use Rattle.tpol_top.specs.Explain.{IfExplain, IsExplanation}
 
--- ---- where the command is another
+-- ---- of the answer
 
--- nothing is told of the answer
-pub untold : (result : Result Answer Halt) → IfAnswered result (λ answer. answer.verdict ≡ Done → ⊤)
-untold (Ok answer) = λ done. tt
-untold (Err (Refused answer)) = λ done. tt
-untold (Err ReadFailed) = tt
-untold (Err ShelfFailed) = tt
-untold (Err NoMemory) = tt
+known : (documents : Option (List Document)) (Q : Type 0) (P : List Document → Type 0) → (Q → IfSome documents P) → IfSome documents (λ all. Q → P all)
+known None Q P h = tt
+known (Some all) Q P h = h
 
--- nor of that of a command that does not read the source
-not_explain : (request : Request) (P : Type 0) → reads_source_for request ≡ false → IfExplain (Some request) P
-not_explain Explain P unread = absurd (false≢true (sym unread))
-not_explain _ P unread = tt
+pub performed_told : (manner : Manner) (result : Result Answer Halt) (documents : Option (List Document)) (input : List ℕ)
+    → (explains manner ≡ true → IfAnswered result (λ answer. answer.verdict ≡ Done → IfSome documents (λ all. IsExplainedScene manner input all answer.lines)))
+    → IfAnswered result (λ answer. answer.verdict ≡ Done → IfSome documents (λ all. explains manner ≡ true → IsExplainedScene manner input all answer.lines))
+performed_told manner (Ok answer) documents input h =
+    λ done. known documents (explains manner ≡ true) (λ all. IsExplainedScene manner input all answer.lines) (λ tells. h tells done)
+performed_told manner (Err (Refused answer)) documents input h =
+    λ done. known documents (explains manner ≡ true) (λ all. IsExplainedScene manner input all answer.lines) (λ tells. h tells done)
+performed_told manner (Err ReadFailed) documents input h = tt
+performed_told manner (Err ShelfFailed) documents input h = tt
+performed_told manner (Err NoMemory) documents input h = tt
 
-pub unread_untold : (request : Request) (result : Result Answer Halt) (P : Answer → Type 0) → reads_source_for request ≡ false → OfExplain (Some request) result P
-unread_untold request (Ok answer) P unread = λ done. not_explain request (P answer) unread
-unread_untold request (Err (Refused answer)) P unread = λ done. not_explain request (P answer) unread
-unread_untold request (Err ReadFailed) P unread = tt
-unread_untold request (Err ShelfFailed) P unread = tt
-unread_untold request (Err NoMemory) P unread = tt
+-- ---- of what is printed
 
--- ---- where it is `explain`
+held : (left : Option (List ℕ)) (documents : Option (List Document)) (Q : Type 0) (P : List ℕ → List Document → Type 0) → OfHeld left documents (λ input all. Q → P input all) → Q → OfHeld left documents P
+held None documents Q P h q = tt
+held (Some bytes) None Q P h q = tt
+held (Some bytes) (Some all) Q P h q = h q
 
-if_explain : (choice : Option Request) (P Q : Type 0) → (P → Q) → IfExplain choice P → IfExplain choice Q
-if_explain (Some Explain) P Q f h = f h
-if_explain _ P Q f h = tt
-
-of_explain : (choice : Option Request) (result : Result Answer Halt) (P Q : Answer → Type 0) → ((answer : Answer) → P answer → Q answer) → OfExplain choice result P → OfExplain choice result Q
-of_explain choice (Ok answer) P Q f h = λ done. if_explain choice (P answer) (Q answer) (f answer) (h done)
-of_explain choice (Err (Refused answer)) P Q f h = λ done. if_explain choice (P answer) (Q answer) (f answer) (h done)
-of_explain choice (Err ReadFailed) P Q f h = tt
-of_explain choice (Err ShelfFailed) P Q f h = tt
-of_explain choice (Err NoMemory) P Q f h = tt
-
--- of what was read of the source
-held_explained : (input : List ℕ) (left : Option (List ℕ)) (documents : Option (List Document)) (answer : Answer) → IfSome left (λ held. input ≡ take most_read held)
-    → IfSome documents (λ all. IsExplainedScene input all answer.lines) → OfHeld left documents (λ held all. IsExplainedScene held all answer.lines)
-held_explained input None documents answer read h = tt
-held_explained input (Some held) documents answer read h =
-    subst (λ (bytes : List ℕ). IfSome documents (λ all. IsExplainedScene bytes all answer.lines)) read h
-
-pub read_explained : (choice : Option Request) (result : Result Answer Halt) (input : List ℕ) (left : Option (List ℕ)) (documents : Option (List Document)) → IfSome left (λ held. input ≡ take most_read held)
-    → OfExplain choice result (λ answer. IfSome documents (λ all. IsExplainedScene input all answer.lines))
-    → OfExplain choice result (λ answer. OfHeld left documents (λ held all. IsExplainedScene held all answer.lines))
-read_explained choice result input left documents read h =
-    of_explain choice result (λ answer. IfSome documents (λ all. IsExplainedScene input all answer.lines)) (λ answer. OfHeld left documents (λ held all. IsExplainedScene held all answer.lines))
-    (λ answer. held_explained input left documents answer read) h
-
--- ---- what is printed
-
-done_only : (verdict : Verdict) → status_of verdict ≡ statuses.Done → verdict ≡ Done
-done_only Done e = refl
-done_only Usage e = absurd cc
-done_only TooLarge e = absurd cc
-done_only BadPolicy e = absurd cc
-done_only BadScene e = absurd cc
-done_only PathLimit e = absurd cc
-
--- a run that ends with 0 ends with the status of its answer
-ended : (result : Status) (verdict : Verdict) → result ≡ statuses.Done → (result ≡ statuses.WriteFault) ⊎ (result ≡ status_of verdict) → status_of verdict ≡ statuses.Done
-ended result verdict done (inl failed) = absurd (not_done (sym failed ∙ done))
-  where
-    not_done : statuses.WriteFault ≡ statuses.Done → ⊥
-    not_done h = cc
-ended result verdict done (inr same) = sym same ∙ done
-
-held_printed : (words : List (List ℕ)) (left : Option (List ℕ)) (documents now : Option (List Document)) (answer : Answer)
-    → OfReport words left documents (λ report. (answer ≡ report.answer) × (now ≡ Some report.documents))
-    → OfHeld left documents (λ input all. IsExplainedScene input all answer.lines)
-    → OfHeld left documents (λ input all. IsExplainedScene input all (report_of words input all).answer.lines)
-held_printed words None documents now answer same h = tt
-held_printed words (Some held) None now answer same h = tt
-held_printed words (Some held) (Some all) now answer same h =
-    λ staged e. subst (λ (a : Answer). IsExplained staged a.lines) same.0 (h staged e)
-
-pub printed_explained : (words : List (List ℕ)) (left : Option (List ℕ)) (documents now : Option (List Document)) (answer : Answer)
-    (result : Status) → result ≡ statuses.Done → (result ≡ statuses.WriteFault) ⊎ (result ≡ status_of answer.verdict)
-    → OfReport words left documents (λ report. (answer ≡ report.answer) × (now ≡ Some report.documents))
-    → (answer.verdict ≡ Done → IfExplain (request_of words) (OfHeld left documents (λ input all. IsExplainedScene input all answer.lines)))
-    → IfExplain (request_of words) (OfHeld left documents (λ input all. IsExplainedScene input all (report_of words input all).answer.lines))
-printed_explained words left documents now answer result done ends same h =
-    if_explain (request_of words) (OfHeld left documents (λ input all. IsExplainedScene input all answer.lines))
-    (OfHeld left documents (λ input all. IsExplainedScene input all (report_of words input all).answer.lines))
-    (held_printed words left documents now answer same) (h (done_only answer.verdict (ended result answer.verdict done ends)))
+-- what is told of the command that the words are, is told where it tells openings
+pub printed_explained : (choice : Option Request) (left : Option (List ℕ)) (documents : Option (List Document)) (answer : List ℕ → List Document → Answer)
+    → IfCommand choice (λ command. OfHeld left documents (λ input all. IsExplanation command (seen_by policy_commands command input) all (answer input all)))
+    → IfExplain choice (λ manner. OfHeld left documents (λ input all. IsExplainedScene manner input all (answer input all).lines))
+printed_explained (Some (Perform manner)) left documents answer told =
+    held left documents (explains manner ≡ true) (λ input all. IsExplainedScene manner input all (answer input all).lines) told
+printed_explained _ left documents answer told = tt

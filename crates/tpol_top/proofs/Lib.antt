@@ -1,10 +1,7 @@
-pub mod Answered
-pub mod Asking
+pub mod Checking
 pub mod DeadPaths
 pub mod Explaining
 pub mod Imported
-pub mod Losses
 pub mod NoRequest
 pub mod PathAnswers
-pub mod Prefixes
 pub mod ReadFirst

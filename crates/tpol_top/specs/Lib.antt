@@ -1,4 +1,5 @@
 pub mod Canon
+pub mod Check
 pub mod Commands
 pub mod Compile
 pub mod Explain
@@ -7,5 +8,4 @@ pub mod Numbers
 pub mod Paths
 pub mod Reached
 pub mod Report
-pub mod Status
 pub mod Words

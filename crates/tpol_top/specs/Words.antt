@@ -5,7 +5,8 @@ use Rattle.std.specs.Str.{bytes_eq}
 use Rattle.tpol_base.specs.PolicyName.{is_policy_name, without_folder}
 use Rattle.tpol_top.specs.Numbers.{number_of_word}
 use Rattle.tpol_top.specs.declared.request.Request.{Request}
-use Rattle.tpol_top.specs.declared.request.Request.TheVariants.{Compile, Paths, Lint, Canon, Import, Run, Explain, Generate}
+use Rattle.tpol_top.specs.declared.request.Request.TheVariants.{Compile, Paths, Lint, Canon, Import, Check, Perform, Generate}
+use Rattle.tpol_prepare.specs.declared.manner.Manner.TheVariants as manners
 
 -- the command of one word
 abbrev pub one_word_request : List ℕ → Option Request
@@ -14,8 +15,8 @@ one_word_request word =
     else (if bytes_eq word (codes "paths") then Some (Paths None)
     else (if bytes_eq word (codes "lint") then Some (Lint None)
     else (if bytes_eq word (codes "canon") then Some Canon
-    else (if bytes_eq word (codes "run") then Some Run
-    else (if bytes_eq word (codes "explain") then Some Explain else None)))))
+    else (if bytes_eq word (codes "run") then Some (Perform manners.Run)
+    else (if bytes_eq word (codes "explain") then Some (Perform manners.Explain) else None)))))
 
 -- the name of a policy or of a scene, where it is one
 abbrev pub policy_stem : List ℕ → Option (List ℕ)
@@ -24,11 +25,22 @@ policy_stem name = if is_policy_name (without_folder name) then Some (without_fo
 -- the command of a word with this policy
 abbrev pub request_with_name : List ℕ → Option (List ℕ) → Option Request
 request_with_name word None = None
-request_with_name word (Some name) = if bytes_eq word (codes "import") then Some (Import name) else None
+request_with_name word (Some name) =
+    if bytes_eq word (codes "import") then Some (Import name)
+    else (if bytes_eq word (codes "check") then Some (Check name None) else None)
 
 -- the command of two words: a word and a name
 abbrev pub name_request : List ℕ → List ℕ → Option Request
 name_request word name = request_with_name word (policy_stem name)
+
+-- the command `explain` with one more word
+abbrev pub explain_request : List ℕ → Option Request
+explain_request option = if bytes_eq option (codes "--cert") then Some (Perform manners.Certify) else None
+
+-- the command of two words; what stands behind `explain` is no name
+abbrev pub two_word_request : List ℕ → List ℕ → Option Request
+two_word_request word second =
+    if bytes_eq word (codes "explain") then explain_request second else name_request word second
 
 -- the command of a word with this scene
 abbrev pub request_with_scene : List ℕ → Option (List ℕ) → Option Request
@@ -55,13 +67,26 @@ three_word_request word second third =
     if bytes_eq word (codes "gen") then generation (number_of_word second) (number_of_word third)
     else scene_request word second third
 
+-- the command `check` of this policy, with this scene
+abbrev pub check_request : Option (List ℕ) → Option (List ℕ) → Option Request
+check_request None scene = None
+check_request (Some name) None = None
+check_request (Some name) (Some scene) = Some (Check name (Some scene))
+
+-- the command of four words: `check`, a name, `--scene` and a name
+abbrev pub four_word_request : List ℕ → List ℕ → List ℕ → List ℕ → Option Request
+four_word_request word name option scene =
+    if bytes_eq word (codes "check") && bytes_eq option (codes "--scene")
+    then check_request (policy_stem name) (policy_stem scene) else None
+
 -- the command that the words are
 abbrev pub request_of : List (List ℕ) → Option Request
 request_of [] = None
 request_of (word ∷ []) = one_word_request word
-request_of (word ∷ name ∷ []) = name_request word name
+request_of (word ∷ second ∷ []) = two_word_request word second
 request_of (word ∷ second ∷ third ∷ []) = three_word_request word second third
-request_of (word ∷ second ∷ third ∷ other ∷ rest) = None
+request_of (word ∷ name ∷ option ∷ scene ∷ []) = four_word_request word name option scene
+request_of (word ∷ second ∷ third ∷ fourth ∷ other ∷ rest) = None
 
 -- whether a command reads the source
 abbrev pub reads_source_for : Request → Bool
@@ -79,8 +104,8 @@ uses_shelf_for (Paths scene) = true
 uses_shelf_for (Lint scene) = true
 uses_shelf_for Canon = false
 uses_shelf_for (Import name) = true
-uses_shelf_for Run = true
-uses_shelf_for Explain = true
+uses_shelf_for (Check name scene) = true
+uses_shelf_for (Perform manner) = true
 uses_shelf_for (Generate ors order) = false
 
 -- whether the words are a command that uses the shelf

@@ -1,10 +1,11 @@
 ghost use Rattle.std.specs.Prelude.{◌≡◌, map, IfOk};
 ghost use Rattle.std.specs.String.{string_bytes};
-ghost use Rattle.tpol_top.specs.Words.{generation, request_of, name_request, one_word_request, policy_stem, reads_source_for, scene_request, three_word_request};
+ghost use Rattle.tpol_top.specs.Words.{check_request, explain_request, four_word_request, generation, request_of, name_request, one_word_request, policy_stem, scene_request, three_word_request, two_word_request};
 
 use crate::numbers::number_of_word;
 use std::alloc::Global;
 use tpol_base::{NoMemory, Text, is_policy_name, without_folder};
+use tpol_prepare::Manner;
 
 /// What the words ask for.
 #[derive(Drop)]
@@ -20,35 +21,34 @@ pub enum Request {
     Canon,
     /// `import NAME`: puts its canonical text on the shelf, as the document of this name.
     Import { name: Text },
-    /// `run`: carries out the scene in the source.
-    Run,
-    /// `explain`: the same, and tells by which path of its policy an entity was opened.
-    Explain,
+    /// `check NAME`, `check NAME --scene SCENE`: whether the source certifies a path of the shelf's policy of this name,
+    /// filled with a scene of the shelf.
+    Check { name: Text, scene: Option<Text> },
+    /// `run`, `explain`, `explain --cert`: carries out the scene in the source, in this manner.
+    Perform { manner: Manner },
     /// `gen N M`: a run of a policy of N ORs (1 to 12), whose branches stand in an order by the bits of M.
     Generate { ors: u8, order: u32 },
 }
 
-impl Request {
-    /// The command that the words are, or `None` where they are none. It fails only where memory ran out.
-    pub fn from_words(alloc: Global, words: &Vec<String>) -> Result<Option<Request>, NoMemory>
-        ensures { IfOk result (λ request. request ≡ request_of (map string_bytes words.now.items)) }
-    {
-        match words.as_slice() {
-            [word] => Ok(one_word_request(word.as_str())),
-            [word, second, third] => {
-                three_word_request(alloc, word.as_str(), second.as_str(), third.as_str())
-            }
-            [word, name] => name_request(alloc, word.as_str(), name.as_str()),
-            [] => Ok(None),
-            [_, _, _, _, ..] => Ok(None),
+/// The command that the words are, or `None` where they are none. It fails only where memory ran out.
+pub fn request_of_words(alloc: Global, words: &Vec<String>) -> Result<Option<Request>, NoMemory>
+    ensures { IfOk result (λ request. request ≡ request_of (map string_bytes words.now.items)) }
+{
+    match words.as_slice() {
+        [word] => Ok(one_word_request(word.as_str())),
+        [word, second, third] => {
+            three_word_request(alloc, word.as_str(), second.as_str(), third.as_str())
         }
-    }
-
-    /// Whether the command reads the source.
-    pub fn reads_source(&self) -> bool
-        ensures { result ≡ reads_source_for self.now }
-    {
-        !matches!(self, Request::Generate { .. })
+        [word, second] => two_word_request(alloc, word.as_str(), second.as_str()),
+        [word, name, option, scene] => four_word_request(
+            alloc,
+            word.as_str(),
+            name.as_str(),
+            option.as_str(),
+            scene.as_str(),
+        ),
+        [] => Ok(None),
+        [_, _, _, _, _, ..] => Ok(None),
     }
 }
 
@@ -68,12 +68,38 @@ fn one_word_request(word: &str) -> Option<Request>
         return Some(Request::Canon);
     }
     if word == "run" {
-        return Some(Request::Run);
+        return Some(Request::Perform {
+            manner: Manner::Run,
+        });
     }
     if word == "explain" {
-        return Some(Request::Explain);
+        return Some(Request::Perform {
+            manner: Manner::Explain,
+        });
     }
     None
+}
+
+fn two_word_request(alloc: Global, word: &str, second: &str) -> Result<Option<Request>, NoMemory>
+    ensures { IfOk result (λ request. request ≡ two_word_request word.now second.now) }
+{
+    if word == "explain" {
+        return Ok(explain_request(second));
+    }
+    name_request(alloc, word, second)
+}
+
+// What `explain` tells besides. The option is taken as it is: it is the name of a policy too.
+fn explain_request(option: &str) -> Option<Request>
+    ensures { result ≡ explain_request option.now }
+{
+    if option == "--cert" {
+        Some(Request::Perform {
+            manner: Manner::Certify,
+        })
+    } else {
+        None
+    }
 }
 
 fn name_request(alloc: Global, word: &str, name: &str) -> Result<Option<Request>, NoMemory>
@@ -84,6 +110,9 @@ fn name_request(alloc: Global, word: &str, name: &str) -> Result<Option<Request>
     };
     if word == "import" {
         return Ok(Some(Request::Import { name }));
+    }
+    if word == "check" {
+        return Ok(Some(Request::Check { name, scene: None }));
     }
     Ok(None)
 }
@@ -141,6 +170,35 @@ fn scene_request(
         return Ok(Some(Request::Lint { scene: Some(scene) }));
     }
     Ok(None)
+}
+
+fn four_word_request(
+    alloc: Global,
+    word: &str,
+    name: &str,
+    option: &str,
+    scene: &str,
+) -> Result<Option<Request>, NoMemory>
+    ensures { IfOk result (λ request. request ≡ four_word_request word.now name.now option.now scene.now) }
+{
+    if word == "check" && option == "--scene" {
+        return check_request(alloc, name, scene);
+    }
+    Ok(None)
+}
+
+// The command `check` with a scene.
+fn check_request(alloc: Global, name: &str, scene: &str) -> Result<Option<Request>, NoMemory>
+    ensures { IfOk result (λ request. request ≡ check_request (policy_stem name.now) (policy_stem scene.now)) }
+{
+    let Some(name) = policy_stem(alloc, name)? else {
+        return Ok(None);
+    };
+    let scene = policy_stem(alloc, scene)?;
+    if scene.is_none() {
+        return Ok(None);
+    }
+    Ok(Some(Request::Check { name, scene }))
 }
 
 // A policy's or a scene's name without `/policy/` in front, or `None` where it is none.

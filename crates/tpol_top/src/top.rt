@@ -1,20 +1,20 @@
 ghost use Rattle.std.specs.Prelude.{◌≡◌, ◌≤◌, ◌⊎◌, Some, false, IsTrue, IfSome, map, take, drop};
 ghost use Rattle.std.specs.String.{string_bytes};
 ghost use Rattle.tpol_base.specs.Causes.{Rose, Grows, GrowsInPart};
+ghost use Rattle.tpol_front.specs.Outside.{LosesAtMost};
+ghost use Rattle.tpol_front.specs.Report.{OfHeld, most_read};
 ghost use Rattle.tpol_perform.specs.Explained.{IsExplainedScene};
 ghost use Rattle.tpol_steps.specs.Answer.{text_of};
-ghost use Rattle.tpol_top.specs.Explain.{IfExplain, OfHeld};
+ghost use Rattle.tpol_top.specs.Explain.{IfExplain};
 ghost use Rattle.tpol_top.specs.Reached.{IsReadableOf};
-ghost use Rattle.tpol_top.specs.Report.{LosesAtMost, OfReport, most_read, report_of};
-ghost use Rattle.tpol_top.specs.Status.{IsWhole, IsWholeUnlessNoMemory, IsSilent, IsPastReading, status_of};
+ghost use Rattle.tpol_top.specs.Report.{OfReport, report_of};
+ghost use Rattle.tpol_front.specs.Status.{IsWhole, IsWholeUnlessNoMemory, IsSilent, IsPastReading, status_of};
 ghost use Rattle.tpol_top.specs.Words.{reads_source, request_of, uses_shelf};
 
-use crate::Status;
-use crate::print::print_answer;
-use crate::run::answer_of_words;
+use crate::request::Request;
 use std::alloc::Global;
 use tpol_base::{Shelf, Sink, Source};
-use tpol_steps::Halt;
+use tpol_front::{Status, run_program};
 
 /// Does all that the program does: takes the words behind the program's name, reads the document from
 /// `source` where the command wants one, prints the report to `out`, one write a line, and answers the
@@ -85,23 +85,18 @@ pub fn policy_main<S: Source, K: Sink, H: Shelf>(
     ensures sink_count { K.faults out.old ≤ K.faults out.new }
     ensures shelf_count { H.faults shelf.old ≤ H.faults shelf.new }
 
-    // A scene that `explain` came to the end of is explained by what was printed. Every command of its journal that
-    // asks for a policy session was authorized by it exactly where the session's policy commands in the journal
-    // give the entity's authPolicy and every deferred check holds, and was served exactly where its own rules hold
-    // too, and its own policy session, if it has one, had room for one more fact. Behind the line of each one that
-    // was served on an entity whose policy the scene names stands the line of the first written path of that
-    // policy which those policy commands match, or of two different strings of one SHA-256 digest, or of one of
-    // digest zero. Where it names a path, the PCRs have the values that each PolicyPCR of the path asks for, or
-    // the two are different strings of one digest.
-    ensures explained { result ≡ Status.Done → IfExplain (request_of (map string_bytes words.now.items))
-        (OfHeld (S.left source.old) (H.documents shelf.old) (λ input all.
-        IsExplainedScene input all (report_of (map string_bytes words.now.items) input all).answer.lines)) }
+    // A scene that `explain` came to the end of, with `--cert` or not, is explained by what was printed. Every
+    // command of its journal that asks for a policy session was authorized by it exactly where the session's policy
+    // commands in the journal give the entity's authPolicy and every deferred check holds, and was served exactly
+    // where its own rules hold too, and its own policy session, if it has one, had room for one more fact. Behind the
+    // line of each one that was served on an entity whose policy the scene names stands the line of the first written
+    // path of that policy which those policy commands match, or of two different strings of one SHA-256 digest, or of
+    // one of digest zero. Where it names a path, the PCRs have the values that each PolicyPCR of the path asks for, or
+    // the two are different strings of one digest; and under `--cert` a line stands behind it with bytes that certify
+    // the path.
+    ensures explained { result ≡ Status.Done → IfExplain (request_of (map string_bytes words.now.items)) (λ manner.
+        OfHeld (S.left source.old) (H.documents shelf.old) (λ input all.
+        IsExplainedScene manner input all (report_of (map string_bytes words.now.items) input all).answer.lines)) }
 {
-    match answer_of_words(alloc, words, source, shelf) {
-        Ok(answer) => print_answer(out, &answer),
-        Err(Halt::Refused(answer)) => print_answer(out, &answer),
-        Err(Halt::ReadFailed) => Status::ReadFault,
-        Err(Halt::ShelfFailed) => Status::ShelfFault,
-        Err(Halt::NoMemory) => Status::NoMemory,
-    }
+    run_program::<Request, S, K, H>(alloc, words, source, out, shelf)
 }

@@ -19,6 +19,8 @@ const PCR_23_DIGEST: &str =
 const BEFORE_AN_OR: &str =
     r#"{"policy":[{"type":"POLICYCOMMANDCODE","code":"TPM2_CC_UNSEAL"},{"type":"POLICYOR","branches":[{"name":"a","policy":[{"type":"POLICYAUTHVALUE"}]},{"name":"b","policy":[{"type":"POLICYLOCALITY","locality":1}]}]}]}"#;
 
+const VALUE: &str = r#"{"policy":[{"type":"POLICYAUTHVALUE"}]}"#;
+
 const CURRENT_PCR: &str = r#"{"policy":[{"type":"POLICYPCR","currentPCRs":[23]}]}"#;
 
 // A sink over a list of bytes that fails where a run says so.
@@ -132,7 +134,7 @@ static RUNS: [Run<'static>; 6] = [
 ];
 
 // Runs that have what they need, over objects that fail at every call that they are not to get.
-static WHOLE_RUNS: [Run<'static>; 3] = [
+static WHOLE_RUNS: [Run<'static>; 5] = [
     Run {
         words: "run",
         input: r#"{"script":[{"event":"presence","on":true},{"event":"time","ms":5},{"event":"command","client":1,"bytes":"8001"}]}"#,
@@ -174,6 +176,30 @@ static WHOLE_RUNS: [Run<'static>; 3] = [
         shelf: &[1],
         status: Status::Done,
         printed: &["{\"description\":\"\",\"policy\":[{\"type\":\"POLICYAUTHVALUE\"}]}\n"],
+    },
+    // The shelf is asked for its names and for the one document.
+    Run {
+        words: "check one",
+        input: "46504331000000018FCD2169ab92694e0c633f1ab772842b8241bbc20288981fc7ac1eddc1fddb0e\n",
+        documents: &[("one.json", VALUE)],
+        source: &[3],
+        sink: &[3],
+        shelf: &[3],
+        status: Status::Done,
+        printed: &[
+            "path 1 -\n",
+            "digest 8fcd2169ab92694e0c633f1ab772842b8241bbc20288981fc7ac1eddc1fddb0e\n",
+        ],
+    },
+    Run {
+        words: "check one",
+        input: "46504331000000018fcd2169ab92694e0c633f1ab772842b8241bbc20288981fc7ac1eddc1fddb0f",
+        documents: &[("one.json", VALUE)],
+        source: &[3],
+        sink: &[2],
+        shelf: &[3],
+        status: Status::BadCert,
+        printed: &["error BadCert Differs 1\n"],
     },
 ];
 

@@ -6,22 +6,22 @@ use Rattle.tpol_prepare.proofs.StagedScenes.{is_staged, script_kept, staged_as, 
 use Rattle.tpol_prepare.proofs.scenario.policies_of_scene.Goals as goal
 
 pub returns-in-Ok-clause-answer : goal.returns-in-Ok-clause-answer
-returns-in-Ok-clause-answer c = λ explains.
-    staged_as explains (policies_of c.args.store.now) c.args.scene.now c.in_ok-prepared.prepared c.in-Ok.approved.0
+returns-in-Ok-clause-answer c = λ manner.
+    staged_as manner (policies_of c.args.store.now) c.args.scene.now c.in_ok-prepared.prepared c.in-Ok.approved.0
     c.in_ok-prepared.ensures.answer c.in-Ok.ensures.answer c.in-Ok.ensures.approvals
 
 pub returns-in-Ok-clause-staged : goal.returns-in-Ok-clause-staged
-returns-in-Ok-clause-staged c = λ explains.
-    let scenario : IsScenarioOf c.in_ok-prepared.prepared.setup (scenario_with explains c.args.scene.now c.in_ok-prepared.prepared c.in-Ok.approved.0).scenario = record {
+returns-in-Ok-clause-staged c = λ manner.
+    let scenario : IsScenarioOf c.in_ok-prepared.prepared.setup (scenario_with manner c.args.scene.now c.in_ok-prepared.prepared c.in-Ok.approved.0).scenario = record {
       entities = c.in-Ok.ensures.entities;
       begun = c.in-Ok.ensures.begun;
       policies = have_unerased c.in_ok-prepared.prepared.setup c.in_ok-prepared.prepared.entities
           (prepared_have (policies_of c.args.store.now) c.args.scene.now (erased_prepared c.in_ok-prepared.prepared) c.in_ok-prepared.ensures.answer);
     } in
-    is_staged explains c.args.scene.now c.in_ok-prepared.prepared c.in-Ok.approved.0
+    is_staged manner c.args.scene.now c.in_ok-prepared.prepared c.in-Ok.approved.0
     (c.in_ok-prepared.ensures.setup c.requires.setup) scenario (c.in_ok-prepared.ensures.entities c.requires.readable) (c.in_ok-prepared.ensures.begun c.requires.readable) c.in-Ok.ensures.bounded c.requires.clients
     (script_kept (policies_of c.args.store.now) c.args.scene.now (erased_prepared c.in_ok-prepared.prepared) c.in_ok-prepared.ensures.answer c.requires.script)
 
 pub returns-in-Err-clause-answer : goal.returns-in-Err-clause-answer
-returns-in-Err-clause-answer c = λ explains.
-    staged_halts explains (policies_of c.args.store.now) c.args.scene.now c.in_ok-prepared.prepared c.in-Err.halt c.in_ok-prepared.ensures.answer c.in-Err.ensures.answer
+returns-in-Err-clause-answer c = λ manner.
+    staged_halts manner (policies_of c.args.store.now) c.args.scene.now c.in_ok-prepared.prepared c.in-Err.halt c.in_ok-prepared.ensures.answer c.in-Err.ensures.answer

@@ -1,0 +1,6 @@
+pub mod Commands
+pub mod Outside
+pub mod Reached
+pub mod Report
+pub mod Status
+pub mod Told

@@ -1,0 +1,34 @@
+ghost use Rattle.std.specs.Prelude.{◌≡◌, Some, IfSome, IfOk, take, drop};
+ghost use Rattle.tpol_base.specs.Causes.{HasLapse, IsQuiet};
+ghost use Rattle.tpol_front.specs.Outside.{LosesAtMost};
+
+use std::alloc::Global;
+use tpol_base::{Blob, Failed, Lapse, Source};
+
+/// Reads a source to its end, or to its byte `limit`.
+///
+/// `Failed` comes only where the source's count of faults rose in this call, and the count rises in no call that
+/// is answered otherwise. `NoMemory` comes where memory ran out. After either the source may have lost bytes, its
+/// first `limit` at most.
+pub fn read_input<S: Source>(alloc: Global, source: &mut S, limit: usize) -> Result<Blob, Lapse>
+    ensures whole { IfSome (S.left source.old) (λ held. IfOk result (λ bytes.
+        (bytes ≡ take limit held) × (S.left source.new ≡ Some (drop limit held)))) }
+    ensures at_most { LosesAtMost limit (S.left source.old) (S.left source.new) }
+    ensures cause { HasLapse (S.faults source.old) (S.faults source.new) result }
+    ensures quiet { IsQuiet (S.faults source.old) (S.faults source.new) result }
+{
+    let mut bytes = Blob::new(alloc);
+    let mut piece = [0; 4096];
+    for _turn in 0..limit {
+        let want = piece.len().min(limit - bytes.len());
+        if want == 0 {
+            return Ok(bytes);
+        }
+        match source.read(&mut piece[..want]) {
+            Ok(0) => return Ok(bytes),
+            Ok(count) => bytes.extend_from_slice(&piece[..count])?,
+            Err(Failed) => return Err(Lapse::Failed),
+        }
+    }
+    Ok(bytes)
+}

@@ -1,0 +1,42 @@
+ghost use Rattle.std.specs.Prelude.{◌≡◌, ◌≤◌, ◌⊎◌, MatchResult, OnOk};
+ghost use Rattle.tpol_base.specs.Causes.{HasCause, Grows, GrowsInPart, Rose};
+ghost use Rattle.tpol_steps.specs.Answer.{text_of};
+ghost use Rattle.tpol_front.specs.Status.{status_of};
+
+use crate::Status;
+use tpol_base::{Blob, Failed, Sink};
+use tpol_steps::Answer;
+
+/// Prints an answer: the status that it ends with, or that the sink failed.
+pub fn print_answer<K: Sink>(out: &mut K, answer: &Answer) -> Status
+    ensures ends { (result ≡ Status.WriteFault) ⊎ (result ≡ status_of answer.now.verdict) }
+    ensures whole { result ≡ status_of answer.now.verdict
+        → Grows (K.contents out.old) (K.contents out.new) (text_of answer.now.lines) }
+    ensures prefix { result ≡ Status.WriteFault
+        → GrowsInPart (K.contents out.old) (K.contents out.new) (text_of answer.now.lines) }
+    ensures write_fault { result ≡ Status.WriteFault → Rose (K.faults out.old) (K.faults out.new) }
+    ensures write_told { (result ≡ Status.WriteFault) ⊎ (K.faults out.new ≡ K.faults out.old) }
+    ensures sink_count { K.faults out.old ≤ K.faults out.new }
+{
+    match print_lines(out, answer.lines.as_slice()) {
+        Ok(()) => Status::of_verdict(answer.verdict),
+        Err(Failed) => Status::WriteFault,
+    }
+}
+
+// Writes lines, each in one write.
+fn print_lines<K: Sink>(out: &mut K, lines: &[Blob]) -> Result<(), Failed>
+    ensures written { MatchResult result
+        (λ _. Grows (K.contents out.old) (K.contents out.new) (text_of lines.now))
+        (λ _. GrowsInPart (K.contents out.old) (K.contents out.new) (text_of lines.now)) }
+    ensures cause { HasCause (K.faults out.old) (K.faults out.new) result }
+    ensures quiet { OnOk result (K.faults out.new ≡ K.faults out.old) }
+{
+    for line in lines {
+        match out.write(line.as_slice()) {
+            Ok(()) => {}
+            Err(failed) => return Err(failed),
+        }
+    }
+    Ok(())
+}
