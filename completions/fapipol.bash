@@ -6,8 +6,10 @@ _fapipol() {
     case $COMP_CWORD:${COMP_WORDS[COMP_CWORD - 1]} in
         1:*) all=$("$1" --words 2>/dev/null | sed 's/ .*//' | uniq) ;;
         2:compile | 2:paths | 2:lint) all=--scene ;;
-        2:import) all=$(_fapipol_names json) ;;
-        3:--scene) all=$(_fapipol_names scene) ;;
+        2:explain) all=--cert ;;
+        2:import | 2:check) all=$(_fapipol_names json) ;;
+        3:--scene | 4:--scene) all=$(_fapipol_names scene) ;;
+        3:*) [ "${COMP_WORDS[1]}" != check ] || all=--scene ;;
     esac
     mapfile -t COMPREPLY < <(compgen -W "$all" -- "$word")
 }

@@ -1,5 +1,6 @@
 //! Response codes of policy commands as TPM 2.0 Part 3 gives them, done by hand, and the digest of a zero PCR.
 
+use crate::answers::code_of;
 use std::alloc::Global;
 use std::test::Fail;
 use tpm_auth::auth_ticket;
@@ -11,7 +12,7 @@ use tpm_policy::{
 use tpm_session::{Session, Sessions, fresh_facts};
 use tpol_base::constants::TPM_ST_AUTH_SECRET;
 use tpol_base::handle::{TPM_RH_ENDORSEMENT, TPM_RH_OWNER};
-use tpol_base::{Blob, Compare, Digest32, Digests, Name, NoMemory, Rc, Text};
+use tpol_base::{Blob, Compare, Digest32, Digests, Name, NoMemory, Text};
 use tpol_name::{IndexEntry, NvPublic};
 
 // The SHA-256 of 32 zero bytes.
@@ -31,14 +32,6 @@ fn start(alloc: Global) -> Result<Session, Fail> {
     match started(alloc)? {
         Some(session) => Ok(session),
         None => Err(Fail::new("no session")),
-    }
-}
-
-// The code of an answer: 0 of a success.
-fn code_of(answer: Result<(), Rc>) -> u32 {
-    match answer {
-        Ok(()) => 0,
-        Err(rc) => rc.code,
     }
 }
 

@@ -3,20 +3,12 @@
 //! The proof of a function proves the drop of each value that it holds, wherever it may end early. So the sessions are
 //! held by a function that ends in one place, and what is asked of them stands in others that are lent them.
 
+use crate::answers::starts;
 use std::alloc::Global;
-use tpm_session::{Sessions, fresh_facts};
-use tpol_base::Digest32;
+use tpm_session::Sessions;
 
 // The first handle of a policy session (TPM 2.0 Part 2, TPM_HT_POLICY_SESSION).
 const FIRST: u32 = 0x0300_0000;
-
-// Whether a session starts with this handle, or with none for want of a slot.
-fn starts(alloc: Global, sessions: &mut Sessions, taken: u64, handle: Option<u32>) -> bool {
-    match fresh_facts(alloc) {
-        Ok(facts) => sessions.start(5, Digest32::ZERO, facts, taken).ok() == handle,
-        Err(_) => false,
-    }
-}
 
 fn starts_sixty_four(alloc: Global, sessions: &mut Sessions) -> bool {
     for slot in 0..64u32 {

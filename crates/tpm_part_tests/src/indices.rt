@@ -6,9 +6,10 @@
 ghost use Rattle.std.specs.Prelude.{◌≡◌, length, IfOk};
 ghost use Rattle.tpm_nv.specs.Contents.{HasContent};
 
+use crate::answers::code_of;
 use std::alloc::Global;
 use tpm_nv::NvTable;
-use tpol_base::{Blob, NoMemory, Rc, Text};
+use tpol_base::{Blob, NoMemory, Text};
 use tpol_name::{IndexEntry, Indices, NvPublic};
 
 /// An ordinary index that the owner may read and write.
@@ -122,14 +123,6 @@ fn table(alloc: Global, attributes: u32, count: &[u8; 8]) -> Result<NvTable, NoM
     indices.push(index(alloc, 1, attributes, &[0; 8])?)?;
     indices.push(index(alloc, 2, WRITTEN_COUNTER, count)?)?;
     NvTable::new(alloc, indices)
-}
-
-/// The code of an answer: 0 of a success.
-fn code_of<T: Drop>(answer: Result<T, Rc>) -> u32 {
-    match answer {
-        Ok(_) => 0,
-        Err(rc) => rc.code,
-    }
 }
 
 /// The code that a call is answered with, where the table has its index.

@@ -7,18 +7,10 @@ ghost use Rattle.std.specs.Prelude.{◌≡◌, None, replicate};
 ghost use Rattle.tpm_context.specs.Saved.{AreApart};
 ghost use Rattle.tpm_session.specs.Slots.{slot_count};
 
+use crate::answers::starts;
 use std::alloc::Global;
 use tpm_context::Saved;
-use tpm_session::{FIRST_HANDLE, Sessions, fresh_facts};
-use tpol_base::Digest32;
-
-// Whether a session starts with this handle.
-fn starts(alloc: Global, sessions: &mut Sessions, taken: u64, handle: u32) -> bool {
-    match fresh_facts(alloc) {
-        Ok(facts) => sessions.start(0, Digest32::ZERO, facts, taken).ok() == Some(handle),
-        Err(_) => false,
-    }
-}
+use tpm_session::{FIRST_HANDLE, Sessions};
 
 // Whether the first session is saved, loaded by its own number alone, and once, and saved again.
 fn saves_and_loads(sessions: &mut Sessions, saved: &mut Saved) -> bool
@@ -36,7 +28,7 @@ fn saves_and_loads(sessions: &mut Sessions, saved: &mut Saved) -> bool
 
 // Whether a saved session keeps its handle until it is flushed.
 fn keeps_handle(alloc: Global, sessions: &mut Sessions, saved: &mut Saved) -> bool {
-    starts(alloc, sessions, saved.slots(), FIRST_HANDLE + 1)
+    starts(alloc, sessions, saved.slots(), Some(FIRST_HANDLE + 1))
         && saved.flush(FIRST_HANDLE)
         && !saved.flush(FIRST_HANDLE)
         && saved.slots() == 0
@@ -45,7 +37,7 @@ fn keeps_handle(alloc: Global, sessions: &mut Sessions, saved: &mut Saved) -> bo
 fn has_one_copy(alloc: Global, sessions: &mut Sessions, saved: &mut Saved) -> bool
     requires { saved.old ≡ replicate slot_count None }
 {
-    starts(alloc, sessions, saved.slots(), FIRST_HANDLE)
+    starts(alloc, sessions, saved.slots(), Some(FIRST_HANDLE))
         && saves_and_loads(sessions, saved)
         && keeps_handle(alloc, sessions, saved)
 }

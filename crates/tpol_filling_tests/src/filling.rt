@@ -1,29 +1,16 @@
 //! Outside values: digests that a TPM gives to filled policies, and the places of refusals.
 
+use crate::entities::{approver, owner_index};
+use crate::vectors::{APPROVED_UNSEAL, ENDORSEMENT_POLICY, HIGHEST_BIT_SET};
 use std::alloc::Global;
 use tpol_base::{Blob, Compare, Digest32, NoMemory, Sequence, Text};
 use tpol_digest::digest_of;
 use tpol_fill::{FillFault, FillKind, fill};
 use tpol_json::{Place, place_text};
-use tpol_name::{IndexEntry, NvPublic, ObjectEntry, ObjectPublic, Scheme, Sight};
+use tpol_name::Sight;
 use tpol_tree::{
     Branch, Branches, Element, Elements, EntityWish, IndexWish, KeyWish, PcrWish, Policy,
 };
-
-/// PolicySecret of the endorsement hierarchy, the authPolicy of endorsement keys.
-const ENDORSEMENT_POLICY: &[u8; 32] =
-    b"\x83\x71\x97\x67\x44\x84\xb3\xf8\x1a\x90\xcc\x8d\x46\xa5\xd7\x24\
-      \xfd\x52\xd7\x6e\x06\x52\x0b\x64\xf2\xa1\xda\x1b\x33\x14\x69\xaa";
-
-/// PolicyAuthorize by the key of `approver`, then PolicyCommandCode of Unseal.
-const APPROVED_UNSEAL: &[u8; 32] =
-    b"\x34\x05\x2b\xda\xc7\x36\x4d\xd4\xed\xdf\xc2\x83\xdd\xdb\xb4\x75\
-      \xf2\x7f\x4e\x20\x13\x19\x86\x81\x5e\x05\xe7\x1a\x7d\x7f\xe1\x54";
-
-/// PolicyNV of the index of `owner_index`: its content has the highest bit set.
-const HIGHEST_BIT_SET: &[u8; 32] =
-    b"\xbf\x3b\x68\x99\xa0\x4b\x37\x17\x3e\x68\xb0\x74\x52\x01\x33\x81\
-      \xbc\x01\x68\x52\x31\x81\xd5\xf9\xfc\xd2\xf4\x4a\xc2\x2b\xa7\xdd";
 
 /// PolicyPCR of PCR 23 at 32 zero bytes.
 const PCR_23_AT_ZERO: &[u8; 32] =
@@ -112,37 +99,6 @@ fn policy(alloc: Global, parts: &[Part]) -> Result<Policy, NoMemory> {
         description: Text::new(alloc),
         elements,
         approvals: Sequence::new(alloc),
-    })
-}
-
-fn approver(alloc: Global) -> Result<ObjectEntry, NoMemory> {
-    let unique = Blob::from_slice(alloc, &[0x11; 32])?;
-    Ok(ObjectEntry {
-        path: Text::from_str(alloc, "/HS/SRK/approver")?,
-        handle: 0x8000_0001,
-        public: ObjectPublic {
-            attributes: 0x0004_0040,
-            auth_policy: Blob::new(alloc),
-            scheme: Scheme::HmacKey,
-            unique,
-        },
-        auth: Blob::new(alloc),
-        secret: Blob::new(alloc),
-    })
-}
-
-fn owner_index(alloc: Global) -> Result<IndexEntry, NoMemory> {
-    let auth_policy = Blob::from_slice(alloc, ENDORSEMENT_POLICY)?;
-    Ok(IndexEntry {
-        path: Text::from_str(alloc, "/nv/Owner/policy")?,
-        public: NvPublic {
-            index: 0x01c0_7f01,
-            attributes: 0x020f_1008,
-            auth_policy,
-            size: 34,
-        },
-        auth: Blob::new(alloc),
-        content: Blob::new(alloc),
     })
 }
 

@@ -1,7 +1,7 @@
 use Rattle.std.proofs.Common.{◌≡◌, nat_eq, [], ◌∷◌, ◌++◌, map, refl, sym, ap, subst, ◌∙◌}
 use Rattle.std.specs.List.{IsDistinct}
 use Rattle.tpm_nv.proofs.FillLemmas.{handle_of}
-use Rattle.tpm_nv_tests.proofs.tests.table.Goals as goal
+use Rattle.tpm_part_tests.proofs.indices.table.Goals as goal
 
 pub new-requires-clause-handles : goal.new-requires-clause-handles
 unfolding IsDistinct

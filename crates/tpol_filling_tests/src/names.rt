@@ -1,69 +1,13 @@
 //! Outside values: Names that a TPM gives, and paths as the Feature API's key store writes them.
 
+use crate::entities::{approver, owner_index, policy_index, signing_key};
+use crate::vectors::{APPROVED_UNSEAL, INDEX};
 use std::alloc::Global;
-use tpol_base::{Blob, Digest32, Name, NoMemory, Sequence, Text};
+use tpol_base::{Blob, Digest32, Name, NoMemory, Sequence};
 use tpol_hash::{Hasher, hash};
 use tpol_name::{
-    DirEntry, IndexEntry, NvPublic, ObjectEntry, ObjectPublic, Scheme, Setup, Sight, directory,
-    nv_name, object_name, opening_sight, same_path, written,
+    DirEntry, Setup, Sight, directory, nv_name, object_name, opening_sight, same_path, written,
 };
-
-/// PolicySecret of the endorsement hierarchy, the authPolicy of endorsement keys.
-const ENDORSEMENT_POLICY: &[u8; 32] =
-    b"\x83\x71\x97\x67\x44\x84\xb3\xf8\x1a\x90\xcc\x8d\x46\xa5\xd7\x24\
-      \xfd\x52\xd7\x6e\x06\x52\x0b\x64\xf2\xa1\xda\x1b\x33\x14\x69\xaa";
-
-/// The digest in the Name of the index that holds that policy, once it is written.
-const POLICY_INDEX_DIGEST: &[u8; 32] =
-    b"\x0c\x9d\x71\x7e\x9c\x3f\xe6\x9f\xda\x41\x76\x94\x50\xbb\x14\x59\
-      \x57\xf8\xb3\x61\x0e\x08\x4d\xbf\x65\x59\x1a\x5d\x11\xec\xd8\x3f";
-
-/// PolicyAuthorize by the key of `signing_key`, then PolicyCommandCode of Unseal.
-const APPROVED_UNSEAL: &[u8; 32] =
-    b"\x34\x05\x2b\xda\xc7\x36\x4d\xd4\xed\xdf\xc2\x83\xdd\xdb\xb4\x75\
-      \xf2\x7f\x4e\x20\x13\x19\x86\x81\x5e\x05\xe7\x1a\x7d\x7f\xe1\x54";
-
-fn policy_index(alloc: Global, attributes: u32) -> Result<NvPublic, NoMemory> {
-    Ok(NvPublic {
-        index: 0x01c0_7f01,
-        attributes,
-        auth_policy: Blob::from_slice(alloc, ENDORSEMENT_POLICY)?,
-        size: 34,
-    })
-}
-
-fn signing_key(alloc: Global) -> Result<ObjectPublic, NoMemory> {
-    Ok(ObjectPublic {
-        attributes: 0x0004_0040,
-        auth_policy: Blob::new(alloc),
-        scheme: Scheme::HmacKey,
-        unique: Blob::from_slice(alloc, &[0x11; 32])?,
-    })
-}
-
-fn approver(alloc: Global) -> Result<ObjectEntry, NoMemory> {
-    let secret = Blob::from_slice(alloc, b"key")?;
-    let path = Text::from_str(alloc, "/HS/SRK/approver")?;
-    Ok(ObjectEntry {
-        path,
-        handle: 0x8000_0001,
-        public: signing_key(alloc)?,
-        auth: Blob::new(alloc),
-        secret,
-    })
-}
-
-fn owner_index(alloc: Global) -> Result<IndexEntry, NoMemory> {
-    let auth = Blob::from_slice(alloc, b"pin")?;
-    let content = Blob::from_slice(alloc, &[0; 34])?;
-    let path = Text::from_str(alloc, "/nv/Owner/policy")?;
-    Ok(IndexEntry {
-        path,
-        public: policy_index(alloc, 0x020f_1008)?,
-        auth,
-        content,
-    })
-}
 
 /// A machine with nothing on it.
 fn empty_setup(alloc: Global) -> Setup {
@@ -107,7 +51,7 @@ fn digest_in(name: &Name) -> [u8; 32] {
 #[test]
 fn the_name_of_an_index(rt: HostRuntime) -> Result<(), NoMemory> {
     let index = policy_index(rt.alloc(), 0x220f_1008)?;
-    assert!(rt; written(&index) && digest_in(&nv_name(&index)) == *POLICY_INDEX_DIGEST);
+    assert!(rt; written(&index) && digest_in(&nv_name(&index)) == *INDEX);
     Ok(())
 }
 
@@ -175,7 +119,7 @@ fn are_key_and_index(lines: &[DirEntry]) -> bool {
         [key, index] => {
             key.handle == 0x8000_0001
                 && index.handle == 0x01c0_7f01
-                && digest_in(&index.name) == *POLICY_INDEX_DIGEST
+                && digest_in(&index.name) == *INDEX
         }
         _ => false,
     }
