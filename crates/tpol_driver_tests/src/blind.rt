@@ -1,6 +1,9 @@
 //! Blind runs. The commands are computed by another program (Python's `hashlib`) from the rules of the commands; the
 //! replies are written by hand.
 
+ghost use Rattle.std.specs.Prelude.{◌≤◌, All, IsTrue, length};
+
+use crate::steps::{BOOT, DENIED, NONCE_SEED, OK, OWNER, START, Step, ZERO_PCRS, is_made};
 use std::alloc::Global;
 use tpol_base::{Blob, Digest32, Digests, Name, NoMemory, Rc, Text};
 use tpol_driver::{
@@ -10,19 +13,6 @@ use tpol_driver::{
 use tpol_goal::{Goal, Grants, Secrets};
 use tpol_name::{DirEntry, Directory};
 use tpol_tree::{Assertion, Move, Moves, Path, PathSteps, Paths};
-
-/// A command of a run, and its reply.
-#[derive(Clone, Copy)]
-struct Step {
-    command: &'static [u8],
-    reply: &'static [u8],
-}
-
-/// StartAuthSession with the nonce of the command 0.
-const START: &[u8] =
-    b"\x80\x01\x00\x00\x00\x3b\x00\x00\x01\x76\x40\x00\x00\x07\x40\x00\x00\x07\x00\x20\
-      \x01\xdb\x4b\xaa\x43\xff\xba\x54\x51\xe6\x42\x7b\x4b\x6a\x4e\x56\xeb\x70\x5b\x08\
-      \x93\xde\xd6\x88\x9a\x26\x16\x89\xe2\xe3\x96\xf1\x00\x00\x01\x00\x10\x00\x0b";
 
 /// Its reply: the session 03000000.
 const STARTED: &[u8] =
@@ -77,14 +67,8 @@ const UNSEALED: &[u8] =
       \x20\xaa\xaa\xaa\xaa\xaa\xaa\xaa\xaa\xaa\xaa\xaa\xaa\xaa\xaa\xaa\xaa\xaa\xaa\xaa\
       \xaa\xaa\xaa\xaa\xaa\xaa\xaa\xaa\xaa\xaa\xaa\xaa\xaa\x00\x00\x00";
 
-/// Unseal refused: 000009a3.
-const DENIED: &[u8] = b"\x80\x01\x00\x00\x00\x0a\x00\x00\x09\xa3";
-
 /// FlushContext.
 const FLUSH: &[u8] = b"\x80\x01\x00\x00\x00\x0e\x00\x00\x01\x65\x03\x00\x00\x00";
-
-/// The reply without fields.
-const OK: &[u8] = b"\x80\x01\x00\x00\x00\x0a\x00\x00\x00\x00";
 
 /// PolicyRestart refused: 00000910.
 const NO_RESTART: &[u8] = b"\x80\x01\x00\x00\x00\x0a\x00\x00\x09\x10";
@@ -92,31 +76,8 @@ const NO_RESTART: &[u8] = b"\x80\x01\x00\x00\x00\x0a\x00\x00\x09\x10";
 /// What Unseal gives.
 const KEY: &[u8] = b"key";
 
-/// The digest of the branch of PCRs.
-const BOOT: Digest32 = Digest32 {
-    bytes: *b"\x90\x93\x8e\x03\xc6\x35\x65\x05\xa1\x82\xcf\x9c\x16\x6d\xaa\x30\xc0\xa6\x9c\x6f\
-      \x13\xf6\xbb\xca\x77\x7d\xf6\xa8\x83\xdd\xf7\xb6",
-};
-
-/// The digest of the owner's branch.
-const OWNER: Digest32 = Digest32 {
-    bytes: *b"\x51\xae\x7a\x4a\xb4\xb3\xef\xdd\xde\xd3\xe8\x78\xf9\x2b\xec\x2c\x9f\x5e\x2e\x88\
-      \xb9\xc7\xe6\x7e\x1b\x22\x96\x94\xef\x4b\x90\xf2",
-};
-
-/// The digest of zero PCRs.
-const ZERO_PCRS: Digest32 = Digest32 {
-    bytes: *b"\x38\x72\x3a\x2e\x5e\x8a\x17\xaa\x79\x50\xdc\x00\x82\x09\x94\x4e\x89\x8f\x69\xa7\
-      \xbd\x10\xa2\x3c\x83\x9d\x34\x1e\x93\x5f\xd5\xca",
-};
-
-/// The nonce seed of the run.
-const NONCE_SEED: [u8; 32] =
-    *b"\x3e\x09\x99\x91\xde\x67\x52\x16\x4a\xe4\x78\xd6\xa4\xe5\x11\x61\x56\xda\xb8\xba\
-      \xe5\x2e\x11\xa5\xc8\x2b\xf4\xc1\x80\xe1\x70\x01";
-
 /// The first path is refused at its PCRs.
-const REFUSED: [Step; 3] = [
+const REFUSED: [Step<'static>; 3] = [
     Step {
         command: START,
         reply: STARTED,
@@ -132,7 +93,7 @@ const REFUSED: [Step; 3] = [
 ];
 
 /// The third path, up to its goal: the second one is skipped.
-const OWNED: [Step; 3] = [
+const OWNED: [Step<'static>; 3] = [
     Step {
         command: SECRET,
         reply: SECRET_OK,
@@ -241,14 +202,6 @@ fn fill(plan: &mut BlindPlan, alloc: Global) -> Result<(), NoMemory> {
         name: Name::Hash(Digest32 { bytes: [0x22; 32] }),
         attributes: 0x40,
     })
-}
-
-/// Whether this command was made, and is the one that is wanted.
-fn is_made(made: Result<Blob, NoMemory>, command: &[u8]) -> bool {
-    match made {
-        Ok(bytes) => bytes.as_slice() == command,
-        Err(_) => false,
-    }
 }
 
 // One command and its reply in each state: the state after them, nothing where the command is another one.
@@ -415,13 +368,13 @@ fn fails(alloc: Global, front: &[Step], back: &[Step], code: u32, stage: Stage) 
 }
 
 /// The third path is served.
-const SERVED: [Step; 1] = [Step {
+const SERVED: [Step<'static>; 1] = [Step {
     command: UNSEAL,
     reply: UNSEALED,
 }];
 
 /// The third path is refused too.
-const NOT_SERVED: [Step; 2] = [
+const NOT_SERVED: [Step<'static>; 2] = [
     Step {
         command: UNSEAL,
         reply: DENIED,
@@ -446,7 +399,7 @@ const REFUSALS: [Tried; 3] = [
 ];
 
 /// The front of the run, up to its PolicyRestart.
-const FRONT: [Step; 2] = [
+const FRONT: [Step<'static>; 2] = [
     Step {
         command: START,
         reply: STARTED,
@@ -457,7 +410,7 @@ const FRONT: [Step; 2] = [
     },
 ];
 
-const DENIED_RESTART: [Step; 2] = [
+const DENIED_RESTART: [Step<'static>; 2] = [
     Step {
         command: RESTART,
         reply: NO_RESTART,
@@ -468,7 +421,7 @@ const DENIED_RESTART: [Step; 2] = [
     },
 ];
 
-const BAD_RESTART: [Step; 2] = [
+const BAD_RESTART: [Step<'static>; 2] = [
     Step {
         command: RESTART,
         reply: STARTED,
@@ -479,7 +432,7 @@ const BAD_RESTART: [Step; 2] = [
     },
 ];
 
-const BAD_START: [Step; 1] = [Step {
+const BAD_START: [Step<'static>; 1] = [Step {
     command: START,
     reply: OK,
 }];

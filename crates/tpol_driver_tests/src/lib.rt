@@ -5,6 +5,8 @@
 #[cfg(test)]
 mod blind;
 #[cfg(test)]
+mod steps;
+#[cfg(test)]
 mod tests;
 #[cfg(test)]
 mod tickets;

@@ -2,19 +2,13 @@
 //! commands, and the ends that replies lead to. The run of the disk is on a machine whose seed is 32 zero
 //! bytes; its end has the HMAC that `tpm_auth` has from there too.
 
+use crate::steps::{BOOT, NONCE_SEED, OWNER, Step, ZERO_PCRS, at_start, turn};
 use std::alloc::Global;
 use tpol_base::{Blob, Compare, Digest32, Digests, Name, NoMemory, Sequence, Text};
-use tpol_driver::{Asserting, Closing, End, Next, Plan, Planned, Ready, Stage, Tickets};
+use tpol_driver::{End, Next, Plan, Stage, Tickets};
 use tpol_goal::{Goal, Grants, Secrets};
 use tpol_name::{DirEntry, Directory};
 use tpol_tree::{Assertion, Move, Moves, Path};
-
-/// A command of a run, and its reply.
-#[derive(Clone, Copy)]
-struct Step<'a> {
-    command: &'static [u8],
-    reply: &'a [u8],
-}
 
 /// A reply to the step at this place by which a run fails: the code that denies it, 0 where the reply is bad,
 /// and the stage of the end.
@@ -276,29 +270,6 @@ const DISK_FLUSH: &[u8] = b"\x80\x01\x00\x00\x00\x0e\x00\x00\x01\x65\x03\x00\x00
 /// FlushContext of the device's session.
 const DEVICE_FLUSH: &[u8] = b"\x80\x01\x00\x00\x00\x0e\x00\x00\x01\x65\x03\x00\x00\x02";
 
-/// The digest of the branch `boot`.
-const BOOT: Digest32 = Digest32 {
-    bytes: *b"\x90\x93\x8e\x03\xc6\x35\x65\x05\xa1\x82\xcf\x9c\x16\x6d\xaa\x30\xc0\xa6\x9c\x6f\
-      \x13\xf6\xbb\xca\x77\x7d\xf6\xa8\x83\xdd\xf7\xb6",
-};
-
-/// The digest of the branch `owner`.
-const OWNER: Digest32 = Digest32 {
-    bytes: *b"\x51\xae\x7a\x4a\xb4\xb3\xef\xdd\xde\xd3\xe8\x78\xf9\x2b\xec\x2c\x9f\x5e\x2e\x88\
-      \xb9\xc7\xe6\x7e\x1b\x22\x96\x94\xef\x4b\x90\xf2",
-};
-
-/// The nonce seed of run 1.
-const NONCE_SEED: [u8; 32] =
-    *b"\x3e\x09\x99\x91\xde\x67\x52\x16\x4a\xe4\x78\xd6\xa4\xe5\x11\x61\x56\xda\xb8\xba\
-      \xe5\x2e\x11\xa5\xc8\x2b\xf4\xc1\x80\xe1\x70\x01";
-
-/// The digest of the PCRs 0, 2, 4 and 7 at zero.
-const ZERO_PCRS: Digest32 = Digest32 {
-    bytes: *b"\x38\x72\x3a\x2e\x5e\x8a\x17\xaa\x79\x50\xdc\x00\x82\x09\x94\x4e\x89\x8f\x69\xa7\
-      \xbd\x10\xa2\x3c\x83\x9d\x34\x1e\x93\x5f\xd5\xca",
-};
-
 /// The digest in the Name of the disk key.
 const DISK_KEY: [u8; 32] =
     *b"\x01\x17\x0c\x0c\xcc\xc3\x8e\xa2\xeb\x61\x29\xdc\x09\xe9\x7f\x4e\xe7\x13\x35\x1d\
@@ -545,68 +516,13 @@ fn fill(plan: &mut Plan, alloc: Global, run: &Run) -> Result<(), NoMemory> {
     push_entries(&mut plan.directory, alloc, run.directory)
 }
 
-/// Whether this command was made, and is the one that is wanted.
-fn is_made(made: Result<Blob, NoMemory>, command: &[u8]) -> bool {
-    match made {
-        Ok(bytes) => bytes.as_slice() == command,
-        Err(_) => false,
-    }
-}
-
-// One command and its reply in each state: the state after them, nothing where the command is another one.
-
-fn at_start(alloc: Global, plan: Plan, step: &Step) -> Option<Next> {
-    if !plan.complete() || plan.path.moves.len() > 512 {
+fn begun(alloc: Global, run: &Run, step: &Step) -> Option<Next> {
+    let mut plan = empty_plan(alloc, run);
+    if fill(&mut plan, alloc, run).is_err() || !plan.complete() {
         drop(plan);
         return None;
     }
-    let state = Planned::new(plan);
-    if is_made(state.next(alloc), step.command) {
-        return state.take(alloc, step.reply).ok();
-    }
-    drop(state);
-    None
-}
-
-fn on_path(alloc: Global, state: Asserting, step: &Step) -> Option<Next> {
-    if is_made(state.next(alloc), step.command) {
-        return state.take(alloc, step.reply).ok();
-    }
-    drop(state);
-    None
-}
-
-fn at_goal(alloc: Global, state: Ready, step: &Step) -> Option<Next> {
-    if is_made(state.next(alloc), step.command) {
-        return state.take(alloc, step.reply).ok();
-    }
-    drop(state);
-    None
-}
-
-fn at_end(alloc: Global, state: Closing, step: &Step) -> Option<Next> {
-    if is_made(state.next(alloc), step.command) {
-        return state.take(alloc, step.reply).ok();
-    }
-    drop(state);
-    None
-}
-
-fn turn(alloc: Global, state: Next, step: &Step) -> Option<Next> {
-    match state {
-        Next::Asserting(state) => on_path(alloc, state, step),
-        Next::Ready(state) => at_goal(alloc, state, step),
-        Next::Closing(state) => at_end(alloc, state, step),
-        Next::Over(_) => None,
-    }
-}
-
-fn begun(alloc: Global, run: &Run, step: &Step) -> Option<Next> {
-    let mut plan = empty_plan(alloc, run);
-    match fill(&mut plan, alloc, run) {
-        Ok(()) => at_start(alloc, plan, step),
-        Err(_) => None,
-    }
+    at_start(alloc, plan, step)
 }
 
 /// The step of a run at this place with another reply.

@@ -1,25 +1,13 @@
 //! Tickets of a run. The commands and the ticket are computed by another program (Python's `hashlib` and `hmac`) from
 //! the rules of the commands, on a machine whose seed is 32 zero bytes.
 
+use crate::steps::{DENIED, NONCE_SEED, OK, START, Step, at_start, turn};
 use std::alloc::Global;
 use tpol_base::{Blob, Digest32, Name, NoMemory, Text};
-use tpol_driver::{Asserting, Closing, HeldTicket, Next, Plan, Planned, Ready, Tickets};
+use tpol_driver::{HeldTicket, Next, Plan, Tickets};
 use tpol_goal::{Goal, Grants, Secrets};
 use tpol_name::{DirEntry, Directory};
 use tpol_tree::{Assertion, Move, Moves, Path, PathSteps};
-
-/// A command of a run, and its reply.
-#[derive(Clone, Copy)]
-struct Step {
-    command: &'static [u8],
-    reply: &'static [u8],
-}
-
-/// StartAuthSession with the nonce of the command 0.
-const START: &[u8] =
-    b"\x80\x01\x00\x00\x00\x3b\x00\x00\x01\x76\x40\x00\x00\x07\x40\x00\x00\x07\x00\x20\
-      \x01\xdb\x4b\xaa\x43\xff\xba\x54\x51\xe6\x42\x7b\x4b\x6a\x4e\x56\xeb\x70\x5b\x08\
-      \x93\xde\xd6\x88\x9a\x26\x16\x89\xe2\xe3\x96\xf1\x00\x00\x01\x00\x10\x00\x0b";
 
 /// Its reply: the session 03000001.
 const STARTED: &[u8] =
@@ -59,27 +47,16 @@ const UNSEAL: &[u8] =
       \x00\x01\x00\x20\xe8\xc1\xb0\x12\xd1\x42\x56\x71\x4a\xe8\x5e\x51\xde\x03\xfa\x06\
       \xf6\x11\x76\xb9\x0d\xc8\x28\x1f\xfb\xae\x8f\x1f\x1f\xab\x76\xcb\x00\x00\x00";
 
-/// Unseal refused: 000009a3.
-const DENIED: &[u8] = b"\x80\x01\x00\x00\x00\x0a\x00\x00\x09\xa3";
-
 /// FlushContext.
 const FLUSH: &[u8] = b"\x80\x01\x00\x00\x00\x0e\x00\x00\x01\x65\x03\x00\x00\x01";
-
-/// The reply without fields.
-const OK: &[u8] = b"\x80\x01\x00\x00\x00\x0a\x00\x00\x00\x00";
 
 /// The ticket: the HMAC over its tag, the deadline, the reset count 0, no cpHashA, no policyRef and the Name.
 const TICKET: [u8; 32] =
     *b"\x7c\xee\x05\x1b\xe5\x69\x77\xce\x84\x5a\x60\xf6\xaa\x30\x1b\x16\xe6\x3b\xf4\x13\
       \xd6\x98\xe9\x8f\x79\x08\x93\x8e\xc0\x6f\x53\x9b";
 
-/// The nonce seed of the run.
-const NONCE_SEED: [u8; 32] =
-    *b"\x3e\x09\x99\x91\xde\x67\x52\x16\x4a\xe4\x78\xd6\xa4\xe5\x11\x61\x56\xda\xb8\xba\
-      \xe5\x2e\x11\xa5\xc8\x2b\xf4\xc1\x80\xe1\x70\x01";
-
 /// A run that earns a ticket, and is denied its goal.
-const EARNING: [Step; 4] = [
+const EARNING: [Step<'static>; 4] = [
     Step {
         command: START,
         reply: STARTED,
@@ -99,7 +76,7 @@ const EARNING: [Step; 4] = [
 ];
 
 /// The same, where the reply has no deadline.
-const NOT_EARNING: [Step; 4] = [
+const NOT_EARNING: [Step<'static>; 4] = [
     Step {
         command: START,
         reply: STARTED,
@@ -119,7 +96,7 @@ const NOT_EARNING: [Step; 4] = [
 ];
 
 /// The same by the ticket.
-const SHOWING: [Step; 4] = [
+const SHOWING: [Step<'static>; 4] = [
     Step {
         command: START,
         reply: STARTED,
@@ -203,62 +180,6 @@ fn plan(alloc: Global, holds: bool) -> Option<Plan> {
         return None;
     }
     Some(plan)
-}
-
-/// Whether this command was made, and is the one that is wanted.
-fn is_made(made: Result<Blob, NoMemory>, command: &[u8]) -> bool {
-    match made {
-        Ok(bytes) => bytes.as_slice() == command,
-        Err(_) => false,
-    }
-}
-
-// One command and its reply in each state: the state after them, nothing where the command is another one.
-
-fn at_start(alloc: Global, plan: Plan, step: &Step) -> Option<Next> {
-    if plan.path.moves.len() > 512 {
-        drop(plan);
-        return None;
-    }
-    let state = Planned::new(plan);
-    if is_made(state.next(alloc), step.command) {
-        return state.take(alloc, step.reply).ok();
-    }
-    drop(state);
-    None
-}
-
-fn on_path(alloc: Global, state: Asserting, step: &Step) -> Option<Next> {
-    if is_made(state.next(alloc), step.command) {
-        return state.take(alloc, step.reply).ok();
-    }
-    drop(state);
-    None
-}
-
-fn at_goal(alloc: Global, state: Ready, step: &Step) -> Option<Next> {
-    if is_made(state.next(alloc), step.command) {
-        return state.take(alloc, step.reply).ok();
-    }
-    drop(state);
-    None
-}
-
-fn at_end(alloc: Global, state: Closing, step: &Step) -> Option<Next> {
-    if is_made(state.next(alloc), step.command) {
-        return state.take(alloc, step.reply).ok();
-    }
-    drop(state);
-    None
-}
-
-fn turn(alloc: Global, state: Next, step: &Step) -> Option<Next> {
-    match state {
-        Next::Asserting(state) => on_path(alloc, state, step),
-        Next::Ready(state) => at_goal(alloc, state, step),
-        Next::Closing(state) => at_end(alloc, state, step),
-        Next::Over(_) => None,
-    }
 }
 
 /// The state of the run behind these steps.
