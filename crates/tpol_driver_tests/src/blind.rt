@@ -76,37 +76,112 @@ const NO_RESTART: &[u8] = b"\x80\x01\x00\x00\x00\x0a\x00\x00\x09\x10";
 /// What Unseal gives.
 const KEY: &[u8] = b"key";
 
-/// The first path is refused at its PCRs.
-const REFUSED: [Step<'static>; 3] = [
+// The steps of the runs.
+
+const STARTS: Step<'static> = Step {
+    command: START,
+    reply: STARTED,
+};
+
+const HAS_OTHER_PCRS: Step<'static> = Step {
+    command: PCRS,
+    reply: NOT_THE_PCRS,
+};
+
+const BEGINS_ANEW: Step<'static> = Step {
+    command: RESTART,
+    reply: OK,
+};
+
+const KNOWS_THE_OWNER: Step<'static> = Step {
+    command: SECRET,
+    reply: SECRET_OK,
+};
+
+const HAS_THE_CODE: Step<'static> = Step {
+    command: CODE,
+    reply: OK,
+};
+
+const JOINS_THE_BRANCHES: Step<'static> = Step {
+    command: BRANCHES,
+    reply: OK,
+};
+
+const ENDS: Step<'static> = Step {
+    command: FLUSH,
+    reply: OK,
+};
+
+/// The first path is refused at its PCRs, the second one is skipped, and the third one is served.
+static SERVED: [Step<'static>; 7] = [
+    STARTS,
+    HAS_OTHER_PCRS,
+    BEGINS_ANEW,
+    KNOWS_THE_OWNER,
+    HAS_THE_CODE,
+    JOINS_THE_BRANCHES,
     Step {
-        command: START,
-        reply: STARTED,
-    },
-    Step {
-        command: PCRS,
-        reply: NOT_THE_PCRS,
-    },
-    Step {
-        command: RESTART,
-        reply: OK,
+        command: UNSEAL,
+        reply: UNSEALED,
     },
 ];
 
-/// The third path, up to its goal: the second one is skipped.
-const OWNED: [Step<'static>; 3] = [
+/// The same, and the third one is refused its goal.
+static REFUSED: [Step<'static>; 8] = [
+    STARTS,
+    HAS_OTHER_PCRS,
+    BEGINS_ANEW,
+    KNOWS_THE_OWNER,
+    HAS_THE_CODE,
+    JOINS_THE_BRANCHES,
     Step {
-        command: SECRET,
-        reply: SECRET_OK,
+        command: UNSEAL,
+        reply: DENIED,
     },
-    Step {
-        command: CODE,
-        reply: OK,
+    ENDS,
+];
+
+/// What becomes of the paths then.
+static REFUSALS: [Tried; 3] = [
+    Tried::Refused {
+        at: Stage::Move(1),
+        rc: Rc { code: 0x1c4 },
     },
-    Step {
-        command: BRANCHES,
-        reply: OK,
+    Tried::Skipped,
+    Tried::Refused {
+        at: Stage::Goal,
+        rc: Rc { code: 0x9a3 },
     },
 ];
+
+/// PolicyRestart is refused.
+static RESTART_REFUSED: [Step<'static>; 4] = [
+    STARTS,
+    HAS_OTHER_PCRS,
+    Step {
+        command: RESTART,
+        reply: NO_RESTART,
+    },
+    ENDS,
+];
+
+/// The reply to PolicyRestart is that of another command.
+static RESTART_MALFORMED: [Step<'static>; 4] = [
+    STARTS,
+    HAS_OTHER_PCRS,
+    Step {
+        command: RESTART,
+        reply: STARTED,
+    },
+    ENDS,
+];
+
+/// The reply to StartAuthSession has no session.
+static START_MALFORMED: [Step<'static>; 1] = [Step {
+    command: START,
+    reply: OK,
+}];
 
 fn assert_move(moves: &mut Moves, assertion: Assertion) -> Result<(), NoMemory> {
     moves.push(Move::Assert(assertion))
@@ -256,27 +331,19 @@ fn turn(alloc: Global, state: BlindNext, step: &Step) -> Option<BlindNext> {
     }
 }
 
-/// The plan of the run, where its first path that is tried is the first one.
-fn plan(alloc: Global) -> Option<BlindPlan> {
-    let mut plan = empty_plan(alloc);
-    if fill(&mut plan, alloc).is_err() || plan.paths.len() > 64 || plan.first() != Some(1) {
-        drop(plan);
-        return None;
-    }
-    Some(plan)
-}
-
-fn is_short(plan: &BlindPlan) -> bool
-    ensures { IsTrue result → All (λ path. length path.moves ≤ 512) plan.now.paths }
+/// Whether the first path of this plan is the first one that is tried, and its paths are as few and as short as a
+/// run may have them.
+fn begins_on_the_first(plan: &BlindPlan) -> bool
+    ensures few { IsTrue result → length plan.now.paths ≤ 64 }
+    ensures short { IsTrue result → All (λ path. length path.moves ≤ 512) plan.now.paths }
 {
-    plan.paths
-        .as_slice()
-        .iter()
-        .all(|path| path.moves.len() <= 512)
+    let paths = plan.paths.as_slice();
+    paths.len() <= 64 && plan.first() == Some(1) && paths.iter().all(|path| path.moves.len() <= 512)
 }
 
-fn begun(alloc: Global, plan: BlindPlan, step: &Step) -> Option<BlindNext> {
-    if plan.paths.len() > 64 || !is_short(&plan) {
+fn begun(alloc: Global, step: &Step) -> Option<BlindNext> {
+    let mut plan = empty_plan(alloc);
+    if fill(&mut plan, alloc).is_err() || !begins_on_the_first(&plan) {
         drop(plan);
         return None;
     }
@@ -286,21 +353,14 @@ fn begun(alloc: Global, plan: BlindPlan, step: &Step) -> Option<BlindNext> {
     }
 }
 
-/// The state behind these steps.
-fn turns(alloc: Global, state: BlindNext, steps: &[Step]) -> Option<BlindNext> {
-    let mut state = state;
-    for step in steps {
+/// The state of the run behind these steps.
+fn state_after(alloc: Global, steps: &[Step]) -> Option<BlindNext> {
+    let (first, others) = steps.split_first()?;
+    let mut state = begun(alloc, first)?;
+    for step in others {
         state = turn(alloc, state, step)?;
     }
     Some(state)
-}
-
-/// The state of the run behind these steps, which stand in three parts.
-fn state_after(alloc: Global, front: &[Step], middle: &[Step], back: &[Step]) -> Option<BlindNext> {
-    let state = begun(alloc, plan(alloc)?, front.first()?)?;
-    let state = turns(alloc, state, &front[1..])?;
-    let state = turns(alloc, state, middle)?;
-    turns(alloc, state, back)
 }
 
 /// Whether the run ended, and was served `key` on the third path.
@@ -338,118 +398,42 @@ fn is_failed(state: &Option<BlindNext>, code: u32, stage: Stage) -> bool {
     }
 }
 
-// A test names the tables of its run, and leaves the states to these functions: a proof about both at once is long.
+// A test names the table of its run, and leaves the states to these functions: a proof about both at once is long.
 
-fn serves(alloc: Global, front: &[Step], middle: &[Step], back: &[Step]) -> bool {
-    let state = state_after(alloc, front, middle, back);
+fn serves(alloc: Global, steps: &[Step]) -> bool {
+    let state = state_after(alloc, steps);
     let answer = is_served(&state);
     drop(state);
     answer
 }
 
-fn finds_none(
-    alloc: Global,
-    front: &[Step],
-    middle: &[Step],
-    back: &[Step],
-    wanted: &[Tried],
-) -> bool {
-    let state = state_after(alloc, front, middle, back);
+fn finds_none(alloc: Global, steps: &[Step], wanted: &[Tried]) -> bool {
+    let state = state_after(alloc, steps);
     let answer = is_on_none(&state, wanted);
     drop(state);
     answer
 }
 
-fn fails(alloc: Global, front: &[Step], back: &[Step], code: u32, stage: Stage) -> bool {
-    let state = state_after(alloc, front, &[], back);
+fn fails(alloc: Global, steps: &[Step], code: u32, stage: Stage) -> bool {
+    let state = state_after(alloc, steps);
     let answer = is_failed(&state, code, stage);
     drop(state);
     answer
 }
 
-/// The third path is served.
-const SERVED: [Step<'static>; 1] = [Step {
-    command: UNSEAL,
-    reply: UNSEALED,
-}];
-
-/// The third path is refused too.
-const NOT_SERVED: [Step<'static>; 2] = [
-    Step {
-        command: UNSEAL,
-        reply: DENIED,
-    },
-    Step {
-        command: FLUSH,
-        reply: OK,
-    },
-];
-
-/// What becomes of the paths then.
-const REFUSALS: [Tried; 3] = [
-    Tried::Refused {
-        at: Stage::Move(1),
-        rc: Rc { code: 0x1c4 },
-    },
-    Tried::Skipped,
-    Tried::Refused {
-        at: Stage::Goal,
-        rc: Rc { code: 0x9a3 },
-    },
-];
-
-/// The front of the run, up to its PolicyRestart.
-const FRONT: [Step<'static>; 2] = [
-    Step {
-        command: START,
-        reply: STARTED,
-    },
-    Step {
-        command: PCRS,
-        reply: NOT_THE_PCRS,
-    },
-];
-
-const DENIED_RESTART: [Step<'static>; 2] = [
-    Step {
-        command: RESTART,
-        reply: NO_RESTART,
-    },
-    Step {
-        command: FLUSH,
-        reply: OK,
-    },
-];
-
-const BAD_RESTART: [Step<'static>; 2] = [
-    Step {
-        command: RESTART,
-        reply: STARTED,
-    },
-    Step {
-        command: FLUSH,
-        reply: OK,
-    },
-];
-
-const BAD_START: [Step<'static>; 1] = [Step {
-    command: START,
-    reply: OK,
-}];
-
 #[test]
 fn the_second_try_is_served(rt: HostRuntime) {
-    assert!(rt; serves(rt.alloc(), &REFUSED, &OWNED, &SERVED));
+    assert!(rt; serves(rt.alloc(), &SERVED));
 }
 
 #[test]
 fn each_try_is_refused(rt: HostRuntime) {
-    assert!(rt; finds_none(rt.alloc(), &REFUSED, &OWNED, &NOT_SERVED, &REFUSALS));
+    assert!(rt; finds_none(rt.alloc(), &REFUSED, &REFUSALS));
 }
 
 #[test]
 fn runs_that_fail_between_two_tries(rt: HostRuntime) {
-    assert!(rt; fails(rt.alloc(), &FRONT, &DENIED_RESTART, 0x910, Stage::Restart));
-    assert!(rt; fails(rt.alloc(), &FRONT, &BAD_RESTART, 0, Stage::Restart));
-    assert!(rt; fails(rt.alloc(), &BAD_START, &[], 0, Stage::Start));
+    assert!(rt; fails(rt.alloc(), &RESTART_REFUSED, 0x910, Stage::Restart));
+    assert!(rt; fails(rt.alloc(), &RESTART_MALFORMED, 0, Stage::Restart));
+    assert!(rt; fails(rt.alloc(), &START_MALFORMED, 0, Stage::Start));
 }
