@@ -21,7 +21,6 @@ use Rattle.tpol_driver.specs.declared.session.Session.{Session}
 use Rattle.tpol_driver.specs.Driving.{is_verification}
 use Rattle.tpol_driver.specs.Plans.{is_complete, is_known_move}
 use Rattle.tpol_driver.specs.States.{is_over}
-use Rattle.tpol_name.specs.declared.entries.DirEntry.{DirEntry}
 use Rattle.tpol_name.specs.Directories.{directory_of}
 use Rattle.tpol_tree.specs.declared.path.Move.{Move}
 use Rattle.tpol_tree.specs.declared.path.Move.TheVariants.{Assert, Or, Approve, ApproveNv}
@@ -32,26 +31,21 @@ use Rattle.tpol_laws.specs.Runs.{IsBegun, IsRun}
 use Rattle.tpol_laws.proofs.BlockedSteps.{Authorized, Goes, Verified, authorize-goes, goal-goes, plain-goes, start-goes, verify-goes, whole-open}
 use Rattle.tpol_laws.proofs.BlockedTurns.{HasChance, SucceedsAfter, chance-later, chance-now, next-turn, not-yet, on_path}
 use Rattle.tpol_laws.proofs.Finds.{all-at, both}
-use Rattle.tpol_laws.proofs.Served.{Ahead, Begun, all-ahead, has-room, next-ahead, next-at, start-moved}
+use Rattle.tpol_laws.proofs.Served.{Ahead, Begun, all-ahead, has-room, known-of, next-ahead, next-at, start-moved}
 use Rattle.tpol_laws.proofs.Standing.{Stands, chooser_of, judged_after}
-use Rattle.tpol_laws.proofs.Step.{known-at}
 
 -- nothing blocks what is left of a path
-abbrev IsOpen : Run → List Event → ℕ → SessionState → List Move → Type 0
+abbrev pub IsOpen : Run → List Event → ℕ → SessionState → List Move → Type 0
 IsOpen run first number chosen rest = moves_block (chooser_of run first) number chosen rest ≡ None
 
 -- no move nor what is behind it is blocked
-act-open : (run : Run) (first : List Event) (number : ℕ) (chosen : SessionState) (act : Move) (rest : List Move) → move_block (chooser_of run first) chosen act ≡ None
+pub act-open : (run : Run) (first : List Event) (number : ℕ) (chosen : SessionState) (act : Move) (rest : List Move) → move_block (chooser_of run first) chosen act ≡ None
     → IsOpen run first (number + 1) (session_after (sight_after run.setup first) chosen act) rest → IsOpen run first number chosen (act ∷ rest)
 act-open run first number chosen act rest opens behind = λ i. or_else (block_of number (opens i)) (behind i)
 
 -- ---- move after move
 
 module _ (run : Run) (is : IsRun run) (begins : IsBegun run) (offsets : HasShortOffset run.plan.goal) (first : List Event) where
-  known-of : (past : List Event) (session : Session) (sent done : ℕ) (act : Move) → slice_get run.plan.path.moves done ≡ Some act → is_known_move (directory_of run.setup) run.plan.grants act ≡ true
-  known-of past session sent done act at =
-      subst (λ (d : List DirEntry). is_known_move d run.plan.grants act ≡ true) is.directory (known-at run is past session.handle session.nonce sent done act at)
-
   -- what a run comes to from here, within as many turns
   abbrev Comes : ℕ → List Event → Session → ℕ → ℕ → ℕ → SessionState → List Move → Type 0
   Comes turns past session sent done number chosen rest = IsOpen run first number chosen rest ⊎ HasChance run turns (on_path past session sent None done)
@@ -72,7 +66,7 @@ module _ (run : Run) (is : IsRun run) (begins : IsBegun run) (offsets : HasShort
       → SucceedsAfter run (suc turns) (on_path past session sent None done) → Comes (suc turns) past session sent done number chosen (act ∷ rest)
   plain-comes turns past session sent done number chosen act rest ahead other goes succeeds =
       by (plain-goes run is first past session sent done chosen ahead.stands (has-room run first past session done chosen act rest ahead past ahead.stands) act at other
-      (all-at MoveHasBounds run.plan.path.moves done act is.moves at) (known-of past session sent done act at) turns next)
+      (all-at MoveHasBounds run.plan.path.moves done act is.moves at) (known-of run is past session sent done act at) turns next)
     where
       at : slice_get run.plan.path.moves done ≡ Some act
       at = next-at run first past session done chosen (act ∷ rest) ahead
@@ -102,7 +96,7 @@ module _ (run : Run) (is : IsRun run) (begins : IsBegun run) (offsets : HasShort
       at = next-at run first past session done chosen (Approve key policy_ref approved signature ∷ rest) ahead
 
       known : is_known_move (directory_of run.setup) run.plan.grants (Approve key policy_ref approved signature) ≡ true
-      known = known-of past session sent done (Approve key policy_ref approved signature) at
+      known = known-of run is past session sent done (Approve key policy_ref approved signature) at
 
       step : Verified run first past session sent done chosen key policy_ref approved signature
       step = verify-goes run is first past session sent done chosen ahead.stands key policy_ref approved signature at known turns (next-turn run turns (on_path past session sent None done) succeeds)
@@ -154,11 +148,11 @@ unfolding after_acts
 not-begun run first (inl served) = absurd (false≢true (ap is_over served.is))
 not-begun run first (inr goal) = absurd (none-some _ goal.place)
 
-no-outside : (outside : Bool) → not outside ≡ true → outside ≡ false
+pub no-outside : (outside : Bool) → not outside ≡ true → outside ≡ false
 no-outside true h = absurd (false≢true h)
 no-outside false h = refl
 
-run-of : (run : Run) → IsBegun run → is_complete run.plan ≡ true → IsRun run
+pub run-of : (run : Run) → IsBegun run → is_complete run.plan ≡ true → IsRun run
 run-of run begins complete = record { setup = begins.setup; directory = begins.directory; tickets = begins.tickets; grants = begins.grants; moves = begins.moves; complete = complete }
 
 -- a run that succeeds had an open path, or a chance

@@ -81,7 +81,7 @@ pub record Goes (run : Run) (first past : List Event) (session : Session) (sent 
   pub opens : move_block (chooser_of run first) chosen act ≡ None
   pub moved : Moved run first session (sent + 1) None (done + 1) (session_after (sight_after run.setup first) chosen act) (after_act run (on_path past session sent None done) Turn)
 
-own-coded : (run : Run) (past : List Event) (own : ℕ) (act : Move) (command : Command) → IsOwn (view_of run.setup past).world own act command → HasCode (own_rule (view_of run.setup past) command)
+pub own-coded : (run : Run) (past : List Event) (own : ℕ) (act : Move) (command : Command) → IsOwn (view_of run.setup past).world own act command → HasCode (own_rule (view_of run.setup past) command)
 own-coded run past own act command made = subst HasCode (sym (own-is-policy (view_of run.setup past) command made.policy)) (policy-own-coded (view_of run.setup past) command)
 
 chance-at : (run : Run) → run.plan.directory ≡ directory_of run.setup → (past : List Event) (session : Session) (sent done : ℕ) (act : Move) → slice_get run.plan.path.moves done ≡ Some act
@@ -91,15 +91,11 @@ chance-at run directory past session sent done act at chance =
     subst (ChanceOf run past session sent None) (sym at)
     (subst (λ (d : List DirEntry). SignsByChance run.plan.grants (world_at run.setup past) (command_of_move d run.plan.grants session None act)) (sym directory) chance)
 
-pub plain-goes : (run : Run) → IsRun run → (first past : List Event) (session : Session) (sent done : ℕ) (chosen : SessionState) → Stands run first past session chosen → length (session_state run.setup past session.handle).facts < 512
+pub plain-step : (run : Run) → IsRun run → (first past : List Event) (session : Session) (sent done : ℕ) (chosen : SessionState) → Stands run first past session chosen → length (session_state run.setup past session.handle).facts < 512
     → (act : Move) → slice_get run.plan.path.moves done ≡ Some act → is_verification None act ≡ false → MoveHasBounds act → is_known_move (directory_of run.setup) run.plan.grants act ≡ true
-    → (turns : ℕ) → SucceedsAfter run turns (after_act run (on_path past session sent None done) Turn) → Goes run first past session sent done chosen act ⊎ IsByChance run (on_path past session sent None done)
-plain-goes run is first past session sent done chosen on few act at other bounds known turns succeeds =
+    → first_stop (view_of run.setup past) run.locality (command_of_move (directory_of run.setup) run.plan.grants session None act) ≡ None → Goes run first past session sent done chosen act ⊎ IsByChance run (on_path past session sent None done)
+plain-step run is first past session sent done chosen on few act at other bounds known unstopped =
     let free = free_count (view_of run.setup first).sessions (bits_of (view_of run.setup first).saved) in
-    let made = own-move run.setup is.setup (view_of run.setup past).world (is-of run.setup past) run.plan.grants is.grants session.handle session.nonce on.slot None act tt bounds known other in
-    let command = command_of_move (directory_of run.setup) run.plan.grants session None act in
-    let unstopped = move-unstopped run is.directory is.tickets past session sent None done act at (command_of_move (directory_of run.setup) run.plan.grants session None act) refl made.fits
-    (own-coded run past session.handle act (command_of_move (directory_of run.setup) run.plan.grants session None act) made) turns succeeds in
     by (move-opens run.setup is.setup (view_of run.setup past) (is-of run.setup past) free run.plan.grants run.plan.goal run.locality session.handle (session_state run.setup past session.handle)
     (stands-live run first past session chosen on) session.nonce on.nonce chosen on.alike act other known unstopped)
   where
@@ -111,6 +107,15 @@ plain-goes run is first past session sent done chosen on few act at other bounds
         inl (record { opens = now; moved = plain-moved run is first past session sent done chosen on few act at other bounds known now })
     by (inr chance) = inr (chance-at run is.directory past session sent done act at chance)
 
+pub plain-goes : (run : Run) → IsRun run → (first past : List Event) (session : Session) (sent done : ℕ) (chosen : SessionState) → Stands run first past session chosen → length (session_state run.setup past session.handle).facts < 512
+    → (act : Move) → slice_get run.plan.path.moves done ≡ Some act → is_verification None act ≡ false → MoveHasBounds act → is_known_move (directory_of run.setup) run.plan.grants act ≡ true
+    → (turns : ℕ) → SucceedsAfter run turns (after_act run (on_path past session sent None done) Turn) → Goes run first past session sent done chosen act ⊎ IsByChance run (on_path past session sent None done)
+plain-goes run is first past session sent done chosen on few act at other bounds known turns succeeds =
+    let made = own-move run.setup is.setup (view_of run.setup past).world (is-of run.setup past) run.plan.grants is.grants session.handle session.nonce on.slot None act tt bounds known other in
+    plain-step run is first past session sent done chosen on few act at other bounds known
+    (move-unstopped run is.directory is.tickets past session sent None done act at (command_of_move (directory_of run.setup) run.plan.grants session None act) refl made.fits
+    (own-coded run past session.handle act (command_of_move (directory_of run.setup) run.plan.grants session None act) made) turns succeeds)
+
 -- ---- an approval
 
 -- its first turn
@@ -120,21 +125,39 @@ pub record Verified (run : Run) (first past : List Event) (session : Session) (s
   pub rule : verify_signature_rule object.public (is_approved_by object policy_ref approved signature) ≡ None
   pub ticketed : Ticketed run first past session sent done chosen policy_ref approved object
 
-pub verify-goes : (run : Run) → IsRun run → (first past : List Event) (session : Session) (sent done : ℕ) (chosen : SessionState) → Stands run first past session chosen
-    → (key : Name) (policy_ref : List ℕ) (approved signature : Digest32) → slice_get run.plan.path.moves done ≡ Some (Approve key policy_ref approved signature)
+-- VerifySignature as it is sent fits, and its own rule has a code
+pub record Verifiable (run : Run) (past : List Event) (command : Command) : Type 0 where
+  pub fits : FitsCommand command
+  pub coded : HasCode (own_rule (view_of run.setup past) command)
+
+pub verifiable : (run : Run) → IsRun run → (past : List Event) (session : Session) (key : Name) (policy_ref : List ℕ) (approved signature : Digest32)
     → is_known_move (directory_of run.setup) run.plan.grants (Approve key policy_ref approved signature) ≡ true
-    → (turns : ℕ) → SucceedsAfter run turns (after_act run (on_path past session sent None done) Turn) → Verified run first past session sent done chosen key policy_ref approved signature
-verify-goes run is first past session sent done chosen on key policy_ref approved signature at known turns succeeds =
-    let free = free_count (view_of run.setup first).sessions (bits_of (view_of run.setup first).saved) in
+    → Verifiable run past (command_of_move (directory_of run.setup) run.plan.grants session None (Approve key policy_ref approved signature))
+verifiable run is past session key policy_ref approved signature known =
+    let free : ℕ = 0 in
     let it = found (object_in_sight (sight_of (view_of run.setup past).world free) key)
     (sym (some-map line_of_object (object_in_sight (sight_of (view_of run.setup past).world free) key)) ∙ ap is_some (object-line run.setup is.setup (view_of run.setup past).world (is-of run.setup past) free key) ∙ known) in
     let object = it.value in
     let seen = see-object run.setup is.setup (view_of run.setup past).world (is-of run.setup past) free key it.value it.is in
     let same : command_of_move (directory_of run.setup) run.plan.grants session None (Approve key policy_ref approved signature) ≡ verify_of it.value policy_ref approved signature =
     ap (λ (o : Option DirEntry). commands.VerifySignature (or_null (option_map (λ (line : DirEntry). line.handle) o)) (approval_hash approved policy_ref) signature) seen.listed in
-    let fits = fits-verify object.handle (approval_hash approved policy_ref) signature (object-handle run.setup key object.handle (object-found run.setup is.setup key (line_of_object it.value) seen.listed)) in
-    let unstopped = move-unstopped run is.directory is.tickets past session sent None done (Approve key policy_ref approved signature) at (verify_of it.value policy_ref approved signature) same fits
-    (verify-coded (view_of run.setup past).world object.handle (approval_hash approved policy_ref) signature) turns succeeds in
+    subst (Verifiable run past) (sym same) (record {
+      fits = fits-verify object.handle (approval_hash approved policy_ref) signature (object-handle run.setup key object.handle (object-found run.setup is.setup key (line_of_object it.value) seen.listed));
+      coded = verify-coded (view_of run.setup past).world object.handle (approval_hash approved policy_ref) signature;
+    })
+
+pub verify-step : (run : Run) → IsRun run → (first past : List Event) (session : Session) (sent done : ℕ) (chosen : SessionState) → Stands run first past session chosen
+    → (key : Name) (policy_ref : List ℕ) (approved signature : Digest32) → slice_get run.plan.path.moves done ≡ Some (Approve key policy_ref approved signature)
+    → is_known_move (directory_of run.setup) run.plan.grants (Approve key policy_ref approved signature) ≡ true
+    → first_stop (view_of run.setup past) run.locality (command_of_move (directory_of run.setup) run.plan.grants session None (Approve key policy_ref approved signature)) ≡ None → Verified run first past session sent done chosen key policy_ref approved signature
+verify-step run is first past session sent done chosen on key policy_ref approved signature at known sent_unstopped =
+    let free = free_count (view_of run.setup first).sessions (bits_of (view_of run.setup first).saved) in
+    let it = found (object_in_sight (sight_of (view_of run.setup past).world free) key)
+    (sym (some-map line_of_object (object_in_sight (sight_of (view_of run.setup past).world free) key)) ∙ ap is_some (object-line run.setup is.setup (view_of run.setup past).world (is-of run.setup past) free key) ∙ known) in
+    let seen = see-object run.setup is.setup (view_of run.setup past).world (is-of run.setup past) free key it.value it.is in
+    let same : command_of_move (directory_of run.setup) run.plan.grants session None (Approve key policy_ref approved signature) ≡ verify_of it.value policy_ref approved signature =
+    ap (λ (o : Option DirEntry). commands.VerifySignature (or_null (option_map (λ (line : DirEntry). line.handle) o)) (approval_hash approved policy_ref) signature) seen.listed in
+    let unstopped = subst (λ (c : Command). first_stop (view_of run.setup past) run.locality c ≡ None) same sent_unstopped in
     let rule = verify-holds run.setup is.setup (view_of run.setup past) (is-of run.setup past) free run.plan.grants run.plan.goal run.locality session.handle (session_state run.setup past session.handle)
     (stands-live run first past session chosen on) session.nonce on.nonce chosen on.alike it.value (approval_hash approved policy_ref) signature seen.held unstopped in
     record {
@@ -144,10 +167,34 @@ verify-goes run is first past session sent done chosen on key policy_ref approve
       ticketed = verified-with run is first past session sent done chosen on key policy_ref approved signature at it.value seen rule;
     }
 
+pub verify-goes : (run : Run) → IsRun run → (first past : List Event) (session : Session) (sent done : ℕ) (chosen : SessionState) → Stands run first past session chosen
+    → (key : Name) (policy_ref : List ℕ) (approved signature : Digest32) → slice_get run.plan.path.moves done ≡ Some (Approve key policy_ref approved signature)
+    → is_known_move (directory_of run.setup) run.plan.grants (Approve key policy_ref approved signature) ≡ true
+    → (turns : ℕ) → SucceedsAfter run turns (after_act run (on_path past session sent None done) Turn) → Verified run first past session sent done chosen key policy_ref approved signature
+verify-goes run is first past session sent done chosen on key policy_ref approved signature at known turns succeeds =
+    let can = verifiable run is past session key policy_ref approved signature known in
+    verify-step run is first past session sent done chosen on key policy_ref approved signature at known
+    (move-unstopped run is.directory is.tickets past session sent None done (Approve key policy_ref approved signature) at (command_of_move (directory_of run.setup) run.plan.grants session None (Approve key policy_ref approved signature)) refl can.fits can.coded turns succeeds)
+
 -- its second turn, with the ticket
 pub record Authorized (run : Run) (first past : List Event) (session : Session) (sent done : ℕ) (chosen : SessionState) (ticket : Ticket) (act : Move) : Type 0 where
   pub opens : move_block (chooser_of run first) chosen act ≡ None
   pub moved : Moved run first session (sent + 1) None (done + 1) (session_after (sight_after run.setup first) chosen act) (after_act run (on_path past session sent (Some ticket) done) Turn)
+
+pub authorize-step : (run : Run) → IsRun run → (first past : List Event) (session : Session) (sent done : ℕ) (chosen : SessionState) → Stands run first past session chosen → length (session_state run.setup past session.handle).facts < 512
+    → (key : Name) (policy_ref : List ℕ) (approved signature : Digest32) → slice_get run.plan.path.moves done ≡ Some (Approve key policy_ref approved signature) → MoveHasBounds (Approve key policy_ref approved signature)
+    → is_known_move (directory_of run.setup) run.plan.grants (Approve key policy_ref approved signature) ≡ true
+    → (object : ObjectEntry) → object_in_sight (sight_after run.setup first) key ≡ Some object → verify_signature_rule object.public (is_approved_by object policy_ref approved signature) ≡ None
+    → (ticket : Ticket) → TicketFits ticket → ticket ≡ verification.ticket_of (world_at run.setup first) (approval_hash approved policy_ref) object
+    → first_stop (view_of run.setup past) run.locality (commands.PolicyAuthorize session.handle approved policy_ref key ticket) ≡ None → Authorized run first past session sent done chosen ticket (Approve key policy_ref approved signature)
+authorize-step run is first past session sent done chosen on few key policy_ref approved signature at bounds known object shown verified ticket fits made unstopped =
+    let free = free_count (view_of run.setup first).sessions (bits_of (view_of run.setup first).saved) in
+    let rule = authorize-holds run.setup is.setup (view_of run.setup past) (is-of run.setup past) free run.plan.grants run.plan.goal run.locality session.handle (session_state run.setup past session.handle)
+    (stands-live run first past session chosen on) session.nonce on.nonce chosen on.alike approved policy_ref key ticket unstopped in
+    record {
+      opens = ap (approve_block chosen policy_ref approved signature) shown ∙ (λ i. answered (or_else (verified i) (rule i)));
+      moved = authorized-moved run is first past session sent done chosen on few key policy_ref approved signature at bounds known object shown rule ticket fits made;
+    }
 
 pub authorize-goes : (run : Run) → IsRun run → (first past : List Event) (session : Session) (sent done : ℕ) (chosen : SessionState) → Stands run first past session chosen → length (session_state run.setup past session.handle).facts < 512
     → (key : Name) (policy_ref : List ℕ) (approved signature : Digest32) → slice_get run.plan.path.moves done ≡ Some (Approve key policy_ref approved signature) → MoveHasBounds (Approve key policy_ref approved signature)
@@ -156,16 +203,10 @@ pub authorize-goes : (run : Run) → IsRun run → (first past : List Event) (se
     → (ticket : Ticket) → TicketFits ticket → ticket ≡ verification.ticket_of (world_at run.setup first) (approval_hash approved policy_ref) object
     → (turns : ℕ) → SucceedsAfter run turns (after_act run (on_path past session sent (Some ticket) done) Turn) → Authorized run first past session sent done chosen ticket (Approve key policy_ref approved signature)
 authorize-goes run is first past session sent done chosen on few key policy_ref approved signature at bounds known object shown verified ticket fits made turns succeeds =
-    let free = free_count (view_of run.setup first).sessions (bits_of (view_of run.setup first).saved) in
     let own = own-move run.setup is.setup (view_of run.setup past).world (is-of run.setup past) run.plan.grants is.grants session.handle session.nonce on.slot (Some ticket) (Approve key policy_ref approved signature) fits bounds known refl in
-    let unstopped = move-unstopped run is.directory is.tickets past session sent (Some ticket) done (Approve key policy_ref approved signature) at (commands.PolicyAuthorize session.handle approved policy_ref key ticket) refl own.fits
-    (own-coded run past session.handle (Approve key policy_ref approved signature) (commands.PolicyAuthorize session.handle approved policy_ref key ticket) own) turns succeeds in
-    let rule = authorize-holds run.setup is.setup (view_of run.setup past) (is-of run.setup past) free run.plan.grants run.plan.goal run.locality session.handle (session_state run.setup past session.handle)
-    (stands-live run first past session chosen on) session.nonce on.nonce chosen on.alike approved policy_ref key ticket unstopped in
-    record {
-      opens = ap (approve_block chosen policy_ref approved signature) shown ∙ (λ i. answered (or_else (verified i) (rule i)));
-      moved = authorized-moved run is first past session sent done chosen on few key policy_ref approved signature at bounds known object shown rule ticket fits made;
-    }
+    authorize-step run is first past session sent done chosen on few key policy_ref approved signature at bounds known object shown verified ticket fits made
+    (move-unstopped run is.directory is.tickets past session sent (Some ticket) done (Approve key policy_ref approved signature) at (commands.PolicyAuthorize session.handle approved policy_ref key ticket) refl own.fits
+    (own-coded run past session.handle (Approve key policy_ref approved signature) (commands.PolicyAuthorize session.handle approved policy_ref key ticket) own) turns succeeds)
 
 -- ---- the goal
 
@@ -176,14 +217,14 @@ module _ (run : Run) (is : IsBegun run) (offsets : HasShortOffset run.plan.goal)
   abbrev goal_sent : Command
   goal_sent = goal_command run.plan session sent
 
-  goal-command-fits : FitsCommand (goal_command run.plan session sent)
+  pub goal-command-fits : FitsCommand (goal_command run.plan session sent)
   goal-command-fits =
       let it = goal-found run.setup is.setup (view_of run.setup past) (is-kept run.setup past) free run.plan.goal is.among in
       goal-fits run.setup is.setup (view_of run.setup past) (is-kept run.setup past) free run.plan.goal it.value _ is.fits offsets
       (area-fits run.plan session sent on.slot (value-short run.plan.grants.secrets (entity_of_goal run.plan.goal) is.grants.secrets) (last_auth (session_state run.setup past session.handle).facts) (auth-kept run first past session on))
       is.among it.is
 
-  goal-own-coded : HasCode (own_rule (view_of run.setup past) (goal_command run.plan session sent))
+  pub goal-own-coded : HasCode (own_rule (view_of run.setup past) (goal_command run.plan session sent))
   goal-own-coded = subst HasCode (sym (shape-rule (view_of run.setup past) run.plan.goal _)) (goal-coded (view_of run.setup past).world run.plan.goal _)
 
   goal-unstopped : (turns : ℕ) → SucceedsAfter run turns (on_path past session sent None done) → first_stop (view_of run.setup past) run.locality (goal_command run.plan session sent) ≡ None
@@ -200,20 +241,24 @@ module _ (run : Run) (is : IsBegun run) (offsets : HasShortOffset run.plan.goal)
       (subst (SucceedsAfter run turns)
       (turn-sends run past session sent None done ∙ ap (λ (o : Option Move). after_sent run past session sent None done o (next_command run.plan session sent None o)) at) succeeds)
 
-  pub goal-goes : (turns : ℕ) → SucceedsAfter run turns (on_path past session sent None done)
+  pub goal-step : first_stop (view_of run.setup past) run.locality (goal_command run.plan session sent) ≡ None
       → (goal_block (chooser_of run first) (judged_after run first run.plan.path.moves) ≡ None) ⊎ IsByChance run (on_path past session sent None done)
   unfolding view_of
-  goal-goes turns succeeds =
+  goal-step unstopped =
       let it = goal-found run.setup is.setup (view_of run.setup past) (is-kept run.setup past) free run.plan.goal is.among in
       let there = goal-at run.setup is.setup (view_of run.setup past) (is-kept run.setup past) free run.plan.goal it.value is.fits is.among it.is in
       by (goal-opens run.setup is.setup (view_of run.setup past) (is-kept run.setup past) free run.locality run.plan is.directory session sent on.slot (session_state run.setup past session.handle) (judged_after run first run.plan.path.moves)
-      (stands-live run first past session (judged_after run first run.plan.path.moves) on) on.alike (auth-kept run first past session on) it.value it.is there (goal-unstopped turns succeeds))
+      (stands-live run first past session (judged_after run first run.plan.path.moves) on) on.alike (auth-kept run first past session on) it.value it.is there unstopped)
     where
       by : (goal_block (client_on (view_of run.setup past).world free run.plan.grants run.plan.goal run.locality) (judged_after run first run.plan.path.moves) ≡ None)
           ⊎ IsProvedByChance run.plan (view_of run.setup past).world (session_state run.setup past session.handle).nonce session sent
           → (goal_block (chooser_of run first) (judged_after run first run.plan.path.moves) ≡ None) ⊎ IsByChance run (on_path past session sent None done)
       by (inl opens) = inl (subst (λ (c : Client). goal_block c (judged_after run first run.plan.path.moves) ≡ None) (chooser-now run first past on.world) opens)
       by (inr chance) = inr (subst (ChanceOf run past session sent None) (sym at) chance)
+
+  pub goal-goes : (turns : ℕ) → SucceedsAfter run turns (on_path past session sent None done)
+      → (goal_block (chooser_of run first) (judged_after run first run.plan.path.moves) ≡ None) ⊎ IsByChance run (on_path past session sent None done)
+  goal-goes turns succeeds = goal-step (goal-unstopped turns succeeds)
 
 -- ---- the start
 

@@ -4,11 +4,11 @@ use Rattle.std.proofs.Common.{◌≡◌, ℕ, Bool, true, List, [], ◌∷◌, O
 use Rattle.tpol_name.specs.declared.setup.Setup.{Setup}
 use Rattle.tpol_tree.specs.declared.facts.Fact.{Fact}
 use Rattle.tpm_bindings.specs.State.{SessionState}
-use Rattle.tpm_session.specs.Kept.{state_of, with_fact}
+use Rattle.tpm_session.specs.Kept.{state_of, with_fact, without_facts}
 use Rattle.tpm_world.specs.Hashes.{nonce_of_event}
 use Rattle.tpm_world.specs.World.{WorldState, world_of}
 use Rattle.tpm_engine.specs.declared.event.Event.{Event}
-use Rattle.tpm_engine.specs.Deeds.{Deed, Idle, Shows, SessionUse, Starts, deed_of, use_of}
+use Rattle.tpm_engine.specs.Deeds.{Deed, Idle, Restarts, Shows, SessionUse, Starts, deed_of, use_of}
 use Rattle.tpm_engine.specs.Facts.{Moment}
 use Rattle.tpm_engine.specs.Views.{counter_after, counter_of, counter_used, facts_after, facts_of, facts_used, held_after, held_used, indices_after, indices_of, is_held, moment_of, next_number, nonce_after, nonce_of, nonce_used, pcrs_after, pcrs_of, presence_after, presence_of, reset_count_after, reset_count_of, restart_count_after, restart_count_of, sequence_after, sequence_of, session_state, start_after, start_of, time_after, time_of, world_at}
 use Rattle.tpol_laws.proofs.After.{same-number}
@@ -118,4 +118,25 @@ shows-on setup past event session fact deed uses = record {
       ∙ ap (λ d. held_by setup past session d (use_of event)) deed
       ∙ ap (held_by setup past session (Shows session fact)) uses
       ∙ shown-now setup past session fact;
+}
+
+-- ---- a session loses its facts
+
+pub record RestartsOn (setup : Setup) (past : List Event) (event : Event) (session : ℕ) : Type 0 where
+  pub world : world_at setup (event ∷ past) ≡ world_at setup past
+  pub held : held_of setup (event ∷ past) session
+      ≡ record { held = is_held past session; sequence = sequence_of past session; state = without_facts (session_state setup past session) }
+
+restarted-now : (setup : Setup) (past : List Event) (session : ℕ) → held_by setup past session (Restarts session) None
+    ≡ record { held = is_held past session; sequence = sequence_of past session; state = without_facts (session_state setup past session) }
+unfolding session_state
+restarted-now setup past session = rw (same-number session) refl
+
+pub restarts-on : (setup : Setup) (past : List Event) (event : Event) (session : ℕ) → deed_of event ≡ Restarts session → use_of event ≡ None → RestartsOn setup past event session
+restarts-on setup past event session deed uses = record {
+  world = world-by setup past event ∙ ap (world_by setup past) deed ∙ world-now setup past;
+  held = held-by setup past event session
+      ∙ ap (λ d. held_by setup past session d (use_of event)) deed
+      ∙ ap (held_by setup past session (Restarts session)) uses
+      ∙ restarted-now setup past session;
 }

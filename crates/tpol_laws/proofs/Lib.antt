@@ -4,6 +4,11 @@ mod Answered
 mod Approved
 mod Begun
 mod Binds
+mod BlindComes
+mod BlindEnds
+mod BlindPaths
+mod BlindStarts
+mod BlindTurns
 mod Blocked
 mod BlockedGoal
 mod BlockedMacs
@@ -31,9 +36,12 @@ mod Lasting
 mod Moved
 mod Named
 mod NoTickets
+mod OneTry
 mod Own
 mod Passing
 mod Prints
+mod Refused
+mod Restarted
 mod SameKeys
 mod Seen
 mod Served

@@ -63,7 +63,7 @@ carried-out run past command fits first =
 
 -- ---- the session, as the tables have it
 
-slot-handle : (handle : ℕ) → IsSlotHandle handle → is_slot_handle handle ≡ true
+pub slot-handle : (handle : ℕ) → IsSlotHandle handle → is_slot_handle handle ≡ true
 slot-handle handle slot =
     let least : 0x03000000 ≤ handle = slot.0 in
     let most : handle < 0x03000000 + 64 = slot.1 in

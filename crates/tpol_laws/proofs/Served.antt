@@ -18,7 +18,7 @@ use Rattle.tpol_driver.specs.declared.end.End.TheVariants as ends
 use Rattle.tpol_driver.specs.declared.session.Session.{Session}
 use Rattle.tpol_driver.specs.Answers.{answer_of}
 use Rattle.tpol_driver.specs.Commands.{start_command}
-use Rattle.tpol_driver.specs.Driving.{Moving, Over, Standing, after_goal, is_verification, next_command, start_heard}
+use Rattle.tpol_driver.specs.Driving.{Moving, Over, after_goal, is_verification, next_command, start_heard}
 use Rattle.tpol_driver.specs.GoalUse.{goal_command}
 use Rattle.tpol_driver.specs.Plans.{is_known_move}
 use Rattle.tpol_name.specs.declared.entries.DirEntry.{DirEntry}
@@ -28,6 +28,7 @@ use Rattle.tpol_tree.specs.declared.path.Move.{Move}
 use Rattle.tpol_tree.specs.declared.path.Move.TheVariants.{Assert, Or, Approve, ApproveNv}
 use Rattle.tpol_wire.specs.declared.auth_area.ReplyAuth.{ReplyAuth}
 use Rattle.tpol_wire.specs.declared.reply.Reply.{Reply}
+use Rattle.tpol_wire.specs.declared.reply.Reply.TheVariants as replies
 use Rattle.tpol_wire.specs.Commands.{spelling}
 use Rattle.tpol_wire.specs.ReplyReading.{reply_reading}
 use Rattle.tpm_bindings.specs.State.{SessionState}
@@ -89,6 +90,7 @@ start-allowed tables h =
 
 pub record Begun (run : Run) (first : List Event) : Type 0 where
   pub session : Session
+  pub reads : reply_reading (number_of_code codes.StartAuthSession) (answer_in run first (start_command run.plan.nonce_seed)).reply ≡ Some (replies.StartAuthSession session.handle session.nonce, None)
   pub moved : Moved run first session 1 None 0 (fresh_session (sight_after run.setup first)) (after_act run (begun first) Turn)
 
 pub start-moved : (run : Run) (first : List Event) → start_rule (view_of run.setup first) ≡ None → Begun run first
@@ -107,15 +109,14 @@ start-moved run first rule =
     ap (λ (a : Answered). use_of (event_of run.client run.locality (spelling (start_command run.plan.nonce_seed)) a)) made
     ∙ done-use (view_of run.setup first) (next_number first) run.client run.locality (spelling (start_command run.plan.nonce_seed)) (start_command run.plan.nonce_seed) reads in
     let begun_by = begins run.setup first (event_in run first (start_command run.plan.nonce_seed)) (handle_of_slot start.slot) deed uses in
-    let heard : start_heard (answer_of (reply_reading (number_of_code codes.StartAuthSession) (answer_in run first (start_command run.plan.nonce_seed)).reply))
-    ≡ Moving (record { handle = handle_of_slot start.slot; nonce = start.nonce }) 1 None 0 =
-    ap (λ (a : Answered). start_heard (answer_of (reply_reading (number_of_code codes.StartAuthSession) a.reply))) made
-    ∙ ap (λ (read : Option (Reply × Option ReplyAuth)). start_heard (answer_of read)) start.is.reads in
+    let heard : reply_reading (number_of_code codes.StartAuthSession) (answer_in run first (start_command run.plan.nonce_seed)).reply ≡ Some (replies.StartAuthSession (handle_of_slot start.slot) start.nonce, None) =
+    ap (λ (a : Answered). reply_reading (number_of_code codes.StartAuthSession) a.reply) made ∙ start.is.reads in
     record {
       session = record { handle = handle_of_slot start.slot; nonce = start.nonce };
+      reads = heard;
       moved = record {
         past = event_in run first (start_command run.plan.nonce_seed) ∷ first;
-        is = ap (λ (s : Standing). record { past = event_in run first (start_command run.plan.nonce_seed) ∷ first; standing = s }) heard;
+        is = ap (λ (read : Option (Reply × Option ReplyAuth)). record { past = event_in run first (start_command run.plan.nonce_seed) ∷ first; standing = start_heard (answer_of read) }) heard;
         stands = record {
           slot = (omega arith, omega (arith, within));
           held = ap (λ (h : Held). h.held) begun_by.held;
@@ -222,11 +223,12 @@ goal-turn run first serve turns past session sent done number chosen left =
 
 -- ---- move after move
 
-module _ (run : Run) (is : IsRun run) (first : List Event) (serve : ServesGoal run first) where
-  known-of : (past : List Event) (session : Session) (sent done : ℕ) (act : Move) → slice_get run.plan.path.moves done ≡ Some act → is_known_move (directory_of run.setup) run.plan.grants act ≡ true
-  known-of past session sent done act at =
-      subst (λ (d : List DirEntry). is_known_move d run.plan.grants act ≡ true) is.directory (known-at run is past session.handle session.nonce sent done act at)
+-- each move of the path is known to the scene's directory
+pub known-of : (run : Run) → IsRun run → (past : List Event) (session : Session) (sent done : ℕ) (act : Move) → slice_get run.plan.path.moves done ≡ Some act → is_known_move (directory_of run.setup) run.plan.grants act ≡ true
+known-of run is past session sent done act at =
+    subst (λ (d : List DirEntry). is_known_move d run.plan.grants act ≡ true) is.directory (known-at run is past session.handle session.nonce sent done act at)
 
+module _ (run : Run) (is : IsRun run) (first : List Event) (serve : ServesGoal run first) where
   -- a turn by a move that needs no ticket, and then the others
   plain-turn : (turns : ℕ) (past : List Event) (session : Session) (sent done number : ℕ) (chosen : SessionState) (act : Move) (rest : List Move) → Left run first past session done number chosen (act ∷ rest) → is_verification None act ≡ false
       → ((later : List Event) → Left run first later session (done + 1) (number + 1) (session_after (sight_after run.setup first) chosen act) rest → ServedAfter run turns (record { past = later; standing = Moving session (sent + 1) None (done + 1) }))
@@ -234,7 +236,7 @@ module _ (run : Run) (is : IsRun run) (first : List Event) (serve : ServesGoal r
   plain-turn turns past session sent done number chosen act rest left other goes =
       let at = next-at run first past session done chosen (act ∷ rest) left.ahead in
       let moved = plain-moved run is first past session sent done chosen left.ahead.stands (has-room run first past session done chosen act rest left.ahead past left.ahead.stands) act at other
-      (all-at MoveHasBounds run.plan.path.moves done act is.moves at) (known-of past session sent done act at) (act-open run first past session done number chosen act rest left) in
+      (all-at MoveHasBounds run.plan.path.moves done act is.moves at) (known-of run is past session sent done act at) (act-open run first past session done number chosen act rest left) in
       one-turn run turns (record { past = past; standing = Moving session sent None done })
       (subst (ServedAfter run turns) (sym moved.is) (goes moved.past (next-left run first past session done number chosen act rest left moved.past moved.stands)))
 
@@ -245,13 +247,13 @@ module _ (run : Run) (is : IsRun run) (first : List Event) (serve : ServesGoal r
   approve-turns turns past session sent done number chosen key policy_ref approved signature rest left goes =
       let at = next-at run first past session done chosen (Approve key policy_ref approved signature ∷ rest) left.ahead in
       let moved = approve-moved run is first past session sent done chosen left.ahead.stands (has-room run first past session done chosen (Approve key policy_ref approved signature) rest left.ahead) key policy_ref approved signature at
-      (all-at MoveHasBounds run.plan.path.moves done (Approve key policy_ref approved signature) is.moves at) (known-of past session sent done (Approve key policy_ref approved signature) at)
+      (all-at MoveHasBounds run.plan.path.moves done (Approve key policy_ref approved signature) is.moves at) (known-of run is past session sent done (Approve key policy_ref approved signature) at)
       (act-open run first past session done number chosen (Approve key policy_ref approved signature) rest left) in
       one-turn run (suc turns) (record { past = past; standing = Moving session sent None done })
       (one-turn run turns (after_act run (record { past = past; standing = Moving session sent None done }) Turn)
       (subst (ServedAfter run turns) (sym moved.is) (goes moved.past (next-left run first past session done number chosen (Approve key policy_ref approved signature) rest left moved.past moved.stands))))
 
-  moves-served : (rest : List Move) (turns : ℕ) (past : List Event) (session : Session) (sent done number : ℕ) (chosen : SessionState) → Left run first past session done number chosen rest → 2 * length rest + 1 ≤ turns
+  pub moves-served : (rest : List Move) (turns : ℕ) (past : List Event) (session : Session) (sent done number : ℕ) (chosen : SessionState) → Left run first past session done number chosen rest → 2 * length rest + 1 ≤ turns
       → ServedAfter run turns (record { past = past; standing = Moving session sent None done })
   moves-served [] zero past session sent done number chosen left enough = absurd (omega (arith, enough))
   moves-served [] (suc turns) past session sent done number chosen left enough =
@@ -280,9 +282,23 @@ all-ahead run first start short =
     let room : length {A = Fact} [] + length run.plan.path.moves ≤ 512 = omega (arith, short) in
     record { stands = start.moved.stands; path = λ k. ap (slice_get run.plan.path.moves) (zero-add k); judged = refl; room = room }
 
+-- a session can start where nothing blocks a path
+pub open-starts : (run : Run) (first : List Event) → first_block run.plan.path (sight_after run.setup first) run.plan.grants run.plan.goal run.locality ≡ None → start_rule (view_of run.setup first) ≡ None
+unfolding first_block sight_after
+open-starts run first opens =
+    let parts = or_else-none (whole_block (chooser_of run first).sight run.plan.path.outside) (moves_block (chooser_of run first) 1 (fresh_session (sight_after run.setup first)) run.plan.path.moves) opens in
+    start-allowed (view_of run.setup first)
+    (unless-none (not (nat_eq (free_count (view_of run.setup first).sessions (bits_of (view_of run.setup first).saved)) 0)) _ (map-none _ _ (or_else-none _ _ parts.0).1))
+
+-- and its moves and its goal are all open
+pub open-moves : (run : Run) (first : List Event) → first_block run.plan.path (sight_after run.setup first) run.plan.grants run.plan.goal run.locality ≡ None
+    → moves_block (chooser_of run first) 1 (fresh_session (sight_after run.setup first)) run.plan.path.moves ≡ None
+unfolding first_block
+open-moves run first opens =
+    (or_else-none (whole_block (chooser_of run first).sight run.plan.path.outside) (moves_block (chooser_of run first) 1 (fresh_session (sight_after run.setup first)) run.plan.path.moves) opens).1
+
 pub path-served : (run : Run) (first : List Event) (turns : ℕ) → IsBegun run
     → first_block run.plan.path (sight_after run.setup first) run.plan.grants run.plan.goal run.locality ≡ None → 2 * length run.plan.path.moves + 2 ≤ turns → ServedAfter run turns (begun first)
-unfolding first_block sight_after
 path-served run first zero is opens enough = absurd (omega (arith, enough))
 path-served run first (suc turns) is opens enough =
     let left : 2 * length run.plan.path.moves + 1 ≤ turns = omega (arith, enough) in
@@ -294,10 +310,8 @@ path-served run first (suc turns) is opens enough =
       moves = is.moves;
       complete = open-complete run.setup first run.plan run.locality is.setup is.directory opens;
     } in
-    let parts = or_else-none (whole_block (chooser_of run first).sight run.plan.path.outside) (moves_block (chooser_of run first) 1 (fresh_session (sight_after run.setup first)) run.plan.path.moves) opens in
-    let free = unless-none (not (nat_eq (free_count (view_of run.setup first).sessions (bits_of (view_of run.setup first).saved)) 0)) _ (map-none _ _ (or_else-none _ _ parts.0).1) in
-    let start = start-moved run first (start-allowed (view_of run.setup first) free) in
+    let start = start-moved run first (open-starts run first opens) in
     one-turn run turns (begun first)
     (subst (ServedAfter run turns) (sym start.moved.is)
     (moves-served run runs first (serves-goal run is first) run.plan.path.moves turns start.moved.past start.session 1 0 1 (fresh_session (sight_after run.setup first))
-    (record { ahead = all-ahead run first start is.short; opens = parts.1 }) left))
+    (record { ahead = all-ahead run first start is.short; opens = open-moves run first opens }) left))

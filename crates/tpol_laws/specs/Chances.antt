@@ -1,6 +1,6 @@
 -- HMACs that are one by chance: a run's and the machine's, though the blocks of their keys differ, or the Names
 -- that they are over.
-use Rattle.std.specs.Prelude.{◌≡◌, ◌≢◌, ◌⊎◌, ℕ, false, List, [], map, Option, Some, None, slice_get}
+use Rattle.std.specs.Prelude.{◌≡◌, ◌≢◌, ◌⊎◌, ℕ, false, List, map, Option, Some, None, slice_get}
 use Rattle.tpm_auth.specs.SessionMacs.{command_mac}
 use Rattle.tpm_auth.specs.Signatures.{signature_of, signed_hash}
 use Rattle.tpm_engine.specs.declared.event.Event.{Event}

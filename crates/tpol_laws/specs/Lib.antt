@@ -1,4 +1,5 @@
 pub mod Acts
+pub mod BlindRuns
 pub mod Chances
 pub mod Others
 pub mod Runs

@@ -1,15 +1,19 @@
-//! What the definitions promise together: functions without a body, whose clauses are the laws.
+//! What the definitions promise together: functions whose clauses are the laws.
 
-ghost use Rattle.std.specs.Prelude.{◌≡◌, ◌≤◌, ◌<◌, ◌↔◌, ◌+◌, ◌*◌, ◌++◌, ◌∷◌, ℕ, List, Option, None, Some, length, map, option_map, replicate, take, true};
+ghost use Rattle.std.specs.Prelude.{◌≡◌, ◌≤◌, ◌<◌, ◌↔◌, ◌+◌, ◌*◌, ◌++◌, ◌∷◌, ◌⊎◌, ℕ, List, Option, None, Some, is_some, length, map, option_map, replicate, take, true};
 ghost use Rattle.std.specs.List.{Contains};
 ghost use Rattle.tpol_choose.specs.declared.block.Block.{Block};
-ghost use Rattle.tpol_choose.specs.Blocks.{first_block};
+ghost use Rattle.tpol_choose.specs.Blocks.{chosen_path, first_block};
 ghost use Rattle.tpol_digest.specs.Digest.{digest_of_moves, policy_digest};
 ghost use Rattle.tpol_digest.specs.Paths.{paths_of};
 ghost use Rattle.tpol_tree.specs.Facts.{moves_of as moves_of_facts};
 ghost use Rattle.tpol_digest.specs.Update.{update_of};
 ghost use Rattle.tpol_driver.specs.declared.plan.Plan.{Plan};
 ghost use Rattle.tpol_driver.specs.declared.end.End.TheVariants.{Served};
+ghost use Rattle.tpol_driver.specs.declared.blind_end.BlindEnd.TheVariants as blind_ends;
+ghost use Rattle.tpol_driver.specs.Blind as blind;
+ghost use Rattle.tpol_driver.specs.Blind.{first_complete, most_blind};
+ghost use Rattle.tpol_driver.specs.BlindStates.{is_blind_over};
 ghost use Rattle.tpol_driver.specs.Driving.{Over, Starting, sends};
 ghost use Rattle.tpol_driver.specs.Plans.{is_complete};
 ghost use Rattle.tpol_driver.specs.States.{is_over};
@@ -24,6 +28,7 @@ ghost use Rattle.tpm_engine.specs.declared.event.Event.{Event as EventOf};
 ghost use Rattle.tpm_engine.specs.Sights.{sight_after};
 ghost use Rattle.tpm_engine.specs.Views.{facts_of};
 ghost use Rattle.tpol_laws.specs.Acts.{Act, Run, Turn, after_act, after_acts, begun, succeeds, turns_in};
+ghost use Rattle.tpol_laws.specs.BlindRuns.{BlindRun, HasBlindChance, IsBlindBegun, blind_begun, blind_turns, most_to};
 ghost use Rattle.tpol_laws.specs.Chances.{IsByChance};
 ghost use Rattle.tpol_laws.specs.Others.{AreOthersApart, AreSecretsOnWritten, HasGoneOn, place_of};
 ghost use Rattle.tpol_goal.specs.Goals.{HasShortOffset};
@@ -36,6 +41,8 @@ ghost use Rattle.tpol_prepare.specs.declared.scenario.StagedScene.{StagedScene};
 ghost use Rattle.tpol_prepare.specs.Scenario.{erased_staged};
 ghost use Rattle.tpol_prepare.specs.Staged.{IsStaged};
 ghost use Rattle.tpol_runs.specs.Runs.{run_at};
+
+use tpol_driver::{blind_driving_ends, mirrored};
 
 /// Where a machine started from a scene, and a plan has the scene's directory: a path that nothing stops on the
 /// machine as it is now is one whose commands can all be made. It is not outside, each Name on it is in the
@@ -119,6 +126,35 @@ pub fn session_digest_is_compiled()
         → place_of (after_acts run acts (begun past)).standing ≡ Some (session, length run.plan.path.moves)
         → digest_of_moves (moves_of_facts (facts_of run.setup (after_acts run acts (begun past)).past session)) ≡ policy_digest policy }
 {}
+
+/// A blind run as a script begins it (`IsBlindBegun`; the offset of its goal, if it has one, has two bytes) sees
+/// nothing of the machine. Where only its own turns come, it is served all the same exactly where some path is such
+/// that nothing blocks it on the machine as it is at the run's begin, and on the first of these. It takes as many turns
+/// as it has commands until there at most: the start, two for each move, the goal, and a PolicyRestart between two
+/// paths. A blind run that has a path to try is over after as many turns as it has commands at most. There is one
+/// exception: on a path that it tries, the run sends an HMAC which is the one that the machine asks for, though the
+/// blocks of the two keys differ, or the Names that the two are over.
+///
+/// It stands on two laws of the driver, which its body calls.
+pub fn blind_runs_are_served()
+    ensures exactly_on { (run : BlindRun) (past : List EventOf) (turns position : ℕ)
+        → IsBlindBegun run → HasShortOffset run.plan.goal
+        → chosen_path run.plan.paths (sight_after run.setup past) run.plan.grants run.plan.goal run.locality ≡ Some position
+        → most_to run.plan position ≤ turns
+        → ((bytes : List ℕ) × ((blind_turns run turns (blind_begun past)).standing ≡ blind.Over (blind_ends.Served position bytes)))
+        ⊎ HasBlindChance run turns past }
+    ensures only { (run : BlindRun) (past : List EventOf) (turns position : ℕ) (bytes : List ℕ)
+        → IsBlindBegun run → HasShortOffset run.plan.goal
+        → (blind_turns run turns (blind_begun past)).standing ≡ blind.Over (blind_ends.Served position bytes)
+        → (chosen_path run.plan.paths (sight_after run.setup past) run.plan.grants run.plan.goal run.locality ≡ Some position)
+        ⊎ HasBlindChance run turns past }
+    ensures ends { (run : BlindRun) (past : List EventOf) (turns : ℕ)
+        → is_some (first_complete run.plan) ≡ true → most_blind run.plan ≤ turns
+        → is_blind_over (blind_turns run turns (blind_begun past)).standing ≡ true }
+{
+    mirrored();
+    blind_driving_ends();
+}
 
 /// What the report of a scene tells of a run of its script, for each scene that `stage` of tpol_prepare gives. The
 /// run begins on the first path of its policy that nothing blocks, whose line is printed, or on none: then what

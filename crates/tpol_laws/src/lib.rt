@@ -1,8 +1,8 @@
 //! What holds of whole runs: laws over the definitions of the machine, of the driver and of digests, which no
 //! single call can say.
 //!
-//! Each law is a function without a body, whose clauses are the law. The definitions that a law names are those
-//! of the contracts of calls that the program makes: what the machine answers and what a journal tells
+//! Each law is a function whose clauses are the law. It has no body, or calls the laws of the driver that it stands on.
+//! The definitions that a law names are those of the contracts of calls that the program makes: what the machine answers and what a journal tells
 //! (`answer_to`, `facts_of` of tpm_engine, which `Machine::execute` ensures), what a run sends and hears (`sends`,
 //! `hears` of tpol_driver, which the states ensure), the paths of a policy and digests (tpol_digest). A law's
 //! premises are met by clauses of those who begin a run:
@@ -44,6 +44,20 @@
 //!   Without it the law is false: PolicySecret hashes the Name that the index has now, and a policy names the
 //!   index once it is written.
 //!
+//! `blind_runs_are_served`, over `blind_sends` and `blind_hears` of tpol_driver, which the states of a blind run ensure
+//! - `IsBlindBegun.setup`, `IsBlindBegun.grants`: the clauses `setup` and `clients` of `read_scene`.
+//! - `IsBlindBegun.fits`, `IsBlindBegun.among`: its clause `script`, for the goal of a run that is begun.
+//! - `IsBlindBegun.directory`: a plan's directory is that of the scene's setup, by the clause `lines` of `directory`.
+//! - `IsBlindBegun.moves`: as `IsRun.moves`, for each path of the policy.
+//! - `IsBlindBegun.short`: the clause `within` of `check_paths`, for each path of the policy.
+//! - `HasShortOffset`: the offset of a goal is a `u16`.
+//! - That a path is the first that nothing blocks (`exactly_on`) or that the run is served (`only`): what the law is of.
+//! - That the turns are enough: of the first of these at most two for each move of the paths that it tries, its start,
+//!   its goal and a PolicyRestart between two.
+//! - That some path is complete (`ends`): what `BlindPlan::first` answers, its clause `first`.
+//!
+//! Its exception is no premise but part of the answer, as in the law before.
+//!
 //! `runs_are_served_as_told`, whose lines are those of `performed` of tpol_perform, which `perform` ensures
 //! - `IsStaged`: the clause `staged` of `stage`, which gives the scene that the commands `run` and `explain` carry out.
 //!   The clause `report` of `policy_main` speaks of it without the places in memory of its parts: `as_printed` says
@@ -59,5 +73,5 @@ mod laws;
 
 pub use laws::{
     a_blocked_path_fails, a_path_that_can_is_complete, a_path_that_can_is_served, a_run_ends,
-    a_run_goes_on, runs_are_served_as_told, session_digest_is_compiled,
+    a_run_goes_on, blind_runs_are_served, runs_are_served_as_told, session_digest_is_compiled,
 };
