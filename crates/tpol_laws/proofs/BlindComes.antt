@@ -175,7 +175,7 @@ module _ (mirrored : Mirrored) (run : BlindRun) (begins : IsBlindBegun run) (off
             let served = open-served along (begun-along place path at) (complete tries) first in_path.past in_path.session in_path.sent in_path.stands open_there in
             served-from run first in_path.turns (2 * length (plan_at run.plan place).path.moves + 1) total (trying in_path.past in_path.session in_path.sent place None 0 in_path.tries) (place + 1) in_path.is
             (omega (arith, within, long, enough))
-            (try-served mirrored run (2 * length (plan_at run.plan place).path.moves + 1) in_path.past in_path.session in_path.sent place None 0 in_path.tries served.bytes served.is)
+            (try-served mirrored run (2 * length (plan_at run.plan place).path.moves + 1) in_path.past in_path.session in_path.sent place None 0 in_path.tries _ served)
 
         -- refused, or by chance
         ends : (tries : tried path ≡ true) → (block : Block) → first_block path (sight_after run.setup first) run.plan.grants run.plan.goal run.locality ≡ Some block

@@ -51,7 +51,7 @@ use Rattle.tpol_laws.specs.Acts.{Run, Turn, after_act, after_acts, answer_in, be
 use Rattle.tpol_laws.specs.Chances.{ChanceOf, IsByChance, IsProvedByChance, SignsByChance}
 use Rattle.tpol_laws.specs.Runs.{IsBegun, IsRun}
 use Rattle.tpol_laws.proofs.Answered.{own-passed, refusal-read}
-use Rattle.tpol_laws.proofs.Codes.{HasCode, goal-coded, policy-own-coded, start-coded, verify-coded}
+use Rattle.tpol_laws.proofs.Codes.{HasCode, policy-own-coded, rules-coded, start-coded, verify-coded}
 use Rattle.tpol_laws.proofs.Fit.{fits-start, fits-verify, object-handle, value-short}
 use Rattle.tpol_laws.proofs.Moved.{Moved, after_sent, chooser-now, plain-moved, stands-live, turn-sends}
 use Rattle.tpol_laws.proofs.Standing.{Stands, chooser_of, judged_after}
@@ -67,7 +67,6 @@ use Rattle.tpol_laws.proofs.BlockedMoves.{authorize-holds, move-opens, verify-ho
 use Rattle.tpol_laws.proofs.BlockedTurns.{SucceedsAfter, HasFailed, carried-unstopped, move-unstopped, on_path, unstopped-by}
 use Rattle.tpol_laws.proofs.Goal.{auth-kept}
 use Rattle.tpol_laws.proofs.GoalAt.{goal-at}
-use Rattle.tpol_laws.proofs.GoalShape.{shape-rule}
 use Rattle.tpol_laws.proofs.GoalUses.{area-fits}
 use Rattle.tpol_laws.proofs.Lasting.{is-kept}
 use Rattle.tpol_laws.proofs.Named.{object-found}
@@ -225,7 +224,7 @@ module _ (run : Run) (is : IsBegun run) (offsets : HasShortOffset run.plan.goal)
       is.among it.is
 
   pub goal-own-coded : HasCode (own_rule (view_of run.setup past) (goal_command run.plan session sent))
-  goal-own-coded = subst HasCode (sym (shape-rule (view_of run.setup past) run.plan.goal _)) (goal-coded (view_of run.setup past).world run.plan.goal _)
+  goal-own-coded = rules-coded (view_of run.setup past) (goal_command run.plan session sent)
 
   goal-unstopped : (turns : ℕ) → SucceedsAfter run turns (on_path past session sent None done) → first_stop (view_of run.setup past) run.locality (goal_command run.plan session sent) ≡ None
   unfolding after_acts

@@ -138,6 +138,10 @@ unfolding ValuesFit Fits
 fits-start seed = record { handles = ((omega arith, refl), ((omega arith, refl), tt)); area = tt; parameters = (tt, (tt, (tt, (tt, (tt, tt))))) }
 
 module _ (session : ℕ) (own : IsHandle is_policy_session session) where
+  pub fits-flush : FitsCommand (commands.FlushContext session)
+  unfolding ValuesFit Fits
+  fits-flush = record { handles = tt; area = tt; parameters = ((own.low, own.kind), tt) }
+
   pub fits-auth_value : FitsCommand (commands.PolicyAuthValue session)
   unfolding ValuesFit Fits
   fits-auth_value = record { handles = ((own.low, own.kind), tt); area = tt; parameters = tt }

@@ -33,7 +33,7 @@ use Rattle.tpol_laws.proofs.Prints.{Allows, IsBehind, IsOther, Spares, command-p
 abbrev pub entry_at : Run → ℕ → Standing → Numbered
 entry_at run number standing = record { number = number; run = underway_at (begun_underway run.client run.locality run.plan) standing }
 
-sends-next : (run : Run) (standing : Standing) → next_of (underway_at (begun_underway run.client run.locality run.plan) standing) ≡ sent_in (begun_underway run.client run.locality run.plan) (sends run.plan standing)
+pub sends-next : (run : Run) (standing : Standing) → next_of (underway_at (begun_underway run.client run.locality run.plan) standing) ≡ sent_in (begun_underway run.client run.locality run.plan) (sends run.plan standing)
 sends-next run Starting = refl
 sends-next run (Moving session sent ticket done) = refl
 sends-next run (Closing session end) = refl
@@ -171,7 +171,7 @@ module _ (run : Run) (number : ℕ) (scenario : Scenario) (first : PerformanceSt
       (sent-from past standing p.runs p.lines is.added command next is.found is.lines)
 
   -- what is sent now
-  sends-now : (p : PerformanceState) (course : Course) → Follows run number first p course → sent_now number p ≡ sent_in (begun_underway run.client run.locality run.plan) (sends run.plan course.standing)
+  pub sends-now : (p : PerformanceState) (course : Course) → Follows run number first p course → sent_now number p ≡ sent_in (begun_underway run.client run.locality run.plan) (sends run.plan course.standing)
   sends-now p course is = ap (λ f. next_of (run_in f)) is.found ∙ sends-next run course.standing
 
   by-follows : (drive : Drive) (p : PerformanceState) (course : Course) → sends run.plan course.standing ≡ drive → Follows run number first p course
@@ -229,7 +229,7 @@ module _ (run : Run) (number : ℕ) (scenario : Scenario) (first : PerformanceSt
       subst (λ next. Follows run number first (turned_to_end_by scenario number next p) (after_acts run (replicate n OwnTurn) (after_act run course OwnTurn))) (sym (sends-now p course is))
       (end-by-follows n most (sends run.plan course.standing) p course refl is)
 
-  told-follows : (times : Option ℕ) (p : PerformanceState) (course : Course) → Follows run number first p course → Follows run number first (turn_told scenario number times p) (after_acts run (replicate (times_given times) OwnTurn) course)
+  pub told-follows : (times : Option ℕ) (p : PerformanceState) (course : Course) → Follows run number first p course → Follows run number first (turn_told scenario number times p) (after_acts run (replicate (times_given times) OwnTurn) course)
   told-follows None p course is = to-end-follows 1027 most-is p course is
   told-follows (Some n) p course is = times-follow n p course is
 

@@ -14,7 +14,7 @@ use Rattle.tpm_engine.specs.Events.{Answered}
 use Rattle.tpm_engine.specs.Stops.{apart_stop, handles_from, has_room, room_stop}
 use Rattle.tpm_engine.specs.Sights.{sight_after}
 use Rattle.tpm_engine.specs.Tables.{TableState}
-use Rattle.tpm_engine.specs.Views.{next_number, session_state, view_of}
+use Rattle.tpm_engine.specs.Views.{next_number, session_state, view_of, world_at}
 use Rattle.tpm_engine.proofs.Stopping.{Asked, first-asked, judged as stopped_by, map-none, or_else-none, unless-none}
 use Rattle.tpm_rules.specs.declared.checks.Use.{Use}
 use Rattle.tpm_rules.specs.AuthValue.{proves}
@@ -68,12 +68,14 @@ use Rattle.tpol_wire.specs.Replies.{PartsAnswer, parts_of, spell_reply}
 use Rattle.tpol_wire.specs.ReplyReading.{reply_reading}
 use Rattle.tpol_wire.proofs.ReplyLaws.{reply_read}
 use Rattle.tpol_laws.specs.Acts.{Run}
+use Rattle.tpol_laws.specs.GoalBytes.{goal_bytes}
 use Rattle.tpol_laws.specs.Runs.{IsBegun}
 use Rattle.tpol_laws.proofs.Binds.{AreAlike}
 use Rattle.tpol_laws.proofs.Fit.{value-short}
 use Rattle.tpol_laws.proofs.GoalAt.{IsGoalAt, IsNameListed, goal-at}
 use Rattle.tpol_laws.proofs.GoalChecks.{auth-alike, is-proved, no-check}
 use Rattle.tpol_laws.proofs.GoalMacs.{auth-along, field-right, reply-right, right-area, unless-short}
+use Rattle.tpol_laws.proofs.GoalReplies.{goal-bytes}
 use Rattle.tpol_laws.proofs.GoalShape.{shape-entity, shape-reply, shape-rule}
 use Rattle.tpol_laws.proofs.GoalUses.{area-fits, no-password, use-same}
 use Rattle.tpol_laws.proofs.Heard.{IsAcceptance}
@@ -236,6 +238,12 @@ auth-kept run first past session on =
     sym (auth-along (sight_after run.setup first) run.plan.path.moves (fresh_session (sight_after run.setup first)) [] refl)
     ∙ sym (auth-alike (session_state run.setup past session.handle) (judged_after run first run.plan.path.moves) on.alike)
 
+-- what the reply gives is told by the machine's world
+gives-world : (run : Run) (past : List Event) (session : Session) (sent : ℕ)
+    → bytes_of_reply (plain_reply (view_of run.setup past).world (goal_command run.plan session sent)) ≡ goal_bytes (world_at run.setup past) run.plan.goal
+unfolding view_of
+gives-world run past session sent = goal-bytes (world_at run.setup past) run.plan.goal (area_of_goal session (caller_nonce run.plan.nonce_seed sent) (goal_hmac run.plan session (caller_nonce run.plan.nonce_seed sent)))
+
 pub serves-goal : (run : Run) → IsBegun run → (first : List Event) → ServesGoal run first
 serves-goal run is first past session sent on none =
     let tables = view_of run.setup past in
@@ -249,9 +257,6 @@ serves-goal run is first past session sent on none =
     let short = value-short run.plan.grants.secrets (entity_of_goal run.plan.goal) is.grants.secrets in
     let stops = nothing-stops run.setup is.setup tables (is-kept run.setup past) free run.locality (next_number past) run.plan is.directory short is.fits is.among session sent on.slot kept chosen live on.nonce on.alike auth shown in
     let fits = command-fits run.setup is.setup tables (is-kept run.setup past) free run.locality (next_number past) run.plan is.directory short is.fits is.among session sent on.slot kept chosen live on.nonce on.alike auth shown in
-    record {
-      bytes = bytes_of_reply (plain_reply (view_of run.setup past).world (goal_command run.plan session sent));
-      serves =
-          ap (λ (a : Answered). goal_heard run.plan sent (answer_of (reply_reading (number_of_code (code_of_command (goal_command run.plan session sent))) a.reply))) (carried-out run past (goal_command run.plan session sent) fits stops)
-          ∙ heard-served run.setup is.setup tables (is-kept run.setup past) free run.locality (next_number past) run.plan is.directory short is.fits is.among session sent on.slot kept chosen live on.nonce on.alike auth shown;
-    }
+    ap (λ (a : Answered). goal_heard run.plan sent (answer_of (reply_reading (number_of_code (code_of_command (goal_command run.plan session sent))) a.reply))) (carried-out run past (goal_command run.plan session sent) fits stops)
+    ∙ heard-served run.setup is.setup tables (is-kept run.setup past) free run.locality (next_number past) run.plan is.directory short is.fits is.among session sent on.slot kept chosen live on.nonce on.alike auth shown
+    ∙ ap ends.Served (gives-world run past session sent)

@@ -16,6 +16,7 @@ use Rattle.tpol_driver.specs.declared.session.Session.{Session}
 use Rattle.tpol_driver.specs.Plans.{is_complete, is_known_move}
 use Rattle.tpol_goal.specs.Goals.{HasShortOffset}
 use Rattle.tpol_tree.specs.declared.facts.Fact.{Fact}
+use Rattle.tpol_laws.specs.PathCommands.{commands_of_moves}
 use Rattle.tpol_laws.specs.Acts.{Run}
 use Rattle.tpol_laws.specs.Runs.{IsBegun, IsRun}
 use Rattle.tpol_laws.proofs.Blocked.{no-outside, run-of}
@@ -24,6 +25,7 @@ use Rattle.tpol_laws.proofs.BlockedTurns.{on_path}
 use Rattle.tpol_laws.proofs.Finds.{both}
 use Rattle.tpol_laws.proofs.Goal.{serves-goal}
 use Rattle.tpol_laws.proofs.Refused.{EndsBy, moves-try}
+use Rattle.tpol_laws.proofs.Owing.{at-most-twice}
 use Rattle.tpol_laws.proofs.Served.{Ahead, ServedAfter, moves-served, open-moves}
 use Rattle.tpol_laws.proofs.Standing.{Stands, chooser_of}
 
@@ -40,9 +42,9 @@ module _ (run : Run) (begins : IsBegun run) (complete : is_complete run.plan ≡
       record { stands = on; path = λ k. ap (slice_get run.plan.path.moves) (zero-add k); judged = refl; room = room }
 
   pub open-served : first_block run.plan.path (sight_after run.setup first) run.plan.grants run.plan.goal run.locality ≡ None
-      → ServedAfter run (2 * length run.plan.path.moves + 1) (on_path past session sent None 0)
+      → ServedAfter run first (2 * length run.plan.path.moves + 1) (on_path past session sent None 0)
   open-served opens =
-      let all : 2 * length run.plan.path.moves + 1 ≤ 2 * length run.plan.path.moves + 1 = omega arith in
+      let all : commands_of_moves run.plan.path.moves + 1 ≤ 2 * length run.plan.path.moves + 1 = omega (arith, at-most-twice run.plan.path.moves) in
       moves-served run runs first (serves-goal run begins first) run.plan.path.moves (2 * length run.plan.path.moves + 1) past session sent 0 1 (fresh_session (sight_after run.setup first))
       (record { ahead = ahead; opens = open-moves run first opens }) all
 

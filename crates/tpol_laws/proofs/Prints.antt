@@ -1,10 +1,10 @@
 -- What the events of a script print, and that they leave a run of another number as it is.
 use Rattle.std.proofs.Common.{◌≡◌, ℕ, zero, suc, ◌+◌, ◌-◌, ◌<◌, ◌^◌, Bool, true, false, cond, List, [], ◌∷◌, ◌++◌, All, Option, Some, None, nat_eq, refl, ap, sym, subst, ◌∙◌, append_assoc, slice_get}
-use Rattle.std.specs.Prelude.{⊤, find}
+use Rattle.std.specs.Prelude.{⊤, Contains, find}
 use Rattle.std.specs.List.{AllByRecursion}
 use Rattle.std.proofs.lemmas.Bool.{eq-eqb, eqb-true}
 use Rattle.std.proofs.lemmas.List.{append-nil}
-use Rattle.std.proofs.lemmas.List.Elements.{All-append, All-cons, All-nil}
+use Rattle.std.proofs.lemmas.List.Elements.{All-append, All-cons, All-nil, Contains-append_left, Contains-push}
 use Rattle.tpol_driver.specs.declared.end.End.{End}
 use Rattle.tpol_lines.specs.BlockLine.{block_line}
 use Rattle.tpol_lines.specs.CertLine.{certificate_line}
@@ -238,6 +238,18 @@ module _ (P : List ℕ → Type 0) (number : ℕ) (allows : Allows P number) (sc
         lines = told.lines ∙ append_assoc p.lines (line_of text ∷ []) told.added;
         each = All-cons P (line_of text) told.added (allows.command (number_in p) client locality buffer answered.reply answered.outcome) told.each;
       }
+
+  -- the command's own line is among them
+  pub command-first : (client locality : ℕ) (buffer : List ℕ) (p : PerformanceState)
+      → Contains (commanded scenario client locality buffer p).lines
+      (line_of (command_line (number_in p) client locality buffer (answer_to p.setup p.past locality buffer).reply (answer_to p.setup p.past locality buffer).outcome))
+  unfolding commanded
+  command-first client locality buffer p =
+      let answered = answer_to p.setup p.past locality buffer in
+      let line = line_of (command_line (number_in p) client locality buffer answered.reply answered.outcome) in
+      let told = told-printed (explains scenario.manner) (number_in p) (opened_to p.setup p.past locality buffer) (command_told client locality buffer answered p) in
+      subst (λ lines. Contains lines line) (sym told.lines)
+      (Contains-append_left (p.lines ++ line ∷ []) told.added line (Contains-push p.lines line))
 
   pub command-spares : (client locality : ℕ) (buffer : List ℕ) (p : PerformanceState) → Spares P number p (commanded scenario client locality buffer p)
   command-spares client locality buffer p =

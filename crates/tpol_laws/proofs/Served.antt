@@ -1,5 +1,5 @@
 -- A run whose path nothing blocks is served, where only its own turns come and there are enough of them.
-use Rattle.std.proofs.Common.{◌≡◌, ◌≤◌, ◌<◌, ℕ, zero, suc, ◌+◌, ◌*◌, Bool, true, false, not, List, [], ◌∷◌, length, map, nat_eq, refl, ap, sym, subst, ◌∙◌, arith, length-append, zero-add, replicate}
+use Rattle.std.proofs.Common.{◌≡◌, ◌≤◌, ◌<◌, ℕ, zero, suc, ◌+◌, Bool, true, false, not, List, [], ◌∷◌, length, map, nat_eq, refl, ap, sym, subst, ◌∙◌, arith, length-append, zero-add, replicate}
 use Rattle.std.specs.Prelude.{Option, Some, None, is_some, slice_get, if◌then◌else◌}
 use Rattle.std.specs.Option.{option_or}
 use Rattle.std.proofs.lemmas.Bool.{false≢true}
@@ -41,8 +41,11 @@ use Rattle.tpm_engine.specs.SessionCommands.{start_rule}
 use Rattle.tpm_engine.specs.Sights.{sight_after}
 use Rattle.tpm_engine.specs.Tables.{TableState}
 use Rattle.tpm_engine.specs.Views.{next_number, session_state, view_of, world_at}
+use Rattle.tpm_world.specs.World.{WorldState}
 use Rattle.tpm_engine.proofs.Stopping.{map-none, or_else-none, unless-none}
 use Rattle.tpol_laws.specs.Acts.{Course, Run, Turn, after_act, after_acts, answer_in, begun, event_in}
+use Rattle.tpol_laws.specs.GoalBytes.{goal_bytes}
+use Rattle.tpol_laws.specs.PathCommands.{commands_along, commands_of_moves}
 use Rattle.tpol_laws.specs.Runs.{IsBegun, IsRun}
 use Rattle.tpol_laws.proofs.Answered.{done-deed, done-use, read-back}
 use Rattle.tpol_laws.proofs.Approved.{approve-moved}
@@ -136,14 +139,14 @@ unfolding after_acts
 over-stays run zero past end = refl
 over-stays run (suc turns) past end = over-stays run turns past end
 
--- after as many turns it is over, and served
-pub record ServedAfter (run : Run) (turns : ℕ) (course : Course) : Type 0 where
-  pub bytes : List ℕ
-  pub is : (after_acts run (replicate turns Turn) course).standing ≡ Over (ends.Served bytes)
+-- after as many turns it is over, and served with what its goal gives on the machine as it was at the begin
+abbrev pub ServedAfter : Run → List Event → ℕ → Course → Type 0
+ServedAfter run first turns course =
+    (after_acts run (replicate turns Turn) course).standing ≡ Over (ends.Served (goal_bytes (world_at run.setup first) run.plan.goal))
 
-one-turn : (run : Run) (turns : ℕ) (course : Course) → ServedAfter run turns (after_act run course Turn) → ServedAfter run (suc turns) course
+one-turn : (run : Run) (first : List Event) (turns : ℕ) (course : Course) → ServedAfter run first turns (after_act run course Turn) → ServedAfter run first (suc turns) course
 unfolding after_acts
-one-turn run turns course served = record { bytes = served.bytes; is = served.is }
+one-turn run first turns course served = served
 
 -- ---- the turns that are left
 
@@ -209,17 +212,17 @@ act-open run first past session done number chosen act rest left =
 -- ---- the goal
 
 goal-turn : (run : Run) (first : List Event) → ServesGoal run first → (turns : ℕ) (past : List Event) (session : Session) (sent done number : ℕ) (chosen : SessionState) → Left run first past session done number chosen []
-    → ServedAfter run turns (after_act run (record { past = past; standing = Moving session sent None done }) Turn)
+    → ServedAfter run first turns (after_act run (record { past = past; standing = Moving session sent None done }) Turn)
 goal-turn run first serve turns past session sent done number chosen left =
     let on = subst (Stands run first past session) left.ahead.judged left.ahead.stands in
     let opens = subst (λ (s : SessionState). goal_block (chooser_of run first) s ≡ None) left.ahead.judged (map-none _ (goal_block (chooser_of run first) chosen) left.opens) in
-    let served = serve past session sent on opens in
+    let served = serve past session sent on opens ∙ ap (λ (world : WorldState). ends.Served (goal_bytes world run.plan.goal)) on.world in
     let at : slice_get run.plan.path.moves done ≡ None = next-at run first past session done chosen [] left.ahead in
-    subst (ServedAfter run turns)
+    subst (ServedAfter run first turns)
     (sym (turn-sends run past session sent None done
     ∙ ap (λ (o : Option Move). after_sent run past session sent None done o (next_command run.plan session sent None o)) at
-    ∙ ap (λ (end : End). record { past = event_in run past (goal_command run.plan session sent) ∷ past; standing = after_goal session.handle end }) served.serves))
-    (record { bytes = served.bytes; is = over-stays run turns (event_in run past (goal_command run.plan session sent) ∷ past) (ends.Served served.bytes) })
+    ∙ ap (λ (end : End). record { past = event_in run past (goal_command run.plan session sent) ∷ past; standing = after_goal session.handle end }) served))
+    (over-stays run turns (event_in run past (goal_command run.plan session sent) ∷ past) (ends.Served (goal_bytes (world_at run.setup first) run.plan.goal)))
 
 -- ---- move after move
 
@@ -231,33 +234,33 @@ known-of run is past session sent done act at =
 module _ (run : Run) (is : IsRun run) (first : List Event) (serve : ServesGoal run first) where
   -- a turn by a move that needs no ticket, and then the others
   plain-turn : (turns : ℕ) (past : List Event) (session : Session) (sent done number : ℕ) (chosen : SessionState) (act : Move) (rest : List Move) → Left run first past session done number chosen (act ∷ rest) → is_verification None act ≡ false
-      → ((later : List Event) → Left run first later session (done + 1) (number + 1) (session_after (sight_after run.setup first) chosen act) rest → ServedAfter run turns (record { past = later; standing = Moving session (sent + 1) None (done + 1) }))
-      → ServedAfter run (suc turns) (record { past = past; standing = Moving session sent None done })
+      → ((later : List Event) → Left run first later session (done + 1) (number + 1) (session_after (sight_after run.setup first) chosen act) rest → ServedAfter run first turns (record { past = later; standing = Moving session (sent + 1) None (done + 1) }))
+      → ServedAfter run first (suc turns) (record { past = past; standing = Moving session sent None done })
   plain-turn turns past session sent done number chosen act rest left other goes =
       let at = next-at run first past session done chosen (act ∷ rest) left.ahead in
       let moved = plain-moved run is first past session sent done chosen left.ahead.stands (has-room run first past session done chosen act rest left.ahead past left.ahead.stands) act at other
       (all-at MoveHasBounds run.plan.path.moves done act is.moves at) (known-of run is past session sent done act at) (act-open run first past session done number chosen act rest left) in
-      one-turn run turns (record { past = past; standing = Moving session sent None done })
-      (subst (ServedAfter run turns) (sym moved.is) (goes moved.past (next-left run first past session done number chosen act rest left moved.past moved.stands)))
+      one-turn run first turns (record { past = past; standing = Moving session sent None done })
+      (subst (ServedAfter run first turns) (sym moved.is) (goes moved.past (next-left run first past session done number chosen act rest left moved.past moved.stands)))
 
   approve-turns : (turns : ℕ) (past : List Event) (session : Session) (sent done number : ℕ) (chosen : SessionState) (key : Name) (policy_ref : List ℕ) (approved signature : Digest32) (rest : List Move)
       → Left run first past session done number chosen (Approve key policy_ref approved signature ∷ rest)
-      → ((later : List Event) → Left run first later session (done + 1) (number + 1) (session_after (sight_after run.setup first) chosen (Approve key policy_ref approved signature)) rest → ServedAfter run turns (record { past = later; standing = Moving session (sent + 1 + 1) None (done + 1) }))
-      → ServedAfter run (suc (suc turns)) (record { past = past; standing = Moving session sent None done })
+      → ((later : List Event) → Left run first later session (done + 1) (number + 1) (session_after (sight_after run.setup first) chosen (Approve key policy_ref approved signature)) rest → ServedAfter run first turns (record { past = later; standing = Moving session (sent + 1 + 1) None (done + 1) }))
+      → ServedAfter run first (suc (suc turns)) (record { past = past; standing = Moving session sent None done })
   approve-turns turns past session sent done number chosen key policy_ref approved signature rest left goes =
       let at = next-at run first past session done chosen (Approve key policy_ref approved signature ∷ rest) left.ahead in
       let moved = approve-moved run is first past session sent done chosen left.ahead.stands (has-room run first past session done chosen (Approve key policy_ref approved signature) rest left.ahead) key policy_ref approved signature at
       (all-at MoveHasBounds run.plan.path.moves done (Approve key policy_ref approved signature) is.moves at) (known-of run is past session sent done (Approve key policy_ref approved signature) at)
       (act-open run first past session done number chosen (Approve key policy_ref approved signature) rest left) in
-      one-turn run (suc turns) (record { past = past; standing = Moving session sent None done })
-      (one-turn run turns (after_act run (record { past = past; standing = Moving session sent None done }) Turn)
-      (subst (ServedAfter run turns) (sym moved.is) (goes moved.past (next-left run first past session done number chosen (Approve key policy_ref approved signature) rest left moved.past moved.stands))))
+      one-turn run first (suc turns) (record { past = past; standing = Moving session sent None done })
+      (one-turn run first turns (after_act run (record { past = past; standing = Moving session sent None done }) Turn)
+      (subst (ServedAfter run first turns) (sym moved.is) (goes moved.past (next-left run first past session done number chosen (Approve key policy_ref approved signature) rest left moved.past moved.stands))))
 
-  pub moves-served : (rest : List Move) (turns : ℕ) (past : List Event) (session : Session) (sent done number : ℕ) (chosen : SessionState) → Left run first past session done number chosen rest → 2 * length rest + 1 ≤ turns
-      → ServedAfter run turns (record { past = past; standing = Moving session sent None done })
+  pub moves-served : (rest : List Move) (turns : ℕ) (past : List Event) (session : Session) (sent done number : ℕ) (chosen : SessionState) → Left run first past session done number chosen rest → commands_of_moves rest + 1 ≤ turns
+      → ServedAfter run first turns (record { past = past; standing = Moving session sent None done })
   moves-served [] zero past session sent done number chosen left enough = absurd (omega (arith, enough))
   moves-served [] (suc turns) past session sent done number chosen left enough =
-      one-turn run turns (record { past = past; standing = Moving session sent None done }) (goal-turn run first serve turns past session sent done number chosen left)
+      one-turn run first turns (record { past = past; standing = Moving session sent None done }) (goal-turn run first serve turns past session sent done number chosen left)
   moves-served (act ∷ rest) zero past session sent done number chosen left enough = absurd (omega (arith, enough))
   moves-served (Approve key policy_ref approved signature ∷ rest) (suc zero) past session sent done number chosen left enough = absurd (omega (arith, enough))
   moves-served (Approve key policy_ref approved signature ∷ rest) (suc (suc turns)) past session sent done number chosen left enough =
@@ -298,10 +301,10 @@ open-moves run first opens =
     (or_else-none (whole_block (chooser_of run first).sight run.plan.path.outside) (moves_block (chooser_of run first) 1 (fresh_session (sight_after run.setup first)) run.plan.path.moves) opens).1
 
 pub path-served : (run : Run) (first : List Event) (turns : ℕ) → IsBegun run
-    → first_block run.plan.path (sight_after run.setup first) run.plan.grants run.plan.goal run.locality ≡ None → 2 * length run.plan.path.moves + 2 ≤ turns → ServedAfter run turns (begun first)
+    → first_block run.plan.path (sight_after run.setup first) run.plan.grants run.plan.goal run.locality ≡ None → commands_along run.plan.path ≤ turns → ServedAfter run first turns (begun first)
 path-served run first zero is opens enough = absurd (omega (arith, enough))
 path-served run first (suc turns) is opens enough =
-    let left : 2 * length run.plan.path.moves + 1 ≤ turns = omega (arith, enough) in
+    let left : commands_of_moves run.plan.path.moves + 1 ≤ turns = omega (arith, enough) in
     let runs : IsRun run = record {
       setup = is.setup;
       directory = is.directory;
@@ -311,7 +314,7 @@ path-served run first (suc turns) is opens enough =
       complete = open-complete run.setup first run.plan run.locality is.setup is.directory opens;
     } in
     let start = start-moved run first (open-starts run first opens) in
-    one-turn run turns (begun first)
-    (subst (ServedAfter run turns) (sym start.moved.is)
+    one-turn run first turns (begun first)
+    (subst (ServedAfter run first turns) (sym start.moved.is)
     (moves-served run runs first (serves-goal run is first) run.plan.path.moves turns start.moved.past start.session 1 0 1 (fresh_session (sight_after run.setup first))
     (record { ahead = all-ahead run first start is.short; opens = open-moves run first opens }) left))

@@ -21,6 +21,7 @@ use Rattle.tpm_engine.specs.declared.event.Event.{Event}
 use Rattle.tpm_engine.specs.Sights.{sight_after}
 use Rattle.tpm_engine.specs.Views.{is_held, sequence_of, session_state, world_at}
 use Rattle.tpol_laws.specs.Acts.{Run, answer_in}
+use Rattle.tpol_laws.specs.GoalBytes.{goal_bytes}
 pub use Rattle.tpol_laws.proofs.Binds.{AreAlike, bind_of, bound_assertion, bound_move}
 
 -- ---- where the run stands
@@ -45,11 +46,11 @@ judged_after run first moves = session_along (sight_after run.setup first) (fres
 
 -- ---- the goal
 
--- the end that the run hears of, as its command with this number
-pub record IsServed (run : Run) (past : List Event) (session : Session) (sent : ℕ) : Type 0 where
-  pub bytes : List ℕ
-  pub serves : goal_heard run.plan sent (answer_of (reply_reading (number_of_code (code_of_command (goal_command run.plan session sent)))
-      (answer_in run past (goal_command run.plan session sent)).reply)) ≡ ends.Served bytes
+-- the end that the run hears of, as its command with this number, with what the goal gives
+abbrev pub IsServed : Run → List Event → Session → ℕ → Type 0
+IsServed run past session sent =
+    goal_heard run.plan sent (answer_of (reply_reading (number_of_code (code_of_command (goal_command run.plan session sent)))
+    (answer_in run past (goal_command run.plan session sent)).reply)) ≡ ends.Served (goal_bytes (world_at run.setup past) run.plan.goal)
 
 -- before its goal, which nothing blocks, the run is served
 abbrev pub ServesGoal : Run → List Event → Type 0

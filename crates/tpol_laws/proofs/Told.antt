@@ -1,5 +1,5 @@
 -- What the report tells of a run of the script: that it is served exactly where it begins on a path.
-use Rattle.std.proofs.Common.{◌≡◌, ◌≤◌, ◌↔◌, ℕ, zero, suc, ◌+◌, ◌*◌, if◌then◌else◌, List, [], ◌∷◌, ◌++◌, All, Option, Some, None, length, replicate, refl, ap, sym, subst, ◌∙◌, append_assoc, append-nil, arith}
+use Rattle.std.proofs.Common.{◌≡◌, ◌≤◌, ◌↔◌, ℕ, zero, suc, if◌then◌else◌, List, [], ◌∷◌, ◌++◌, All, Option, Some, None, length, replicate, refl, ap, sym, subst, ◌∙◌, append_assoc, append-nil, arith}
 use Rattle.std.specs.List.{AllByRecursion}
 use Rattle.std.specs.Prelude.{Contains, find}
 use Rattle.std.proofs.lemmas.Bool.{eq-eqb}
@@ -23,11 +23,15 @@ use Rattle.tpol_scene.specs.declared.script.ScriptEvent.{ScriptEvent}
 use Rattle.tpol_scene.specs.declared.script.ScriptEvent.TheVariants.{Begin, Turn}
 use Rattle.tpol_tree.specs.declared.path.Path.{Path}
 use Rattle.tpm_engine.specs.Sights.{sight_after}
+use Rattle.tpm_engine.specs.Views.{world_at}
 use Rattle.tpol_laws.specs.Acts.{begun}
-use Rattle.tpol_laws.specs.Told.{BeginsNowhere, BeginsOn, HasTurns, IsAlone, IsServedOn, IsToldServed, RunOf, before_begin, begins, behind_begin, behind_own, chosen_for, paths_for, sight_at_begin, turns_for, turns_given, with_over}
+use Rattle.tpol_laws.specs.GoalBytes.{goal_bytes}
+use Rattle.tpol_laws.specs.PathCommands.{commands_along}
+use Rattle.tpol_laws.specs.Told.{BeginsNowhere, BeginsOn, HasTurns, IsAlone, IsServedOn, IsToldServed, RunOf, before_begin, begins, behind_begin, behind_own, bytes_for, chosen_for, paths_for, sight_at_begin, turns_for, turns_given, with_over}
 use Rattle.tpol_laws.proofs.Begun.{along-state, begins-nowhere, begins-on, begun-along-is, begun-is, begun-run-is, front, none-before, run-along, setup-before, stands-in}
 use Rattle.tpol_laws.proofs.Followed.{Follows, allows-any, any, entry_at, own-follow}
 use Rattle.tpol_laws.proofs.Prints.{IsBehind, all-behind, all-spare, blocks-spare, found-begun}
+use Rattle.tpol_laws.proofs.Owing.{at-most-twice}
 use Rattle.tpol_laws.proofs.Served.{path-served}
 use Rattle.tpol_laws.proofs.Unlike.{IsUnserved, allows-unserved}
 
@@ -57,7 +61,7 @@ module _ (staged : StagedScene) (run : RunOf staged.script) where
   begin-first rest p = refl
 
   -- the report of the whole script
-  performed-is : performed staged ≡ all_happened staged.scenario (run.own ++ run.after) (behind_begin staged run)
+  pub performed-is : performed staged ≡ all_happened staged.scenario (run.own ++ run.after) (behind_begin staged run)
   unfolding performed
   performed-is =
       let event = Begin run.number run.client run.locality run.policy run.place run.goal in
@@ -71,7 +75,7 @@ module _ (staged : StagedScene) (run : RunOf staged.script) where
 -- ---- a run that begins on a path
 
 module _ (staged : StagedScene) (run : RunOf staged.script) (is : IsStaged staged) where
-  follows-begin : (position : ℕ) (path : Path) → chosen_for staged run ≡ Some position → behind_begin staged run ≡ along-state staged run is position path
+  pub follows-begin : (position : ℕ) (path : Path) → chosen_for staged run ≡ Some position → behind_begin staged run ≡ along-state staged run is position path
       → Follows (run-along staged run is path) run.number (behind_begin staged run) (behind_begin staged run) (begun (before_begin staged run).past)
   follows-begin position path chosen same = record {
     setup = ap (λ (p : PerformanceState). p.setup) same ∙ setup-before staged run is;
@@ -89,7 +93,7 @@ module _ (staged : StagedScene) (run : RunOf staged.script) (is : IsStaged stage
   over-none path at bytes over = ap (λ s. run_in (Some (entry_at (run-along staged run is path) run.number s))) over
 
   pub served-on : IsAlone staged.scenario run.number run.own (behind_begin staged run) → (position : ℕ) (on : BeginsOn staged run position)
-      → 2 * length on.path.moves + 2 ≤ turns_for run.number run.own → IsServedOn staged run position on.path
+      → commands_along on.path ≤ turns_for run.number run.own → IsServedOn staged run position on.path
   served-on alone position on enough =
       let among = run-along staged run is on.path in
       let past = (before_begin staged run).past in
@@ -97,29 +101,28 @@ module _ (staged : StagedScene) (run : RunOf staged.script) (is : IsStaged stage
       let behind = front (IsBehind run.number) run.own run.after (stands-in staged run is).behind in
       let follows = own-follow among run.number staged.scenario (behind_begin staged run) run.own behind (behind_begin staged run) (begun past) alone (follows-begin position on.path on.chosen same) in
       let opens = subst (λ setup. first_block on.path (sight_after setup past) (begins staged run).grants run.goal run.locality ≡ None) (setup-before staged run is) on.opens in
+      let bytes = goal_bytes (world_at staged.setup past) run.goal in
+      let given : bytes ≡ bytes_for staged run = ap (λ setup. goal_bytes (world_at setup past) run.goal) (sym (setup-before staged run is)) in
       let served = path-served among past (turns_for run.number run.own) (begun-run-is staged run is on.path _ on.listed) opens enough in
       record {
-        bytes = served.bytes;
         added = follows.added;
         printed = follows.lines ∙ ap (λ l. l ++ follows.added) on.printed ∙ append_assoc (before_begin staged run).lines (line_of (chosen_line run.number position on.path.steps) ∷ []) follows.added;
-        served = follows.told (Served served.bytes) served.is;
-        over = ap run_in follows.found ∙ over-none on.path _ served.bytes served.is;
+        served = subst (λ (b : List ℕ). Contains follows.added (line_of (end_line run.number (Served b)))) given (follows.told (Served bytes) served);
+        over = ap run_in follows.found ∙ over-none on.path _ bytes served;
       }
 
   -- the report has what is told behind the begin
-  served-told : (position : ℕ) (path : Path) → IsServedOn staged run position path → IsToldServed run.number (performed staged).lines
+  served-told : (position : ℕ) (path : Path) → IsServedOn staged run position path → Contains (performed staged).lines (line_of (end_line run.number (Served (bytes_for staged run))))
   served-told position path on =
-      let line = line_of (end_line run.number (Served on.bytes)) in
+      let line = line_of (end_line run.number (Served (bytes_for staged run))) in
       let behind = back (IsBehind run.number) run.own run.after (stands-in staged run is).behind in
       let later = all-behind any run.number (allows-any run.number) staged.scenario run.after behind (behind_own staged run) on.over in
       let own : Contains (behind_own staged run).lines line =
       subst (λ lines. Contains lines line) (sym on.printed)
       (Contains-append_right (before_begin staged run).lines (line_of (chosen_line run.number position path.steps) ∷ on.added) line
-      (Contains-append_right (line_of (chosen_line run.number position path.steps) ∷ []) on.added line on.served)) in (
-        on.bytes,
-        subst (λ lines. Contains lines line) (sym (ap (λ (p : PerformanceState). p.lines) (performed-behind staged run) ∙ later.lines))
-            (Contains-append_left (behind_own staged run).lines later.added line own),
-      )
+      (Contains-append_right (line_of (chosen_line run.number position path.steps) ∷ []) on.added line on.served)) in
+      subst (λ lines. Contains lines line) (sym (ap (λ (p : PerformanceState). p.lines) (performed-behind staged run) ∙ later.lines))
+      (Contains-append_left (behind_own staged run).lines later.added line own)
 
   -- ---- a run that begins on no path
 
@@ -166,8 +169,12 @@ module _ (staged : StagedScene) (run : RunOf staged.script) (is : IsStaged stage
       → IsToldServed run.number (performed staged).lines ↔ ((position : ℕ) × BeginsOn staged run position)
   served-exactly alone turns = (
     λ told. on-path told (chosen_for staged run) refl,
-    λ on. served-told on.0 on.1.path (served-on alone on.0 on.1 (turns on.0 on.1)),
+    λ on. (bytes_for staged run, served-told on.0 on.1.path (served-on alone on.0 on.1 (turns on.0 on.1))),
   )
+
+  pub served-with : IsAlone staged.scenario run.number run.own (behind_begin staged run) → HasTurns staged run → (position : ℕ) → BeginsOn staged run position
+      → Contains (performed staged).lines (line_of (end_line run.number (Served (bytes_for staged run))))
+  served-with alone turns position on = served-told position on.path (served-on alone position on (turns position on))
 
   -- ---- turns to its end
 
@@ -175,7 +182,7 @@ module _ (staged : StagedScene) (run : RunOf staged.script) (is : IsStaged stage
   to-end-enough before after own position on =
       let short : length on.path.moves ≤ 512 = (begun-run-is staged run is on.path _ on.listed).short in
       let given : 1028 ≤ turns_for run.number run.own = subst (λ events. 1028 ≤ turns_for run.number events) (sym own) (turns-to-end run.number before after) in
-      omega (arith, short, given)
+      omega (arith, short, given, at-most-twice on.path.moves)
 
 -- ---- turns of a run that is over
 

@@ -1,6 +1,13 @@
 pub mod Acts
 pub mod BlindRuns
 pub mod Chances
+pub mod Courses
+pub mod GoalBytes
+pub mod Journal
 pub mod Others
+pub mod PathCommands
+pub mod Printed
+pub mod Replies
+pub mod ReplyCodes
 pub mod Runs
 pub mod Told

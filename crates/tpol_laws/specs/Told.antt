@@ -1,5 +1,5 @@
 -- Runs of a scene's script, and what the report tells of them.
-use Rattle.std.specs.Prelude.{◌≡◌, ◌≤◌, ◌⊎◌, ◌+◌, ◌*◌, ◌-◌, ⊤, ℕ, ◌==◌, Bool, true, false, List, [], ◌∷◌, ◌++◌, Contains, length, slice_get, Option, Some, None, replicate, if◌then◌else◌}
+use Rattle.std.specs.Prelude.{◌≡◌, ◌≤◌, ◌⊎◌, ◌+◌, ◌-◌, ⊤, ℕ, ◌==◌, Bool, true, false, List, [], ◌∷◌, ◌++◌, Contains, slice_get, Option, Some, None, replicate, if◌then◌else◌}
 use Rattle.tpol_choose.specs.declared.block.Block.{Block}
 use Rattle.tpol_choose.specs.Blocks.{chosen_path, first_block}
 use Rattle.tpol_driver.specs.declared.end.End.TheVariants.{Served}
@@ -21,6 +21,9 @@ use Rattle.tpol_scene.specs.declared.script.ScriptEvent.{ScriptEvent}
 use Rattle.tpol_scene.specs.declared.script.ScriptEvent.TheVariants as events
 use Rattle.tpol_tree.specs.declared.path.Path.{Path}
 use Rattle.tpm_engine.specs.Sights.{sight_after}
+use Rattle.tpm_engine.specs.Views.{world_at}
+use Rattle.tpol_laws.specs.GoalBytes.{goal_bytes}
+use Rattle.tpol_laws.specs.PathCommands.{commands_along}
 
 -- ---- a run of the script of a scene
 
@@ -117,17 +120,21 @@ pub record BeginsNowhere (staged : StagedScene) (run : RunOf staged.script) : Ty
   pub printed : (behind_begin staged run).lines ≡ (before_begin staged run).lines ++ line_of (nobranch_line run.number) ∷ blocks
   pub over : run_at (behind_begin staged run).runs run.number ≡ None
 
--- it has turns enough for the path that it begins on: two for each move, the start and the goal
+-- it has a turn for each command of the path that it begins on
 abbrev pub HasTurns : (staged : StagedScene) → RunOf staged.script → Type 0
 HasTurns staged run =
-    (position : ℕ) (on : BeginsOn staged run position) → 2 * length on.path.moves + 2 ≤ turns_for run.number run.own
+    (position : ℕ) (on : BeginsOn staged run position) → commands_along on.path ≤ turns_for run.number run.own
 
--- The begin and the events that follow it print the path, and behind that that the run is served; it is over.
+-- what its goal gives on the machine as it is at the begin
+abbrev pub bytes_for : (staged : StagedScene) → RunOf staged.script → List ℕ
+bytes_for staged run = goal_bytes (world_at (before_begin staged run).setup (before_begin staged run).past) run.goal
+
+-- The begin and the events that follow it print the path, and behind that that the run is served, with what its goal
+-- gives; it is over.
 pub record IsServedOn (staged : StagedScene) (run : RunOf staged.script) (position : ℕ) (path : Path) : Type 0 where
-  pub bytes : List ℕ
   pub added : List (List ℕ)
   pub printed : (behind_own staged run).lines ≡ (before_begin staged run).lines ++ line_of (chosen_line run.number position path.steps) ∷ added
-  pub served : Contains added (line_of (end_line run.number (Served bytes)))
+  pub served : Contains added (line_of (end_line run.number (Served (bytes_for staged run))))
   pub over : run_at (behind_own staged run).runs run.number ≡ None
 
 -- the lines of so many turns of a run that is over; turns to its end print one

@@ -1,6 +1,6 @@
 //! What the definitions promise together: functions whose clauses are the laws.
 
-ghost use Rattle.std.specs.Prelude.{◌≡◌, ◌≤◌, ◌<◌, ◌↔◌, ◌+◌, ◌*◌, ◌++◌, ◌∷◌, ◌⊎◌, ℕ, List, Option, None, Some, is_some, length, map, option_map, replicate, take, true};
+ghost use Rattle.std.specs.Prelude.{◌≡◌, ◌≢◌, ◌≤◌, ◌<◌, ◌↔◌, ◌+◌, ◌*◌, ◌++◌, ◌∷◌, ◌⊎◌, ℕ, List, Ok, Option, None, Some, find, is_some, length, map, option_map, replicate, slice_get, take, true};
 ghost use Rattle.std.specs.List.{Contains};
 ghost use Rattle.tpol_choose.specs.declared.block.Block.{Block};
 ghost use Rattle.tpol_choose.specs.Blocks.{chosen_path, first_block};
@@ -9,12 +9,17 @@ ghost use Rattle.tpol_digest.specs.Paths.{paths_of};
 ghost use Rattle.tpol_tree.specs.Facts.{moves_of as moves_of_facts};
 ghost use Rattle.tpol_digest.specs.Update.{update_of};
 ghost use Rattle.tpol_driver.specs.declared.plan.Plan.{Plan};
-ghost use Rattle.tpol_driver.specs.declared.end.End.TheVariants.{Served};
 ghost use Rattle.tpol_driver.specs.declared.blind_end.BlindEnd.TheVariants as blind_ends;
 ghost use Rattle.tpol_driver.specs.Blind as blind;
 ghost use Rattle.tpol_driver.specs.Blind.{first_complete, most_blind};
 ghost use Rattle.tpol_driver.specs.BlindStates.{is_blind_over};
-ghost use Rattle.tpol_driver.specs.Driving.{Over, Starting, sends};
+ghost use Rattle.tpol_base.specs.declared.rc.Rc.{Rc as RcOf};
+ghost use Rattle.tpol_driver.specs.declared.end.End.TheVariants.{BadReply, Denied, Served};
+ghost use Rattle.tpol_driver.specs.declared.end.Stage.TheVariants as stages;
+ghost use Rattle.tpol_driver.specs.declared.session.Session.{Session};
+ghost use Rattle.tpol_driver.specs.Driving.{Closing, Moving, Over, Sends, Starting, hears, sends, stage_of_move};
+ghost use Rattle.tpol_fields.specs.declared.ticket.Ticket.{Ticket};
+ghost use Rattle.tpol_tree.specs.declared.path.Move.{Move};
 ghost use Rattle.tpol_driver.specs.Plans.{is_complete};
 ghost use Rattle.tpol_driver.specs.States.{is_over};
 ghost use Rattle.tpol_name.specs.declared.setup.Setup.{Setup as SetupOf};
@@ -25,20 +30,36 @@ ghost use Rattle.tpol_tree.specs.declared.path.ApprovedDoc.{ApprovedDoc};
 ghost use Rattle.tpol_scene.specs.declared.script.ScriptEvent.{ScriptEvent};
 ghost use Rattle.tpol_scene.specs.declared.script.ScriptEvent.TheVariants as events;
 ghost use Rattle.tpm_engine.specs.declared.event.Event.{Event as EventOf};
+ghost use Rattle.tpol_wire.specs.declared.command.Command.{Command as CommandOf};
+ghost use Rattle.tpol_wire.specs.Commands.{spelling};
+ghost use Rattle.tpol_wire.specs.Reading.{reading};
+ghost use Rattle.tpm_engine.specs.Events.{is_success};
+ghost use Rattle.tpm_engine.specs.Legal.{answer_to};
 ghost use Rattle.tpm_engine.specs.Sights.{sight_after};
-ghost use Rattle.tpm_engine.specs.Views.{facts_of};
+ghost use Rattle.tpm_engine.specs.Views.{facts_of, world_at};
+ghost use Rattle.tpol_base.specs.declared.document.Document.{Document};
+ghost use Rattle.tpol_lines.specs.Lines.{line_of};
+ghost use Rattle.tpol_lines.specs.Runs.{end_line};
 ghost use Rattle.tpol_laws.specs.Acts.{Act, Run, Turn, after_act, after_acts, begun, succeeds, turns_in};
 ghost use Rattle.tpol_laws.specs.BlindRuns.{BlindRun, HasBlindChance, IsBlindBegun, blind_begun, blind_turns, most_to};
 ghost use Rattle.tpol_laws.specs.Chances.{IsByChance};
+ghost use Rattle.tpol_laws.specs.Courses.{HasCourse, acts_for, course_at_begin, course_of, run_along};
+ghost use Rattle.tpol_laws.specs.GoalBytes.{goal_bytes};
+ghost use Rattle.tpol_laws.specs.Journal.{IsJournal};
+ghost use Rattle.tpol_steps.specs.declared.filled.FilledDocument.{FilledDocument};
 ghost use Rattle.tpol_laws.specs.Others.{AreOthersApart, AreSecretsOnWritten, HasGoneOn, place_of};
 ghost use Rattle.tpol_goal.specs.Goals.{HasShortOffset};
+ghost use Rattle.tpol_laws.specs.PathCommands.{commands_along};
+ghost use Rattle.tpol_laws.specs.Replies.{IsNoReply, IsRefusal};
+ghost use Rattle.tpol_laws.specs.ReplyCodes.{IsSuccessReply};
 ghost use Rattle.tpol_laws.specs.Runs.{IsBegun, IsRun};
-ghost use Rattle.tpol_laws.specs.Told.{BeginsNowhere, BeginsOn, HasTurns, IsAlone, IsServedOn, IsToldServed, RunOf, behind_begin, behind_own, chosen_for, turns_for, with_over};
+ghost use Rattle.tpol_laws.specs.Told.{BeginsNowhere, BeginsOn, HasTurns, IsAlone, IsServedOn, IsToldServed, RunOf, behind_begin, behind_own, bytes_for, chosen_for, turns_for, with_over};
 ghost use Rattle.tpol_perform.specs.Performance.{PerformanceState};
 ghost use Rattle.tpol_perform.specs.Script.{performed, turn_told};
+ghost use Rattle.tpol_prepare.specs.declared.manner.Manner.{Manner as MannerOf};
 ghost use Rattle.tpol_prepare.specs.declared.scenario.Scenario.{Scenario};
 ghost use Rattle.tpol_prepare.specs.declared.scenario.StagedScene.{StagedScene};
-ghost use Rattle.tpol_prepare.specs.Scenario.{erased_staged};
+ghost use Rattle.tpol_prepare.specs.Scenario.{erased_staged, is_document, staged_step};
 ghost use Rattle.tpol_prepare.specs.Staged.{IsStaged};
 ghost use Rattle.tpol_runs.specs.Runs.{run_at};
 
@@ -54,13 +75,16 @@ pub fn a_path_that_can_is_complete()
 {}
 
 /// A run as a script begins it (`IsBegun`), whose path nothing blocks on the machine as it is at the run's begin,
-/// is over, and served, after as many turns as it has commands at most, where only its own turns come: two for
-/// each move, the start and the goal.
+/// is over, and served with what its goal gives on that machine, after as many turns as its path has commands, where
+/// only its own turns come: the start, one for each move, one more for each approval by a key, and the goal. No run
+/// is served after fewer turns of its own, whatever others do.
 pub fn a_path_that_can_is_served()
-    ensures { (run : Run) (past : List EventOf) (turns : ℕ)
+    ensures served { (run : Run) (past : List EventOf) (turns : ℕ)
         → IsBegun run → first_block run.plan.path (sight_after run.setup past) run.plan.grants run.plan.goal run.locality ≡ None
-        → 2 * length run.plan.path.moves + 2 ≤ turns
-        → (bytes : List ℕ) × ((after_acts run (replicate turns Turn) (begun past)).standing ≡ Over (Served bytes)) }
+        → commands_along run.plan.path ≤ turns
+        → (after_acts run (replicate turns Turn) (begun past)).standing ≡ Over (Served (goal_bytes (world_at run.setup past) run.plan.goal)) }
+    ensures never_sooner { (run : Run) (past : List EventOf) (acts : List Act) (bytes : List ℕ)
+        → turns_in acts < commands_along run.plan.path → (after_acts run acts (begun past)).standing ≢ Over (Served bytes) }
 {}
 
 /// A run as a script begins it (`IsBegun`; the offset of its goal, if it has one, has two bytes), whose path is
@@ -156,12 +180,19 @@ pub fn blind_runs_are_served()
     blind_driving_ends();
 }
 
-/// What the report of a scene tells of a run of its script, for each scene that `stage` of tpol_prepare gives. The
-/// run begins on the first path of its policy that nothing blocks, whose line is printed, or on none: then what
-/// blocks each path is printed, in their order. Where only the run's own turns make events behind its begin, and
-/// they are enough, the report tells that the run is served exactly where it begins on a path; those to its end are
-/// enough. A run that begins on none is over, and its turns print that. The report of `policy_main` is made of the
-/// scene without the places in memory of its documents' parts, which is carried out with the same lines.
+/// Each scene that a command stages, of any bytes and any documents of a shelf, can be carried out (`IsStaged`). So
+/// the laws of such scenes are laws of the report of `policy_main`, which is made of this scene.
+pub fn scenes_are_staged()
+    ensures { (manner : MannerOf) (input : List ℕ) (all : List Document) (staged : StagedScene)
+        → staged_step manner input all ≡ Ok staged → IsStaged staged }
+{}
+
+/// What the report of a scene tells of a run of its script, for each scene that is staged. The run begins on the first
+/// path of its policy that nothing blocks, whose line is printed, or on none: then what blocks each path is printed, in
+/// their order. Where only the run's own turns make events behind its begin, and there is one for each command of its
+/// path, the report tells that the run is served, with what its goal gives on the machine as it was at the begin,
+/// exactly where it begins on a path; turns to its end are enough. A run that begins on none is over, and its turns
+/// print that. A scene without the places in memory of its documents' parts is carried out with the same lines.
 pub fn runs_are_served_as_told()
     ensures begins_on { (staged : StagedScene) (run : RunOf staged.script) (position : ℕ)
         → IsStaged staged → chosen_for staged run ≡ Some position → BeginsOn staged run position }
@@ -169,16 +200,87 @@ pub fn runs_are_served_as_told()
         → IsStaged staged → chosen_for staged run ≡ None → BeginsNowhere staged run }
     ensures served_on { (staged : StagedScene) (run : RunOf staged.script) (position : ℕ)
         → IsStaged staged → IsAlone staged.scenario run.number run.own (behind_begin staged run)
-        → (on : BeginsOn staged run position) → 2 * length on.path.moves + 2 ≤ turns_for run.number run.own
+        → (on : BeginsOn staged run position) → commands_along on.path ≤ turns_for run.number run.own
         → IsServedOn staged run position on.path }
     ensures to_end { (staged : StagedScene) (run : RunOf staged.script) (before after : List ScriptEvent)
         → IsStaged staged → run.own ≡ before ++ events.Turn run.number None ∷ after → HasTurns staged run }
     ensures exactly { (staged : StagedScene) (run : RunOf staged.script)
         → IsStaged staged → IsAlone staged.scenario run.number run.own (behind_begin staged run) → HasTurns staged run
         → IsToldServed run.number (performed staged).lines ↔ ((position : ℕ) × BeginsOn staged run position) }
+    ensures served_with { (staged : StagedScene) (run : RunOf staged.script) (position : ℕ)
+        → IsStaged staged → IsAlone staged.scenario run.number run.own (behind_begin staged run) → HasTurns staged run
+        → BeginsOn staged run position
+        → Contains (performed staged).lines (line_of (end_line run.number (Served (bytes_for staged run)))) }
     ensures stays_over { (staged : StagedScene) (run : RunOf staged.script)
         → IsStaged staged → BeginsNowhere staged run → run_at (behind_own staged run).runs run.number ≡ None }
     ensures tells_over { (scenario : Scenario) (number : ℕ) (times : Option ℕ) (p : PerformanceState)
         → run_at p.runs number ≡ None → turn_told scenario number times p ≡ with_over number times p }
     ensures as_printed { (staged : StagedScene) → performed (erased_staged staged) ≡ performed staged }
+{}
+
+/// The journal of a scene that is carried out, whatever the scene is, is one that a machine makes; each command of it
+/// that asks for a policy session is decided as the machine's definitions say, by the events before it alone; and each
+/// event has its line among those of the whole.
+pub fn journals_are_told()
+    ensures scene { (staged : StagedScene) → IsJournal staged.setup (performed staged).past (performed staged).lines }
+{}
+
+/// A run of a script that begins on a path is a run as the other laws speak of it (`IsBegun`, `IsRun`), and is where
+/// its course is behind all events that follow its begin, whatever they are (`HasCourse`): the course's acts are the
+/// run's own turns and the calls of all others, in the order of the script. So where these leave its session alone
+/// (`AreOthersApart`), and each index on which one of its PolicySecret commands is executed is written at that moment
+/// (`AreSecretsOnWritten`), its session has before its goal the digest of the policy that the script names.
+pub fn runs_of_scripts_have_courses()
+    ensures begun { (staged : StagedScene) (run : RunOf staged.script) (position : ℕ)
+        → IsStaged staged → (on : BeginsOn staged run position) → IsBegun (run_along staged run on.path) }
+    ensures complete { (staged : StagedScene) (run : RunOf staged.script) (position : ℕ)
+        → IsStaged staged → (on : BeginsOn staged run position) → IsRun (run_along staged run on.path) }
+    ensures course { (staged : StagedScene) (run : RunOf staged.script) (position : ℕ)
+        → IsStaged staged → (on : BeginsOn staged run position) → HasCourse staged run on.path }
+    ensures digest { (staged : StagedScene) (run : RunOf staged.script) (position session : ℕ) (document : FilledDocument)
+        → IsStaged staged → (on : BeginsOn staged run position) → find (is_document run.policy) staged.scenario.begun ≡ Some document
+        → AreOthersApart (run_along staged run on.path) (acts_for staged run) (course_at_begin staged run)
+        → AreSecretsOnWritten (run_along staged run on.path) (acts_for staged run) (course_at_begin staged run)
+        → place_of (course_of staged run on.path).standing ≡ Some (session, length on.path.moves)
+        → digest_of_moves (moves_of_facts (facts_of staged.setup (behind_own staged run).past session)) ≡ policy_digest document.closed }
+{}
+
+/// The reply to a command, whatever its bytes are, has the response code 0 exactly where the command was accepted or
+/// served: each code by which a command is refused or denied is another one.
+pub fn success_replies_have_code_zero()
+    ensures { (setup : SetupOf) (past : List EventOf) (locality : ℕ) (buffer : List ℕ)
+        → IsSuccessReply (answer_to setup past locality buffer).reply ↔ (is_success (answer_to setup past locality buffer).outcome ≡ true) }
+{}
+
+/// Each buffer that a run of a scene's plan sends, whatever others do between, spells the command that it sends, and
+/// is read as this command: its grants, its goal and the moves of its path are within the bounds of the wire
+/// (`IsBegun`, and the offset of the goal), and the commands of the plan can all be made.
+pub fn runs_send_commands()
+    ensures { (run : Run) (past : List EventOf) (acts : List Act) (command : CommandOf)
+        → IsBegun run → HasShortOffset run.plan.goal → is_complete run.plan ≡ true
+        → sends run.plan (after_acts run acts (begun past)).standing ≡ Sends command → reading (spelling command) ≡ Ok command }
+{}
+
+/// Where a run hears a reply to its start, to a command of a move or to its goal, it ends denied with a code exactly
+/// where the reply is read as the refusal with this code, and by a bad reply where it is read as no reply at all. Where
+/// else an end is a bad reply says `bad_replies_have_their_causes` of tpol_driver.
+pub fn refusals_end_runs()
+    ensures start { (plan : Plan) (bytes : List ℕ) (rc : RcOf)
+        → (hears plan Starting bytes ≡ Over (Denied stages.Start rc)) ↔ IsRefusal plan Starting bytes rc }
+    ensures no_start { (plan : Plan) (bytes : List ℕ)
+        → IsNoReply plan Starting bytes → hears plan Starting bytes ≡ Over (BadReply stages.Start) }
+    ensures moves { (plan : Plan) (session : Session) (sent done : ℕ) (ticket : Option Ticket) (act : Move) (bytes : List ℕ) (rc : RcOf)
+        → slice_get plan.path.moves done ≡ Some act
+        → (hears plan (Moving session sent ticket done) bytes ≡ Closing session.handle (Denied (stage_of_move ticket act (done + 1)) rc))
+        ↔ IsRefusal plan (Moving session sent ticket done) bytes rc }
+    ensures no_move { (plan : Plan) (session : Session) (sent done : ℕ) (ticket : Option Ticket) (act : Move) (bytes : List ℕ)
+        → slice_get plan.path.moves done ≡ Some act → IsNoReply plan (Moving session sent ticket done) bytes
+        → hears plan (Moving session sent ticket done) bytes ≡ Closing session.handle (BadReply (stage_of_move ticket act (done + 1))) }
+    ensures goal { (plan : Plan) (session : Session) (sent done : ℕ) (ticket : Option Ticket) (bytes : List ℕ) (rc : RcOf)
+        → slice_get plan.path.moves done ≡ None
+        → (hears plan (Moving session sent ticket done) bytes ≡ Closing session.handle (Denied stages.Goal rc))
+        ↔ IsRefusal plan (Moving session sent ticket done) bytes rc }
+    ensures no_goal { (plan : Plan) (session : Session) (sent done : ℕ) (ticket : Option Ticket) (bytes : List ℕ)
+        → slice_get plan.path.moves done ≡ None → IsNoReply plan (Moving session sent ticket done) bytes
+        → hears plan (Moving session sent ticket done) bytes ≡ Closing session.handle (BadReply stages.Goal) }
 {}

@@ -58,12 +58,23 @@
 //!
 //! Its exception is no premise but part of the answer, as in the law before.
 //!
-//! `runs_are_served_as_told`, whose lines are those of `performed` of tpol_perform, which `perform` ensures
-//! - `IsStaged`: the clause `staged` of `stage`, which gives the scene that the commands `run` and `explain` carry out.
-//!   The clause `report` of `policy_main` speaks of it without the places in memory of its parts: `as_printed` says
-//!   that its lines are the same.
+//! `scenes_are_staged`: none. The definition is that of the report of `policy_main`, its clause `report`.
+//!
+//! `runs_are_served_as_told`, whose lines are those of `performed` of tpol_perform, which `perform_scene` ensures
+//! - `IsStaged`: `scenes_are_staged`, for the scene that the commands `run` and `explain` carry out. The clause
+//!   `scene_told` of `policy_main` has the law of their report, without this premise.
 //! - `IsAlone`: only the run's own turns make events behind its begin, up to where it is looked at.
-//! - `HasTurns`: these turns are enough for the path that the run begins on.
+//! - `HasTurns`: these turns are one for each command of the path that the run begins on.
+//!
+//! `runs_of_scripts_have_courses`
+//! - `IsStaged`: as for the law before. `BeginsOn`: the clause `begins_on` of that law.
+//! - `AreOthersApart`, `AreSecretsOnWritten`: as for `session_digest_is_compiled`, of the acts of the script.
+//!
+//! `runs_send_commands`
+//! - `IsBegun`, `HasShortOffset`, that the plan is complete: as for `a_blocked_path_fails`; of a run that a script begins
+//!   on a path by `runs_of_scripts_have_courses`.
+//!
+//! `journals_are_told`, `refusals_end_runs`, `success_replies_have_code_zero`: none.
 //!
 //! That the commands of the run succeed is no premise of `session_digest_is_compiled`: a run stands on its path as
 //! long as they do, which is `a_run_goes_on`.
@@ -73,5 +84,7 @@ mod laws;
 
 pub use laws::{
     a_blocked_path_fails, a_path_that_can_is_complete, a_path_that_can_is_served, a_run_ends,
-    a_run_goes_on, blind_runs_are_served, runs_are_served_as_told, session_digest_is_compiled,
+    a_run_goes_on, blind_runs_are_served, journals_are_told, refusals_end_runs,
+    runs_are_served_as_told, runs_of_scripts_have_courses, runs_send_commands, scenes_are_staged,
+    session_digest_is_compiled, success_replies_have_code_zero,
 };

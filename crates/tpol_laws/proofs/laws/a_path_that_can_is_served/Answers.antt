@@ -1,7 +1,6 @@
+use Rattle.tpol_laws.proofs.Owing.{never-sooner}
 use Rattle.tpol_laws.proofs.Served.{path-served}
 use Rattle.tpol_laws.proofs.laws.a_path_that_can_is_served.Goals as goal
 
 pub returns : goal.returns
-returns c run past turns is opens enough =
-    let served = path-served run past turns is opens enough in
-    (served.bytes, served.is)
+returns c = record { served = path-served; never_sooner = never-sooner }
