@@ -1,6 +1,6 @@
 -- What a blind run comes to, path after path: the first that nothing blocks serves it; or an HMAC of it was right by
 -- chance.
-use Rattle.std.proofs.Common.{cond, ◌≡◌, ◌≤◌, ◌⊎◌, inl, inr, ℕ, suc, ◌+◌, ◌*◌, Bool, true, false, if◌then◌else◌, List, [], ◌∷◌, drop, length, nat_le, refl, ap, sym, subst, ◌∙◌, arith}
+use Rattle.std.proofs.Common.{cond, ◌≡◌, ◌≤◌, ◌<◌, ◌⊎◌, inl, inr, ℕ, suc, ◌+◌, ◌*◌, Bool, true, false, if◌then◌else◌, List, [], ◌∷◌, drop, length, nat_lt, refl, ap, sym, subst, ◌∙◌, arith}
 use Rattle.std.specs.Prelude.{⊤, All, Option, Some, None, is_none, slice_get, unwrap_or}
 use Rattle.std.proofs.lemmas.Bool.{false≢true}
 use Rattle.std.proofs.lemmas.Bool.Decides.{nat_tests}
@@ -47,7 +47,7 @@ served-from run first turns most total course position is enough served =
 chance-from : (run : BlindRun) (first : List Event) (turns most total : ℕ) (course : BlindCourse) → blind_turns run turns (blind_begun first) ≡ course → turns + most ≤ total
     → ComesByChance run most course → ComesByChance run total (blind_begun first)
 chance-from run first turns most total course is enough chance =
-    let within : chance.before ≤ most = chance.within in
+    let within : chance.before < most = chance.within in
     record {
       before = turns + chance.before;
       within = omega (arith, within, enough);
@@ -91,11 +91,11 @@ closed-next run first closed =
 
 -- a chance comes before the end
 chance-within : (run : BlindRun) (turns : ℕ) (first : List Event) (end : BlindEnd) → (blind_turns run turns (blind_begun first)).standing ≡ Over end → (most : ℕ) → ComesByChance run most (blind_begun first) → HasBlindChance run turns first
-chance-within run turns first end over most chance = by (nat_le chance.before turns) refl
+chance-within run turns first end over most chance = by (nat_lt chance.before turns) refl
   where
-    by : (b : Bool) → nat_le chance.before turns ≡ b → HasBlindChance run turns first
+    by : (b : Bool) → nat_lt chance.before turns ≡ b → HasBlindChance run turns first
     by true before =
-        let within : chance.before ≤ turns = grind (arith, nat_tests, before) in
+        let within : chance.before < turns = grind (arith, nat_tests, before) in
         (chance.before, within, chance.is)
     by false behind =
         let later : turns ≤ chance.before = grind (arith, nat_tests, behind) in
@@ -255,7 +255,7 @@ module _ (mirrored : Mirrored) (run : BlindRun) (begins : IsBlindBegun run) (off
           let within : served.turns ≤ 0 + commands_to tried unblocked run.plan.paths = served.within in
           inl (served.bytes, over-stays run served.turns turns (blind_begun first) (blind_ends.Served position served.bytes) (omega (arith, within, few)) served.is)
       by (inr chance) =
-          let within : chance.before ≤ 0 + commands_to tried unblocked run.plan.paths = chance.within in
+          let within : chance.before < 0 + commands_to tried unblocked run.plan.paths = chance.within in
           inr (chance.before, omega (arith, within, few), chance.is)
 
   only-when : (turns position : ℕ) (bytes : List ℕ) → (blind_turns run turns (blind_begun first)).standing ≡ Over (blind_ends.Served position bytes)

@@ -1,5 +1,5 @@
 -- Turns of a blind run: one after another, and on a path those of a run on that path alone.
-use Rattle.std.proofs.Common.{◌≡◌, ◌≤◌, ◌-◌, ℕ, zero, suc, ◌+◌, ◌*◌, ◌⊎◌, inl, inr, List, ◌∷◌, length, replicate, refl, ap, sym, subst, ◌∙◌, arith}
+use Rattle.std.proofs.Common.{◌≡◌, ◌≤◌, ◌<◌, ◌-◌, ℕ, zero, suc, ◌+◌, ◌*◌, ◌⊎◌, inl, inr, List, ◌∷◌, length, replicate, refl, ap, sym, subst, ◌∙◌, arith}
 use Rattle.std.specs.Prelude.{Option, Some, None, slice_get, slice_set}
 use Rattle.std.proofs.lemmas.Bool.{false≢true}
 use Rattle.tpm_engine.specs.declared.event.Event.{Event}
@@ -65,10 +65,10 @@ pub record IsBlindServed (run : BlindRun) (most : ℕ) (course : BlindCourse) (p
   pub bytes : List ℕ
   pub is : (blind_turns run turns course).standing ≡ blind.Over (blind_ends.Served position bytes)
 
--- or what it sends next is right by chance
+-- or what it sends is right by chance
 pub record ComesByChance (run : BlindRun) (most : ℕ) (course : BlindCourse) : Type 0 where
   pub before : ℕ
-  pub within : before ≤ most
+  pub within : before < most
   pub is : IsBlindChance run (blind_turns run before course)
 
 -- or it is refused on the path at this place, and goes on to the next
@@ -91,7 +91,7 @@ served-next : (run : BlindRun) (most : ℕ) (course : BlindCourse) (position : �
 unfolding blind_turns
 served-next run most course position bytes is = record { turns = 1; within = omega arith; bytes = bytes; is = is }
 
-chance-here : (run : BlindRun) (most : ℕ) (course : BlindCourse) → IsBlindChance run course → ComesByChance run most course
+chance-here : (run : BlindRun) (most : ℕ) (course : BlindCourse) → IsBlindChance run course → ComesByChance run (suc most) course
 unfolding blind_turns
 chance-here run most course is = record { before = 0; within = omega arith; is = is }
 
@@ -104,7 +104,7 @@ try-later run first session most place course (inl later) =
     let within : later.turns ≤ most = later.within in
     inl (record { turns = suc later.turns; within = omega (arith, within); past = later.past; sent = later.sent; tries = later.tries; is = later.is; keeps = later.keeps })
 try-later run first session most place course (inr chance) =
-    let within : chance.before ≤ most = chance.within in
+    let within : chance.before < most = chance.within in
     inr (record { before = suc chance.before; within = omega (arith, within); is = chance.is })
 
 try-refused : (run : BlindRun) (first : List Event) (session : Session) (most place : ℕ) (course : BlindCourse) (past : List Event) (sent : ℕ) (tries : List Tried)
@@ -207,8 +207,8 @@ module _ (mirrored : Mirrored) (run : BlindRun) where
   pub try-ends : (most : ℕ) (first past : List Event) (session : Session) (sent place : ℕ) (ticket : Option Ticket) (done : ℕ) (tries : List Tried)
       → EndsBy (run_along run place) first session most (on_path past session sent ticket done)
       → TryEnds run first session most place (trying past session sent place ticket done tries)
-  try-ends zero first past session sent place ticket done tries chance = inr (chance-here run 0 (trying past session sent place ticket done tries) chance)
-  try-ends (suc most) first past session sent place ticket done tries (inl chance) = inr (chance-here run (suc most) (trying past session sent place ticket done tries) chance)
+  try-ends zero first past session sent place ticket done tries ends = absurd ends
+  try-ends (suc most) first past session sent place ticket done tries (inl chance) = inr (chance-here run most (trying past session sent place ticket done tries) chance)
   try-ends (suc most) first past session sent place ticket done tries (inr (inl refused)) =
       try-refused run first session most place (trying past session sent place ticket done tries) refused.past (sent + 1) (slice_set tries place (Refused refused.at refused.rc))
       (turn-mirrored past session sent place ticket done tries ∙ ap (along run.plan session sent place tries) refused.is) refused.keeps

@@ -152,15 +152,14 @@ pub record Leads (run : Run) (session : Session) (course : Course) (to : Course 
   pub is : after_act run course Turn ≡ on_path past session sent ticket done
   pub onwards : to (on_path past session sent ticket done)
 
--- within as many turns it is refused, or what it sends next is right by chance
+-- within as many turns it is refused, or sends what is right by chance
 abbrev pub EndsBy : Run → List Event → Session → ℕ → Course → Type 0
-EndsBy run first session zero course = IsByChance run course
+EndsBy run first session zero course = ⊥
 EndsBy run first session (suc most) course =
     IsByChance run course ⊎ (IsRefused run first session (after_act run course Turn) ⊎ Leads run session course (EndsBy run first session most))
 
-ends-now : (run : Run) (first : List Event) (session : Session) (most : ℕ) (course : Course) → IsByChance run course → EndsBy run first session most course
-ends-now run first session zero course chance = chance
-ends-now run first session (suc most) course chance = inl chance
+ends-now : (run : Run) (first : List Event) (session : Session) (most : ℕ) (course : Course) → IsByChance run course → EndsBy run first session (suc most) course
+ends-now run first session most course chance = inl chance
 
 ends-next : (run : Run) (first : List Event) (session : Session) (most : ℕ) (course : Course) → IsRefused run first session (after_act run course Turn) → EndsBy run first session (suc most) course
 ends-next run first session most course refused = inr (inl refused)
@@ -171,7 +170,7 @@ ends-later run first session most course past sent ticket done is onwards = inr 
 
 -- in more turns too
 more : (run : Run) (first : List Event) (session : Session) (n m : ℕ) (course : Course) → n ≤ m → EndsBy run first session n course → EndsBy run first session m course
-more run first session zero m course fewer chance = ends-now run first session m course chance
+more run first session zero m course fewer ends = absurd ends
 more run first session (suc n) zero course fewer ends = absurd (omega (arith, fewer))
 more run first session (suc n) (suc m) course fewer (inl chance) = inl chance
 more run first session (suc n) (suc m) course fewer (inr (inl refused)) = inr (inl refused)
@@ -195,7 +194,7 @@ module _ (run : Run) (is : IsRun run) (begins : IsBegun run) (offsets : HasShort
 
       opened : (goal_block (chooser_of run first) (judged_after run first run.plan.path.moves) ≡ None) ⊎ IsByChance run (on_path past session sent None done) → Tries past session sent done number chosen []
       opened (inl opens) = inl (ap (block_of 0) (subst (λ (s : SessionState). goal_block (chooser_of run first) s ≡ None) (sym ahead.judged) opens))
-      opened (inr chance) = inr (ends-now run first session 1 (on_path past session sent None done) chance)
+      opened (inr chance) = inr (ends-now run first session 0 (on_path past session sent None done) chance)
 
       by : (first_stop (view_of run.setup past) run.locality (goal_command run.plan session sent) ≡ None) ⊎ IsRefused run first session (after_act run (on_path past session sent None done) Turn) → Tries past session sent done number chosen []
       by (inl none) = opened (goal-step run begins offsets first past session sent done on at none)
@@ -230,7 +229,7 @@ module _ (run : Run) (is : IsRun run) (begins : IsBegun run) (offsets : HasShort
 
       stepped : Goes run first past session sent done chosen act ⊎ IsByChance run (on_path past session sent None done) → Tries past session sent done number chosen (act ∷ rest)
       stepped (inl step) = behind step (goes step.moved.past (next-ahead run first past session done chosen act rest ahead step.moved.past step.moved.stands))
-      stepped (inr chance) = inr (ends-now run first session (2 * length (act ∷ rest) + 1) (on_path past session sent None done) chance)
+      stepped (inr chance) = inr (more run first session 1 (2 * length (act ∷ rest) + 1) (on_path past session sent None done) (omega arith) (ends-now run first session 0 (on_path past session sent None done) chance))
 
       by : (first_stop (view_of run.setup past) run.locality (command_of_move (directory_of run.setup) run.plan.grants session None act) ≡ None) ⊎ IsRefused run first session (after_act run (on_path past session sent None done) Turn)
           → Tries past session sent done number chosen (act ∷ rest)

@@ -1,6 +1,6 @@
 -- Blind runs, which try one path after another on the machine itself: what becomes of one where only its own turns
 -- come.
-use Rattle.std.specs.Prelude.{◌≡◌, ◌≤◌, ℕ, zero, suc, All, List, ◌∷◌, filter, length, map, take}
+use Rattle.std.specs.Prelude.{◌≡◌, ◌≤◌, ◌<◌, ℕ, zero, suc, All, List, ◌∷◌, filter, length, map, take}
 use Rattle.std.specs.List.{sum_by}
 use Rattle.tpm_engine.specs.declared.event.Event.{Event}
 use Rattle.tpm_engine.specs.Events.{event_of}
@@ -88,7 +88,7 @@ BlindChanceAt run past (Over end) = ⊥
 abbrev pub IsBlindChance : BlindRun → BlindCourse → Type 0
 IsBlindChance run course = BlindChanceAt run course.past course.standing
 
--- within as many turns of a run that begins after these events
+-- within as many turns a run that begins after these events sends such an HMAC
 abbrev pub HasBlindChance : BlindRun → ℕ → List Event → Type 0
 HasBlindChance run turns past =
-    (before : ℕ) × (before ≤ turns) × IsBlindChance run (blind_turns run before (blind_begun past))
+    (before : ℕ) × (before < turns) × IsBlindChance run (blind_turns run before (blind_begun past))
