@@ -9,7 +9,8 @@ use Rattle.std.proofs.lemmas.List.Sums.{sum_by-cons}
 use Rattle.std.proofs.lemmas.Option.{none-some, same_Some}
 use Rattle.tpol_digest.specs.Walks.{first_path}
 use Rattle.tpol_driver.specs.declared.blind_plan.BlindPlan.{BlindPlan}
-use Rattle.tpol_driver.specs.Blind.{is_tried, most_of_path, tried_from}
+use Rattle.tpol_driver.specs.Blind.{is_tried, tried_from}
+use Rattle.tpol_laws.specs.PathCommands.{commands_along}
 use Rattle.tpol_tree.specs.declared.path.Path.{Path}
 
 -- ---- the paths from a place on
@@ -69,7 +70,7 @@ none-tried plan place is = ap (λ (paths : List Path). option_map (λ (index : �
 -- how many commands are sent until there, or to the end
 abbrev pub commands_to : (Path → Bool) → (Path → Bool) → List Path → ℕ
 commands_to tried unblocked [] = 0
-commands_to tried unblocked (path ∷ rest) = cond (tried path) (most_of_path path) 0 + cond (unblocked path) 0 (commands_to tried unblocked rest)
+commands_to tried unblocked (path ∷ rest) = cond (tried path) (commands_along path) 0 + cond (unblocked path) 0 (commands_to tried unblocked rest)
 
 -- the first that nothing blocks, with its place among these paths
 pub record IsFirst (tried unblocked : Path → Bool) (number position : ℕ) (paths : List Path) : Type 0 where
@@ -77,27 +78,27 @@ pub record IsFirst (tried unblocked : Path → Bool) (number position : ℕ) (pa
   pub is : position ≡ number + index
   pub path : Path
   pub opens : unblocked path ≡ true
-  pub commands : commands_to tried unblocked paths ≡ sum_by most_of_path (filter tried (take (suc index) paths))
+  pub commands : commands_to tried unblocked paths ≡ sum_by commands_along (filter tried (take (suc index) paths))
 
 pub is-first : (tried unblocked : Path → Bool) (number position : ℕ) (paths : List Path) → first_path unblocked number paths ≡ Some position → IsFirst tried unblocked number position paths
 is-first tried unblocked number position [] found = absurd (none-some position found)
 is-first tried unblocked number position (path ∷ rest) found = by (unblocked path) refl found (is-first tried unblocked (number + 1) position rest)
   where
-    commands : (b : Bool) (t : Bool) → tried path ≡ t → unblocked path ≡ b → (later : List Path) → cond b 0 (commands_to tried unblocked rest) ≡ sum_by most_of_path (filter tried later)
-        → cond (tried path) (most_of_path path) 0 + cond (unblocked path) 0 (commands_to tried unblocked rest) ≡ sum_by most_of_path (cond (tried path) (path ∷ filter tried later) (filter tried later))
+    commands : (b : Bool) (t : Bool) → tried path ≡ t → unblocked path ≡ b → (later : List Path) → cond b 0 (commands_to tried unblocked rest) ≡ sum_by commands_along (filter tried later)
+        → cond (tried path) (commands_along path) 0 + cond (unblocked path) 0 (commands_to tried unblocked rest) ≡ sum_by commands_along (cond (tried path) (path ∷ filter tried later) (filter tried later))
     commands b true tries opens later same =
-        ap (λ (t : Bool). cond t (most_of_path path) 0 + cond (unblocked path) 0 (commands_to tried unblocked rest)) tries
-        ∙ ap (λ (o : Bool). most_of_path path + cond o 0 (commands_to tried unblocked rest)) opens
-        ∙ ap (λ (n : ℕ). most_of_path path + n) same
-        ∙ sym (sum_by-cons most_of_path path (filter tried later))
-        ∙ ap (λ (t : Bool). sum_by most_of_path (cond t (path ∷ filter tried later) (filter tried later))) (sym tries)
+        ap (λ (t : Bool). cond t (commands_along path) 0 + cond (unblocked path) 0 (commands_to tried unblocked rest)) tries
+        ∙ ap (λ (o : Bool). commands_along path + cond o 0 (commands_to tried unblocked rest)) opens
+        ∙ ap (λ (n : ℕ). commands_along path + n) same
+        ∙ sym (sum_by-cons commands_along path (filter tried later))
+        ∙ ap (λ (t : Bool). sum_by commands_along (cond t (path ∷ filter tried later) (filter tried later))) (sym tries)
     commands b false tries opens later same =
         let nothing : 0 + cond b 0 (commands_to tried unblocked rest) ≡ cond b 0 (commands_to tried unblocked rest) = omega arith in
-        ap (λ (t : Bool). cond t (most_of_path path) 0 + cond (unblocked path) 0 (commands_to tried unblocked rest)) tries
+        ap (λ (t : Bool). cond t (commands_along path) 0 + cond (unblocked path) 0 (commands_to tried unblocked rest)) tries
         ∙ ap (λ (o : Bool). 0 + cond o 0 (commands_to tried unblocked rest)) opens
         ∙ nothing
         ∙ same
-        ∙ ap (λ (t : Bool). sum_by most_of_path (cond t (path ∷ filter tried later) (filter tried later))) (sym tries)
+        ∙ ap (λ (t : Bool). sum_by commands_along (cond t (path ∷ filter tried later) (filter tried later))) (sym tries)
 
     by : (b : Bool) → unblocked path ≡ b → (if b then Some number else first_path unblocked (number + 1) rest) ≡ Some position
         → (first_path unblocked (number + 1) rest ≡ Some position → IsFirst tried unblocked (number + 1) position rest) → IsFirst tried unblocked number position (path ∷ rest)

@@ -58,11 +58,10 @@ over-stays run n m course end fewer over =
 
 -- ---- what a try comes to
 
--- within as many turns the run is served on the path at this position
-pub record IsBlindServed (run : BlindRun) (most : ℕ) (course : BlindCourse) (position : ℕ) : Type 0 where
+-- within as many turns the run is served with these bytes on the path at this position
+pub record IsBlindServed (run : BlindRun) (most : ℕ) (course : BlindCourse) (position : ℕ) (bytes : List ℕ) : Type 0 where
   pub turns : ℕ
   pub within : turns ≤ most
-  pub bytes : List ℕ
   pub is : (blind_turns run turns course).standing ≡ blind.Over (blind_ends.Served position bytes)
 
 -- or what it sends is right by chance
@@ -81,15 +80,15 @@ pub record IsTryRefused (run : BlindRun) (first : List Event) (session : Session
   pub is : blind_turns run turns course ≡ record { past = past; standing = next_try session sent tries (tried_from run.plan (place + 1)) }
   pub keeps : Keeps (run_along run place) first past session
 
-served-later : (run : BlindRun) (most : ℕ) (course : BlindCourse) (position : ℕ) → IsBlindServed run most (after_blind_turn run course) position → IsBlindServed run (suc most) course position
+served-later : (run : BlindRun) (most : ℕ) (course : BlindCourse) (position : ℕ) (bytes : List ℕ) → IsBlindServed run most (after_blind_turn run course) position bytes → IsBlindServed run (suc most) course position bytes
 unfolding blind_turns
-served-later run most course position later =
+served-later run most course position bytes later =
     let within : later.turns ≤ most = later.within in
-    record { turns = suc later.turns; within = omega (arith, within); bytes = later.bytes; is = later.is }
+    record { turns = suc later.turns; within = omega (arith, within); is = later.is }
 
-served-next : (run : BlindRun) (most : ℕ) (course : BlindCourse) (position : ℕ) (bytes : List ℕ) → (after_blind_turn run course).standing ≡ blind.Over (blind_ends.Served position bytes) → IsBlindServed run (suc most) course position
+served-next : (run : BlindRun) (most : ℕ) (course : BlindCourse) (position : ℕ) (bytes : List ℕ) → (after_blind_turn run course).standing ≡ blind.Over (blind_ends.Served position bytes) → IsBlindServed run (suc most) course position bytes
 unfolding blind_turns
-served-next run most course position bytes is = record { turns = 1; within = omega arith; bytes = bytes; is = is }
+served-next run most course position bytes is = record { turns = 1; within = omega arith; is = is }
 
 chance-here : (run : BlindRun) (most : ℕ) (course : BlindCourse) → IsBlindChance run course → ComesByChance run (suc most) course
 unfolding blind_turns
@@ -163,9 +162,9 @@ module _ (mirrored : Mirrored) (run : BlindRun) where
   -- a turn on the path of a run that is served in the end
   served-turn : (turns : ℕ) (past : List Event) (session : Session) (sent place : ℕ) (ticket : Option Ticket) (done : ℕ) (tries : List Tried) (bytes : List ℕ)
       → ((later : List Event) (own : Session) (number : ℕ) (next : Option Ticket) (more : ℕ) → (after_acts (run_along run place) (replicate turns Turn) (on_path later own number next more)).standing ≡ Over (ends.Served bytes)
-      → IsBlindServed run turns (trying later own number place next more tries) (place + 1))
+      → IsBlindServed run turns (trying later own number place next more tries) (place + 1) bytes)
       → (after_acts (run_along run place) (replicate turns Turn) (after_act (run_along run place) (on_path past session sent ticket done) Turn)).standing ≡ Over (ends.Served bytes)
-      → IsBlindServed run (suc turns) (trying past session sent place ticket done tries) (place + 1)
+      → IsBlindServed run (suc turns) (trying past session sent place ticket done tries) (place + 1) bytes
   served-turn turns past session sent place ticket done tries bytes goes served = by after.standing refl
     where
       after : Course
@@ -178,16 +177,16 @@ module _ (mirrored : Mirrored) (run : BlindRun) where
       then now is = ap (λ (s : Standing). (after_acts (run_along run place) (replicate turns Turn) (record { past = after.past; standing = s })).standing) (sym is) ∙ served
 
       ended : (end : End) → (after_blind_turn run (trying past session sent place ticket done tries)).standing ≡ tried run.plan session (sent + 1) place tries end → end ≡ ends.Served bytes
-          → IsBlindServed run (suc turns) (trying past session sent place ticket done tries) (place + 1)
+          → IsBlindServed run (suc turns) (trying past session sent place ticket done tries) (place + 1) bytes
       ended end is same = served-next run turns (trying past session sent place ticket done tries) (place + 1) bytes (is ∙ ap (tried run.plan session (sent + 1) place tries) same)
 
-      by : (standing : Standing) → after.standing ≡ standing → IsBlindServed run (suc turns) (trying past session sent place ticket done tries) (place + 1)
+      by : (standing : Standing) → after.standing ≡ standing → IsBlindServed run (suc turns) (trying past session sent place ticket done tries) (place + 1) bytes
       by Starting is =
           let command : Command = next_command (plan_at run.plan place) session sent ticket (slice_get (plan_at run.plan place).path.moves done) in
           absurd (never-starts (plan_at run.plan place) session sent ticket done (answer_in (run_along run place) past command).reply is)
       by (Moving own number next more) is =
-          served-later run turns (trying past session sent place ticket done tries) (place + 1)
-          (subst (λ (c : BlindCourse). IsBlindServed run turns c (place + 1)) (sym (at (Moving own number next more) is)) (goes after.past own number next more (then (Moving own number next more) is)))
+          served-later run turns (trying past session sent place ticket done tries) (place + 1) bytes
+          (subst (λ (c : BlindCourse). IsBlindServed run turns c (place + 1) bytes) (sym (at (Moving own number next more) is)) (goes after.past own number next more (then (Moving own number next more) is)))
       by (Closing handle end) is =
           ended end (ap (λ (c : BlindCourse). c.standing) (at (Closing handle end) is)) (closed-served (run_along run place) turns after.past handle end bytes (then (Closing handle end) is))
       by (Over end) is =
@@ -196,7 +195,7 @@ module _ (mirrored : Mirrored) (run : BlindRun) where
   -- where a run on the path alone is served, so is the blind run
   pub try-served : (turns : ℕ) (past : List Event) (session : Session) (sent place : ℕ) (ticket : Option Ticket) (done : ℕ) (tries : List Tried) (bytes : List ℕ)
       → (after_acts (run_along run place) (replicate turns Turn) (on_path past session sent ticket done)).standing ≡ Over (ends.Served bytes)
-      → IsBlindServed run turns (trying past session sent place ticket done tries) (place + 1)
+      → IsBlindServed run turns (trying past session sent place ticket done tries) (place + 1) bytes
   unfolding after_acts
   try-served zero past session sent place ticket done tries bytes served = absurd (false≢true (ap is_over served))
   try-served (suc turns) past session sent place ticket done tries bytes served =

@@ -1,6 +1,6 @@
 -- One try, from wherever the session has no facts: it is served where nothing blocks its path; else it is refused, or
 -- an HMAC of it was right by chance.
-use Rattle.std.proofs.Common.{◌≡◌, ◌≤◌, ◌⊎◌, inl, inr, ℕ, ◌+◌, ◌*◌, true, not, List, [], length, refl, ap, sym, ◌∙◌, arith, zero-add}
+use Rattle.std.proofs.Common.{◌≡◌, ◌≤◌, ◌⊎◌, inl, inr, ℕ, ◌+◌, true, not, List, [], length, refl, ap, sym, ◌∙◌, arith, zero-add}
 use Rattle.std.specs.Prelude.{Some, None, slice_get}
 use Rattle.std.specs.List.{list_all}
 use Rattle.std.proofs.lemmas.Option.{none-some}
@@ -25,7 +25,6 @@ use Rattle.tpol_laws.proofs.BlockedTurns.{on_path}
 use Rattle.tpol_laws.proofs.Finds.{both}
 use Rattle.tpol_laws.proofs.Goal.{serves-goal}
 use Rattle.tpol_laws.proofs.Refused.{EndsBy, moves-try}
-use Rattle.tpol_laws.proofs.Owing.{at-most-twice}
 use Rattle.tpol_laws.proofs.Served.{Ahead, ServedAfter, moves-served, open-moves}
 use Rattle.tpol_laws.proofs.Standing.{Stands, chooser_of}
 
@@ -42,21 +41,21 @@ module _ (run : Run) (begins : IsBegun run) (complete : is_complete run.plan ≡
       record { stands = on; path = λ k. ap (slice_get run.plan.path.moves) (zero-add k); judged = refl; room = room }
 
   pub open-served : first_block run.plan.path (sight_after run.setup first) run.plan.grants run.plan.goal run.locality ≡ None
-      → ServedAfter run first (2 * length run.plan.path.moves + 1) (on_path past session sent None 0)
+      → ServedAfter run first (commands_of_moves run.plan.path.moves + 1) (on_path past session sent None 0)
   open-served opens =
-      let all : commands_of_moves run.plan.path.moves + 1 ≤ 2 * length run.plan.path.moves + 1 = omega (arith, at-most-twice run.plan.path.moves) in
-      moves-served run runs first (serves-goal run begins first) run.plan.path.moves (2 * length run.plan.path.moves + 1) past session sent 0 1 (fresh_session (sight_after run.setup first))
+      let all : commands_of_moves run.plan.path.moves + 1 ≤ commands_of_moves run.plan.path.moves + 1 = omega arith in
+      moves-served run runs first (serves-goal run begins first) run.plan.path.moves (commands_of_moves run.plan.path.moves + 1) past session sent 0 1 (fresh_session (sight_after run.setup first))
       (record { ahead = ahead; opens = open-moves run first opens }) all
 
   pub blocked-ends : HasShortOffset run.plan.goal → start_rule (view_of run.setup first) ≡ None → (block : Block)
       → first_block run.plan.path (sight_after run.setup first) run.plan.grants run.plan.goal run.locality ≡ Some block
-      → EndsBy run first session (2 * length run.plan.path.moves + 1) (on_path past session sent None 0)
+      → EndsBy run first session (commands_of_moves run.plan.path.moves + 1) (on_path past session sent None 0)
   unfolding first_block
   blocked-ends offsets rule block blocked =
       by (moves-try run runs begins offsets first run.plan.path.moves past session sent 0 1 (fresh_session (sight_after run.setup first)) ahead refl)
     where
-      by : (moves_block (chooser_of run first) 1 (fresh_session (sight_after run.setup first)) run.plan.path.moves ≡ None) ⊎ EndsBy run first session (2 * length run.plan.path.moves + 1) (on_path past session sent None 0)
-          → EndsBy run first session (2 * length run.plan.path.moves + 1) (on_path past session sent None 0)
+      by : (moves_block (chooser_of run first) 1 (fresh_session (sight_after run.setup first)) run.plan.path.moves ≡ None) ⊎ EndsBy run first session (commands_of_moves run.plan.path.moves + 1) (on_path past session sent None 0)
+          → EndsBy run first session (commands_of_moves run.plan.path.moves + 1) (on_path past session sent None 0)
       by (inl opens) =
           let within = no-outside run.plan.path.outside (both (not run.plan.path.outside) (list_all (is_known_move run.plan.directory run.plan.grants) run.plan.path.moves) complete).0 in
           let whole = whole-open run first within rule in

@@ -1,6 +1,6 @@
 -- A try that is blocked is refused: some command of it is stopped, what is heard is a denial, and the session and
 -- the world are left as they were; or an HMAC of it was right by chance.
-use Rattle.std.proofs.Common.{◌≡◌, ◌≤◌, ◌⊎◌, inl, inr, ℕ, zero, suc, ◌+◌, ◌*◌, true, false, List, [], ◌∷◌, length, refl, ap, sym, subst, ◌∙◌, arith}
+use Rattle.std.proofs.Common.{◌≡◌, ◌≤◌, ◌⊎◌, inl, inr, ℕ, zero, suc, ◌+◌, true, false, List, [], ◌∷◌, refl, ap, sym, subst, ◌∙◌, arith}
 use Rattle.std.specs.Prelude.{Option, Some, None, slice_get}
 use Rattle.tpm_bindings.specs.State.{SessionState}
 use Rattle.tpm_engine.specs.declared.event.Event.{Event}
@@ -41,6 +41,7 @@ use Rattle.tpol_wire.specs.ReplyReading.{reply_reading}
 use Rattle.tpol_laws.specs.Acts.{Course, Run, Turn, after_act, answer_in, event_in}
 use Rattle.tpol_laws.specs.Chances.{IsByChance}
 use Rattle.tpol_goal.specs.Goals.{HasShortOffset}
+use Rattle.tpol_laws.specs.PathCommands.{commands_of_move, commands_of_moves}
 use Rattle.tpol_laws.specs.Runs.{IsBegun, IsRun}
 use Rattle.tpol_laws.proofs.Answered.{on-answer, read-back, refusal-read, stop-code, stop-fails, stopped-idle}
 use Rattle.tpol_laws.proofs.Blocked.{IsOpen, act-open}
@@ -177,9 +178,13 @@ more run first session (suc n) (suc m) course fewer (inr (inl refused)) = inr (i
 more run first session (suc n) (suc m) course fewer (inr (inr leads)) =
     ends-later run first session m course leads.past leads.sent leads.ticket leads.done leads.is (more run first session n m (on_path leads.past session leads.sent leads.ticket leads.done) (omega (arith, fewer)) leads.onwards)
 
+some-command : (act : Move) → 1 ≤ commands_of_move act
+some-command (Approve key policy_ref approved signature) = omega arith
+some-command act = omega arith
+
 module _ (run : Run) (is : IsRun run) (begins : IsBegun run) (offsets : HasShortOffset run.plan.goal) (first : List Event) where
   abbrev Tries : List Event → Session → ℕ → ℕ → ℕ → SessionState → List Move → Type 0
-  Tries past session sent done number chosen rest = IsOpen run first number chosen rest ⊎ EndsBy run first session (2 * length rest + 1) (on_path past session sent None done)
+  Tries past session sent done number chosen rest = IsOpen run first number chosen rest ⊎ EndsBy run first session (commands_of_moves rest + 1) (on_path past session sent None done)
 
   goal-tries : (past : List Event) (session : Session) (sent done number : ℕ) (chosen : SessionState) → Ahead run first past session done chosen [] → chosen.start ≡ (sight_after run.setup first).time
       → Tries past session sent done number chosen []
@@ -224,17 +229,17 @@ module _ (run : Run) (is : IsRun run) (begins : IsBegun run) (offsets : HasShort
       behind : (step : Goes run first past session sent done chosen act) → Tries step.moved.past session (sent + 1) (done + 1) (number + 1) (session_after (sight_after run.setup first) chosen act) rest
           → Tries past session sent done number chosen (act ∷ rest)
       behind step (inl opens) = inl (act-open run first number chosen act rest step.opens opens)
-      behind step (inr e) = inr (more run first session (suc (2 * length rest + 1)) (2 * length (act ∷ rest) + 1) (on_path past session sent None done) (omega arith)
-          (ends-later run first session (2 * length rest + 1) (on_path past session sent None done) step.moved.past (sent + 1) None (done + 1) step.moved.is e))
+      behind step (inr e) = inr (more run first session (suc (commands_of_moves rest + 1)) (commands_of_moves (act ∷ rest) + 1) (on_path past session sent None done) (omega (arith, some-command act))
+          (ends-later run first session (commands_of_moves rest + 1) (on_path past session sent None done) step.moved.past (sent + 1) None (done + 1) step.moved.is e))
 
       stepped : Goes run first past session sent done chosen act ⊎ IsByChance run (on_path past session sent None done) → Tries past session sent done number chosen (act ∷ rest)
       stepped (inl step) = behind step (goes step.moved.past (next-ahead run first past session done chosen act rest ahead step.moved.past step.moved.stands))
-      stepped (inr chance) = inr (more run first session 1 (2 * length (act ∷ rest) + 1) (on_path past session sent None done) (omega arith) (ends-now run first session 0 (on_path past session sent None done) chance))
+      stepped (inr chance) = inr (more run first session 1 (commands_of_moves (act ∷ rest) + 1) (on_path past session sent None done) (omega (arith, some-command act)) (ends-now run first session 0 (on_path past session sent None done) chance))
 
       by : (first_stop (view_of run.setup past) run.locality (command_of_move (directory_of run.setup) run.plan.grants session None act) ≡ None) ⊎ IsRefused run first session (after_act run (on_path past session sent None done) Turn)
           → Tries past session sent done number chosen (act ∷ rest)
       by (inl none) = stepped (plain-step run is first past session sent done chosen ahead.stands (has-room run first past session done chosen act rest ahead past ahead.stands) act at other bounds known none)
-      by (inr refused) = inr (more run first session 1 (2 * length (act ∷ rest) + 1) (on_path past session sent None done) (omega arith) (ends-next run first session 0 (on_path past session sent None done) refused))
+      by (inr refused) = inr (more run first session 1 (commands_of_moves (act ∷ rest) + 1) (on_path past session sent None done) (omega (arith, some-command act)) (ends-next run first session 0 (on_path past session sent None done) refused))
 
   approve-tries : (past : List Event) (session : Session) (sent done number : ℕ) (chosen : SessionState) (key : Name) (policy_ref : List ℕ) (approved signature : Digest32) (rest : List Move)
       → Ahead run first past session done chosen (Approve key policy_ref approved signature ∷ rest) → chosen.start ≡ (sight_after run.setup first).time
@@ -258,17 +263,17 @@ module _ (run : Run) (is : IsRun run) (begins : IsBegun run) (offsets : HasShort
       can = verifiable run is past session key policy_ref approved signature known
 
       first-turn : (step : Verified run first past session sent done chosen key policy_ref approved signature)
-          → EndsBy run first session (suc (2 * length rest + 1)) (on_path step.ticketed.moved.past session (sent + 1) (Some step.ticketed.ticket) done)
+          → EndsBy run first session (suc (commands_of_moves rest + 1)) (on_path step.ticketed.moved.past session (sent + 1) (Some step.ticketed.ticket) done)
           → Tries past session sent done number chosen (Approve key policy_ref approved signature ∷ rest)
-      first-turn step e = inr (more run first session (suc (suc (2 * length rest + 1))) (2 * length (Approve key policy_ref approved signature ∷ rest) + 1) (on_path past session sent None done) (omega arith)
-          (ends-later run first session (suc (2 * length rest + 1)) (on_path past session sent None done) step.ticketed.moved.past (sent + 1) (Some step.ticketed.ticket) done step.ticketed.moved.is e))
+      first-turn step e = inr (more run first session (suc (suc (commands_of_moves rest + 1))) (commands_of_moves (Approve key policy_ref approved signature ∷ rest) + 1) (on_path past session sent None done) (omega arith)
+          (ends-later run first session (suc (commands_of_moves rest + 1)) (on_path past session sent None done) step.ticketed.moved.past (sent + 1) (Some step.ticketed.ticket) done step.ticketed.moved.is e))
 
       behind : (step : Verified run first past session sent done chosen key policy_ref approved signature)
           → (made : Authorized run first step.ticketed.moved.past session (sent + 1) done chosen step.ticketed.ticket (Approve key policy_ref approved signature))
           → Tries made.moved.past session (sent + 1 + 1) (done + 1) (number + 1) (session_after (sight_after run.setup first) chosen (Approve key policy_ref approved signature)) rest
           → Tries past session sent done number chosen (Approve key policy_ref approved signature ∷ rest)
       behind step made (inl opens) = inl (act-open run first number chosen (Approve key policy_ref approved signature) rest made.opens opens)
-      behind step made (inr e) = first-turn step (ends-later run first session (2 * length rest + 1) (on_path step.ticketed.moved.past session (sent + 1) (Some step.ticketed.ticket) done)
+      behind step made (inr e) = first-turn step (ends-later run first session (commands_of_moves rest + 1) (on_path step.ticketed.moved.past session (sent + 1) (Some step.ticketed.ticket) done)
           made.moved.past (sent + 1 + 1) None (done + 1) made.moved.is e)
 
       second : (step : Verified run first past session sent done chosen key policy_ref approved signature)
@@ -280,7 +285,7 @@ module _ (run : Run) (is : IsRun run) (begins : IsBegun run) (offsets : HasShort
           let made = authorize-step run is first step.ticketed.moved.past session (sent + 1) done chosen on (has-room run first past session done chosen (Approve key policy_ref approved signature) rest ahead step.ticketed.moved.past on)
           key policy_ref approved signature at bounds known step.object step.shown step.rule step.ticketed.ticket step.ticketed.fits step.ticketed.made none in
           behind step made (goes made.moved.past (next-ahead run first past session done chosen (Approve key policy_ref approved signature) rest ahead made.moved.past made.moved.stands))
-      second step (inr refused) = first-turn step (more run first session 1 (suc (2 * length rest + 1)) (on_path step.ticketed.moved.past session (sent + 1) (Some step.ticketed.ticket) done) (omega arith)
+      second step (inr refused) = first-turn step (more run first session 1 (suc (commands_of_moves rest + 1)) (on_path step.ticketed.moved.past session (sent + 1) (Some step.ticketed.ticket) done) (omega arith)
           (ends-next run first session 0 (on_path step.ticketed.moved.past session (sent + 1) (Some step.ticketed.ticket) done) refused))
 
       verified : Verified run first past session sent done chosen key policy_ref approved signature → Tries past session sent done number chosen (Approve key policy_ref approved signature ∷ rest)
@@ -295,7 +300,7 @@ module _ (run : Run) (is : IsRun run) (begins : IsBegun run) (offsets : HasShort
           ⊎ IsRefused run first session (after_act run (on_path past session sent None done) Turn)
           → Tries past session sent done number chosen (Approve key policy_ref approved signature ∷ rest)
       by (inl none) = verified (verify-step run is first past session sent done chosen ahead.stands key policy_ref approved signature at known none)
-      by (inr refused) = inr (more run first session 1 (2 * length (Approve key policy_ref approved signature ∷ rest) + 1) (on_path past session sent None done) (omega arith) (ends-next run first session 0 (on_path past session sent None done) refused))
+      by (inr refused) = inr (more run first session 1 (commands_of_moves (Approve key policy_ref approved signature ∷ rest) + 1) (on_path past session sent None done) (omega arith) (ends-next run first session 0 (on_path past session sent None done) refused))
 
   pub moves-try : (rest : List Move) (past : List Event) (session : Session) (sent done number : ℕ) (chosen : SessionState) → Ahead run first past session done chosen rest → chosen.start ≡ (sight_after run.setup first).time
       → Tries past session sent done number chosen rest

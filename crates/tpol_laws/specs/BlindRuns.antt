@@ -7,12 +7,13 @@ use Rattle.tpm_engine.specs.Events.{event_of}
 use Rattle.tpm_engine.specs.Legal.{answer_to}
 use Rattle.tpol_digest.specs.Laws.{MoveHasBounds}
 use Rattle.tpol_driver.specs.declared.blind_plan.BlindPlan.{BlindPlan}
-use Rattle.tpol_driver.specs.Blind.{Again, BlindDrive, BlindStanding, Closing, Ends, Over, Sends, Starting, Trying, blind_hears, blind_sends, is_tried, most_of_path, plan_at}
+use Rattle.tpol_driver.specs.Blind.{Again, BlindDrive, BlindStanding, Closing, Ends, Over, Sends, Starting, Trying, blind_hears, blind_sends, is_tried, plan_at}
 use Rattle.tpol_driver.specs.Driving.{Moving}
 use Rattle.tpol_goal.specs.Goals.{IsGoal, IsGoalAmong}
 use Rattle.tpol_goal.specs.Grants.{IsGrants}
 use Rattle.tpol_laws.specs.Acts.{Run}
 use Rattle.tpol_laws.specs.Chances.{IsByChance}
+use Rattle.tpol_laws.specs.PathCommands.{commands_along}
 use Rattle.tpol_name.specs.declared.setup.Setup.{Setup}
 use Rattle.tpol_name.specs.Directories.{directory_of}
 use Rattle.tpol_name.specs.Setups.{IsSetup}
@@ -66,10 +67,10 @@ pub record IsBlindBegun (run : BlindRun) : Type 0 where
   pub fits : IsGoal run.plan.goal
   pub among : IsGoalAmong (map (λ o. o.handle) run.setup.objects) (map (λ i. i.public.index) run.setup.indices) run.plan.goal
 
--- how many commands it has at most until it is served on the path at this position, from 1: the start, two for each
--- move, the goal, and a PolicyRestart between two of the paths that are tried
+-- how many commands it has at most until it is served on the path at this position, from 1: of each path that is tried
+-- up to there those of its moves and its goal, the start of the session, and the PolicyRestart between two of them
 abbrev pub most_to : BlindPlan → ℕ → ℕ
-most_to plan position = sum_by most_of_path (filter (is_tried plan) (take position plan.paths))
+most_to plan position = sum_by commands_along (filter (is_tried plan) (take position plan.paths))
 
 -- the same machine and client with the plan of the path at this place, from 0
 abbrev pub run_along : BlindRun → ℕ → Run

@@ -153,11 +153,12 @@ pub fn session_digest_is_compiled()
 
 /// A blind run as a script begins it (`IsBlindBegun`; the offset of its goal, if it has one, has two bytes) sees
 /// nothing of the machine. Where only its own turns come, it is served all the same exactly where some path is such
-/// that nothing blocks it on the machine as it is at the run's begin, and on the first of these. It takes as many turns
-/// as it has commands until there at most: the start, two for each move, the goal, and a PolicyRestart between two
-/// paths. A blind run that has a path to try is over after as many turns as it has commands at most. There is one
-/// exception: on a path that it tries, the run sends an HMAC which is the one that the machine asks for, though the
-/// blocks of the two keys differ, or the Names that the two are over.
+/// that nothing blocks it on the machine as it is at the run's begin, and on the first of these, with what its goal
+/// gives on that machine. It takes at most as many turns as the paths have commands that it tries until there: those of
+/// the moves, the goal's, and the start or a PolicyRestart before each path. A blind run that has a path to try is over
+/// after as many turns as it has commands at most. There is one exception: on a path that it tries, the run sends an
+/// HMAC which is the one that the machine asks for, though the blocks of the two keys differ, or the Names that the two
+/// are over.
 ///
 /// It stands on two laws of the driver, which its body calls.
 pub fn blind_runs_are_served()
@@ -165,13 +166,13 @@ pub fn blind_runs_are_served()
         → IsBlindBegun run → HasShortOffset run.plan.goal
         → chosen_path run.plan.paths (sight_after run.setup past) run.plan.grants run.plan.goal run.locality ≡ Some position
         → most_to run.plan position ≤ turns
-        → ((bytes : List ℕ) × ((blind_turns run turns (blind_begun past)).standing ≡ blind.Over (blind_ends.Served position bytes)))
+        → ((blind_turns run turns (blind_begun past)).standing ≡ blind.Over (blind_ends.Served position (goal_bytes (world_at run.setup past) run.plan.goal)))
         ⊎ HasBlindChance run turns past }
     ensures only { (run : BlindRun) (past : List EventOf) (turns position : ℕ) (bytes : List ℕ)
         → IsBlindBegun run → HasShortOffset run.plan.goal
         → (blind_turns run turns (blind_begun past)).standing ≡ blind.Over (blind_ends.Served position bytes)
-        → (chosen_path run.plan.paths (sight_after run.setup past) run.plan.grants run.plan.goal run.locality ≡ Some position)
-        ⊎ HasBlindChance run turns past }
+        → ((chosen_path run.plan.paths (sight_after run.setup past) run.plan.grants run.plan.goal run.locality ≡ Some position)
+        × (bytes ≡ goal_bytes (world_at run.setup past) run.plan.goal)) ⊎ HasBlindChance run turns past }
     ensures ends { (run : BlindRun) (past : List EventOf) (turns : ℕ)
         → is_some (first_complete run.plan) ≡ true → most_blind run.plan ≤ turns
         → is_blind_over (blind_turns run turns (blind_begun past)).standing ≡ true }

@@ -1,11 +1,11 @@
 //! What holds of whole runs: laws over the definitions of the machine, of the driver and of digests, which no
 //! single call can say.
 //!
-//! Each law is a function whose clauses are the law. It has no body, or calls the laws of the driver that it stands on.
-//! The definitions that a law names are those of the contracts of calls that the program makes: what the machine answers and what a journal tells
-//! (`answer_to`, `facts_of` of tpm_engine, which `Machine::execute` ensures), what a run sends and hears (`sends`,
-//! `hears` of tpol_driver, which the states ensure), the paths of a policy and digests (tpol_digest). A law's
-//! premises are met by clauses of those who begin a run:
+//! Each law is a function whose clauses are the law. It has no body, or calls the laws of the driver that it stands
+//! on. The definitions that a law names are those of the contracts of calls that the program makes: what the machine
+//! answers and what a journal tells (`answer_to`, `facts_of` of tpm_engine, which `Machine::execute` ensures), what a
+//! run sends and hears (`sends`, `hears` of tpol_driver, which the states ensure), the paths of a policy and digests
+//! (tpol_digest). A law's premises are met by clauses of those who begin a run:
 //!
 //! `a_path_that_can_is_complete`
 //! - `IsSetup`: the clause `setup` of `read_scene`. The directory is that of `directory`, its clause `lines`. The
@@ -52,11 +52,11 @@
 //! - `IsBlindBegun.short`: the clause `within` of `check_paths`, for each path of the policy.
 //! - `HasShortOffset`: the offset of a goal is a `u16`.
 //! - That a path is the first that nothing blocks (`exactly_on`) or that the run is served (`only`): what the law is of.
-//! - That the turns are enough: of the first of these at most two for each move of the paths that it tries, its start,
-//!   its goal and a PolicyRestart between two.
+//! - That the turns are enough: as many as it can need until it is served (`most_to`), or until it is over
+//!   (`most_blind`).
 //! - That some path is complete (`ends`): what `BlindPlan::first` answers, its clause `first`.
 //!
-//! Its exception is no premise but part of the answer, as in the law before.
+//! Its exception is no premise but part of the answer, as in `a_blocked_path_fails`.
 //!
 //! `scenes_are_staged`: none. The definition is that of the report of `policy_main`, its clause `report`.
 //!
