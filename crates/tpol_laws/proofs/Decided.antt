@@ -1,5 +1,5 @@
 -- The journal of a scene is one that a machine makes, each of its commands is decided, and each event is told.
-use Rattle.std.proofs.Common.{◌≡◌, ◌↔◌, List, [], ◌∷◌, ◌++◌, sym, subst}
+use Rattle.std.proofs.Common.{◌≡◌, ℕ, ◌↔◌, List, [], ◌∷◌, ◌++◌, sym, subst, codes}
 use Rattle.tpm_engine.specs.declared.event.Event.{Event}
 use Rattle.tpm_engine.specs.declared.event.Event.TheVariants as events
 use Rattle.tpm_engine.specs.Events.{Answered}
@@ -13,7 +13,11 @@ use Rattle.tpol_perform.specs.Performance.{PerformanceState, start_of}
 use Rattle.tpol_perform.specs.Script.{performed}
 use Rattle.tpol_prepare.specs.declared.scenario.StagedScene.{StagedScene}
 use Rattle.tpol_laws.specs.Journal.{IsDecidedEvent, IsJournal}
-use Rattle.tpol_laws.proofs.Goes.{AreTold, Goes, goes-all, told-at}
+use Rattle.tpol_tree.specs.declared.closed.Closed.{Closed}
+use Rattle.tpol_perform.specs.Begin.{run_begun}
+use Rattle.tpol_digest.specs.Digest.{policy_digest}
+use Rattle.tpol_generate.specs.Generate.{generated_performance, generated_run, generated_scenario, generated_setup}
+use Rattle.tpol_laws.proofs.Goes.{AreTold, Goes, goes-all, goes-begun, goes-then, goes-to-end, told-at}
 
 -- an answered command is decided
 decided-event : (setup : Setup) (past : List Event) (event : Event) → IsAnswered setup past event → IsDecidedEvent setup past event
@@ -45,3 +49,14 @@ started-journal setup p goes =
 pub scene-journal : (staged : StagedScene) → IsJournal staged.setup (performed staged).past (performed staged).lines
 unfolding performed
 scene-journal staged = started-journal staged.setup (performed staged) (goes-all staged.scenario staged.script (start_of staged.setup))
+
+-- that of the run of a policy that is made up
+pub generated-journal : (order : ℕ) (closed : Closed)
+    → IsJournal (generated_setup order (policy_digest closed)) (generated_performance order closed).past (generated_performance order closed).lines
+unfolding generated_performance
+generated-journal order closed =
+    let setup = generated_setup order (policy_digest closed) in
+    let scenario = generated_scenario setup closed in
+    let begun = run_begun scenario (codes "gen") generated_run (start_of setup) in
+    started-journal setup (generated_performance order closed)
+    (goes-then (start_of setup) begun _ (goes-begun scenario (codes "gen") generated_run (start_of setup)) (goes-to-end scenario 1 begun))

@@ -43,6 +43,7 @@ ghost use Rattle.tpol_lines.specs.Runs.{end_line};
 ghost use Rattle.tpol_laws.specs.Acts.{Act, Run, Turn, after_act, after_acts, begun, succeeds, turns_in};
 ghost use Rattle.tpol_laws.specs.BlindRuns.{BlindRun, HasBlindChance, IsBlindBegun, blind_begun, blind_turns, most_to};
 ghost use Rattle.tpol_laws.specs.Chances.{IsByChance};
+ghost use Rattle.tpol_generate.specs.Generate.{generated_performance, generated_setup};
 ghost use Rattle.tpol_laws.specs.Courses.{HasCourse, acts_for, course_at_begin, course_of, run_along};
 ghost use Rattle.tpol_laws.specs.GoalBytes.{goal_bytes};
 ghost use Rattle.tpol_laws.specs.Journal.{IsJournal};
@@ -219,11 +220,13 @@ pub fn runs_are_served_as_told()
     ensures as_printed { (staged : StagedScene) → performed (erased_staged staged) ≡ performed staged }
 {}
 
-/// The journal of a scene that is carried out, whatever the scene is, is one that a machine makes; each command of it
-/// that asks for a policy session is decided as the machine's definitions say, by the events before it alone; and each
-/// event has its line among those of the whole.
+/// The journal of a scene that is carried out, whatever the scene is, and that of the run of a policy that `gen` makes
+/// up, is one that a machine makes; each command of it that asks for a policy session is decided as the machine's
+/// definitions say, by the events before it alone; and each event has its line among those of the whole.
 pub fn journals_are_told()
     ensures scene { (staged : StagedScene) → IsJournal staged.setup (performed staged).past (performed staged).lines }
+    ensures generated { (order : ℕ) (closed : Closed) → IsJournal (generated_setup order (policy_digest closed))
+        (generated_performance order closed).past (generated_performance order closed).lines }
 {}
 
 /// A run of a script that begins on a path is a run as the other laws speak of it (`IsBegun`, `IsRun`), and is where
