@@ -21,7 +21,7 @@ use Rattle.tpol_driver.specs.Plans.{is_complete}
 use Rattle.tpol_goal.specs.Goals.{HasShortOffset}
 use Rattle.tpol_tree.specs.declared.path.Path.{Path}
 use Rattle.tpol_laws.specs.Acts.{Run}
-use Rattle.tpol_laws.specs.BlindRuns.{BlindChanceAt, BlindCourse, BlindRun, HasBlindChance, IsBlindBegun, IsBlindChance, after_blind_turn, blind_begun, blind_turns, most_to, run_along}
+use Rattle.tpol_laws.specs.BlindRuns.{BlindChanceAt, BlindCourse, BlindRun, HasBlindChance, IsBlindBegun, IsBlindChance, after_blind_turn, blind_begun, blind_turns, most_to, run_of_try}
 use Rattle.tpol_laws.specs.GoalBytes.{goal_bytes}
 use Rattle.tpol_laws.specs.PathCommands.{commands_along, commands_of_moves}
 use Rattle.tpol_laws.specs.Runs.{IsBegun}
@@ -129,7 +129,7 @@ module _ (mirrored : Mirrored) (run : BlindRun) (begins : IsBlindBegun run) (off
   comes-by-chance most None chance = inr chance
   comes-by-chance most (Some position) chance = inr chance
 
-  begun-along : (place : ℕ) (path : Path) → slice_get run.plan.paths place ≡ Some path → IsBegun (run_along run place)
+  begun-along : (place : ℕ) (path : Path) → slice_get run.plan.paths place ≡ Some path → IsBegun (run_of_try run place)
   begun-along place path at =
       let same : unwrap_or (slice_get run.plan.paths place) no_path ≡ path = ap (λ (o : Option Path). unwrap_or o no_path) at in
       record {
@@ -161,7 +161,7 @@ module _ (mirrored : Mirrored) (run : BlindRun) (begins : IsBlindBegun run) (off
         same = ap (λ (o : Option Path). unwrap_or o no_path) at
 
         along : Run
-        along = run_along run place
+        along = run_of_try run place
 
         long : commands_of_moves (plan_at run.plan place).path.moves ≡ commands_of_moves path.moves
         long = ap (λ (p : Path). commands_of_moves p.moves) same

@@ -11,7 +11,7 @@ use Rattle.tpol_driver.specs.Commands.{start_command}
 use Rattle.tpol_driver.specs.Driving.{next_command}
 use Rattle.tpol_wire.specs.declared.command.Command.TheVariants as commands
 use Rattle.tpol_laws.specs.Acts.{answer_in}
-use Rattle.tpol_laws.specs.BlindRuns.{BlindRun, blind_begun, blind_turns, run_along}
+use Rattle.tpol_laws.specs.BlindRuns.{BlindRun, blind_begun, blind_turns, run_of_try}
 use Rattle.tpol_laws.proofs.BlindTurns.{over-for-good}
 
 -- the driver's law of it
@@ -32,16 +32,16 @@ module _ (driving_ends : DrivingEnds) (run : BlindRun) (some : is_some (first_co
   ends-from zero past at replies is enough = ap is_blind_over (sym is) ∙ driving_ends run.plan replies some (omega (arith, enough))
   ends-from (suc turns) past (Over end) replies is enough = ap is_blind_over (over-for-good run turns past end)
   ends-from (suc turns) past Starting replies is enough =
-      let reply = (answer_in (run_along run 0) past (start_command run.plan.nonce_seed)).reply in
+      let reply = (answer_in (run_of_try run 0) past (start_command run.plan.nonce_seed)).reply in
       ends-from turns _ (blind_hears run.plan Starting reply) (replies ++ reply ∷ []) (heard-once Starting replies reply is) (one-more turns replies reply enough)
   ends-from (suc turns) past (Trying session sent place ticket done tries) replies is enough =
-      let reply = (answer_in (run_along run 0) past (next_command (plan_at run.plan place) session sent ticket (slice_get (plan_at run.plan place).path.moves done))).reply in
+      let reply = (answer_in (run_of_try run 0) past (next_command (plan_at run.plan place) session sent ticket (slice_get (plan_at run.plan place).path.moves done))).reply in
       ends-from turns _ (blind_hears run.plan (Trying session sent place ticket done tries) reply) (replies ++ reply ∷ []) (heard-once (Trying session sent place ticket done tries) replies reply is) (one-more turns replies reply enough)
   ends-from (suc turns) past (Again session sent place tries) replies is enough =
-      let reply = (answer_in (run_along run 0) past (commands.PolicyRestart session.handle)).reply in
+      let reply = (answer_in (run_of_try run 0) past (commands.PolicyRestart session.handle)).reply in
       ends-from turns _ (blind_hears run.plan (Again session sent place tries) reply) (replies ++ reply ∷ []) (heard-once (Again session sent place tries) replies reply is) (one-more turns replies reply enough)
   ends-from (suc turns) past (Closing session end) replies is enough =
-      let reply = (answer_in (run_along run 0) past (commands.FlushContext session)).reply in
+      let reply = (answer_in (run_of_try run 0) past (commands.FlushContext session)).reply in
       ends-from turns _ (blind_hears run.plan (Closing session end) reply) (replies ++ reply ∷ []) (heard-once (Closing session end) replies reply is) (one-more turns replies reply enough)
 
   pub blind-ends : (first : List Event) (turns : ℕ) → most_blind run.plan ≤ turns → is_blind_over (blind_turns run turns (blind_begun first)).standing ≡ true

@@ -24,7 +24,7 @@ use Rattle.tpol_wire.specs.declared.reply.Reply.{Reply}
 use Rattle.tpol_wire.specs.Commands.{spelling}
 use Rattle.tpol_wire.specs.ReplyReading.{reply_reading}
 use Rattle.tpol_laws.specs.Acts.{Course, event_in}
-use Rattle.tpol_laws.specs.BlindRuns.{BlindCourse, BlindRun, after_blind_turn, blind_begun, blind_turns, run_along}
+use Rattle.tpol_laws.specs.BlindRuns.{BlindCourse, BlindRun, after_blind_turn, blind_begun, blind_turns, run_of_try}
 use Rattle.tpol_laws.proofs.Answered.{on-answer, own-passed, read-back, refusal-read, stop-code}
 use Rattle.tpol_laws.proofs.BlindTurns.{next-after, trying}
 use Rattle.tpol_laws.proofs.Codes.{first-coded, start-coded}
@@ -44,7 +44,7 @@ pub record IsEntered (run : BlindRun) (first : List Event) (used next : ℕ) : T
   pub sent : ℕ
   pub tries : List Tried
   pub is : blind_turns run turns (blind_begun first) ≡ trying past session sent next None 0 tries
-  pub stands : Stands (run_along run next) first past session (fresh_session (sight_after run.setup first))
+  pub stands : Stands (run_of_try run next) first past session (fresh_session (sight_after run.setup first))
 
 -- no path is left: its session ends, and then the run
 pub record IsClosed (run : BlindRun) (first : List Event) : Type 0 where
@@ -59,12 +59,12 @@ Enters run first used (Some next) = IsEntered run first used next
 
 -- ---- another path of the same machine
 
-stands-along : (run : BlindRun) (place next : ℕ) (first past : List Event) (session : Session) → Stands (run_along run place) first past session (fresh_session (sight_after run.setup first))
-    → Stands (run_along run next) first past session (fresh_session (sight_after run.setup first))
+stands-along : (run : BlindRun) (place next : ℕ) (first past : List Event) (session : Session) → Stands (run_of_try run place) first past session (fresh_session (sight_after run.setup first))
+    → Stands (run_of_try run next) first past session (fresh_session (sight_after run.setup first))
 stands-along run place next first past session on =
     record { slot = on.slot; held = on.held; unsaved = on.unsaved; nonce = on.nonce; alike = on.alike; world = on.world }
 
-keeps-along : (run : BlindRun) (place next : ℕ) (first past : List Event) (session : Session) → Keeps (run_along run place) first past session → Keeps (run_along run next) first past session
+keeps-along : (run : BlindRun) (place next : ℕ) (first past : List Event) (session : Session) → Keeps (run_of_try run place) first past session → Keeps (run_of_try run next) first past session
 keeps-along run place next first past session on =
     record { slot = on.slot; held = on.held; unsaved = on.unsaved; nonce = on.nonce; start = on.start; world = on.world }
 
@@ -74,12 +74,12 @@ pub started-enters : (run : BlindRun) (first : List Event) → start_rule (view_
 unfolding blind_turns
 started-enters run first rule = by (tried_from run.plan 0) turned
   where
-    start : Begun (run_along run 0) first
-    start = start-moved (run_along run 0) first rule
+    start : Begun (run_of_try run 0) first
+    start = start-moved (run_of_try run 0) first rule
 
     turned : blind_turns run 1 (blind_begun first) ≡ record { past = start.moved.past; standing = first_try run.plan start.session (tried_from run.plan 0) }
     turned =
-        ap (λ (read : Option (Reply × Option ReplyAuth)). record { past = event_in (run_along run 0) first (start_command run.plan.nonce_seed) ∷ first; standing = blind_start_heard run.plan (answer_of read) }) start.reads
+        ap (λ (read : Option (Reply × Option ReplyAuth)). record { past = event_in (run_of_try run 0) first (start_command run.plan.nonce_seed) ∷ first; standing = blind_start_heard run.plan (answer_of read) }) start.reads
         ∙ ap (λ (c : Course). record { past = c.past; standing = first_try run.plan start.session (tried_from run.plan 0) }) start.moved.is
 
     by : (found : Option ℕ) → blind_turns run 1 (blind_begun first) ≡ record { past = start.moved.past; standing = first_try run.plan start.session found } → Enters run first 0 found
@@ -117,7 +117,7 @@ starts-or-denied run first =
 -- ---- between two tries
 
 -- where a try was refused after so many turns, the next path comes, or the end
-pub refused-enters : (run : BlindRun) (first past : List Event) (session : Session) (place sent : ℕ) (tries : List Tried) → Keeps (run_along run place) first past session
+pub refused-enters : (run : BlindRun) (first past : List Event) (session : Session) (place sent : ℕ) (tries : List Tried) → Keeps (run_of_try run place) first past session
     → (used turns : ℕ) → turns ≤ used → blind_turns run turns (blind_begun first) ≡ record { past = past; standing = next_try session sent tries (tried_from run.plan (place + 1)) }
     → Enters run first used (tried_from run.plan (place + 1))
 refused-enters run first past session place sent tries keeps used turns within is = by (tried_from run.plan (place + 1)) is
@@ -125,17 +125,17 @@ refused-enters run first past session place sent tries keeps used turns within i
     by : (found : Option ℕ) → blind_turns run turns (blind_begun first) ≡ record { past = past; standing = next_try session sent tries found } → Enters run first used found
     by None is = record { turns = turns; session = session.handle; tries = tries; is = ap (λ (c : BlindCourse). c.standing) is }
     by (Some next) is =
-        let it = restarted (run_along run next) first past session (keeps-along run place next first past session keeps) in
+        let it = restarted (run_of_try run next) first past session (keeps-along run place next first past session keeps) in
         record {
           turns = turns + 1;
           within = omega (arith, within);
-          past = event_in (run_along run next) past (commands.PolicyRestart session.handle) ∷ past;
+          past = event_in (run_of_try run next) past (commands.PolicyRestart session.handle) ∷ past;
           session = session;
           sent = sent + 1;
           tries = tries;
           is =
               next-after run turns (blind_begun first)
               ∙ ap (after_blind_turn run) is
-              ∙ ap (λ (read : Option (Reply × Option ReplyAuth)). record { past = event_in (run_along run next) past (commands.PolicyRestart session.handle) ∷ past; standing = restart_heard session sent next tries (answer_of read) }) it.reads;
+              ∙ ap (λ (read : Option (Reply × Option ReplyAuth)). record { past = event_in (run_of_try run next) past (commands.PolicyRestart session.handle) ∷ past; standing = restart_heard session sent next tries (answer_of read) }) it.reads;
           stands = it.stands;
         }

@@ -20,7 +20,7 @@ use Rattle.tpol_driver.proofs.Ending.{left, left_on, path_left}
 use Rattle.tpol_fields.specs.declared.ticket.Ticket.{Ticket}
 use Rattle.tpol_wire.specs.declared.command.Command.{Command}
 use Rattle.tpol_laws.specs.Acts.{Course, Run, Turn, after_act, after_acts, answer_in, event_in}
-use Rattle.tpol_laws.specs.BlindRuns.{BlindCourse, BlindRun, IsBlindChance, after_blind_turn, blind_turns, run_along}
+use Rattle.tpol_laws.specs.BlindRuns.{BlindCourse, BlindRun, IsBlindChance, after_blind_turn, blind_turns, run_of_try}
 use Rattle.tpol_laws.proofs.BlockedTurns.{on_path}
 use Rattle.tpol_laws.proofs.Refused.{EndsBy}
 use Rattle.tpol_laws.proofs.Restarted.{Keeps}
@@ -78,7 +78,7 @@ pub record IsTryRefused (run : BlindRun) (first : List Event) (session : Session
   pub sent : ℕ
   pub tries : List Tried
   pub is : blind_turns run turns course ≡ record { past = past; standing = next_try session sent tries (tried_from run.plan (place + 1)) }
-  pub keeps : Keeps (run_along run place) first past session
+  pub keeps : Keeps (run_of_try run place) first past session
 
 served-later : (run : BlindRun) (most : ℕ) (course : BlindCourse) (position : ℕ) (bytes : List ℕ) → IsBlindServed run most (after_blind_turn run course) position bytes → IsBlindServed run (suc most) course position bytes
 unfolding blind_turns
@@ -107,7 +107,7 @@ try-later run first session most place course (inr chance) =
     inr (record { before = suc chance.before; within = omega (arith, within); is = chance.is })
 
 try-refused : (run : BlindRun) (first : List Event) (session : Session) (most place : ℕ) (course : BlindCourse) (past : List Event) (sent : ℕ) (tries : List Tried)
-    → after_blind_turn run course ≡ record { past = past; standing = next_try session sent tries (tried_from run.plan (place + 1)) } → Keeps (run_along run place) first past session → TryEnds run first session (suc most) place course
+    → after_blind_turn run course ≡ record { past = past; standing = next_try session sent tries (tried_from run.plan (place + 1)) } → Keeps (run_of_try run place) first past session → TryEnds run first session (suc most) place course
 unfolding blind_turns
 try-refused run first session most place course past sent tries is keeps =
     inl (record { turns = 1; within = omega arith; past = past; sent = sent; tries = tries; is = is; keeps = keeps })
@@ -153,28 +153,28 @@ never-starts plan session sent ticket done reply starts =
 
 module _ (mirrored : Mirrored) (run : BlindRun) where
   turn-mirrored : (past : List Event) (session : Session) (sent place : ℕ) (ticket : Option Ticket) (done : ℕ) (tries : List Tried)
-      → after_blind_turn run (trying past session sent place ticket done tries) ≡ along run.plan session sent place tries (after_act (run_along run place) (on_path past session sent ticket done) Turn)
+      → after_blind_turn run (trying past session sent place ticket done tries) ≡ along run.plan session sent place tries (after_act (run_of_try run place) (on_path past session sent ticket done) Turn)
   turn-mirrored past session sent place ticket done tries =
       let command : Command = next_command (plan_at run.plan place) session sent ticket (slice_get (plan_at run.plan place).path.moves done) in
-      ap (λ (s : BlindStanding). record { past = event_in (run_along run place) past command ∷ past; standing = s })
-      (mirrored run.plan session sent place ticket done tries (answer_in (run_along run place) past command).reply)
+      ap (λ (s : BlindStanding). record { past = event_in (run_of_try run place) past command ∷ past; standing = s })
+      (mirrored run.plan session sent place ticket done tries (answer_in (run_of_try run place) past command).reply)
 
   -- a turn on the path of a run that is served in the end
   served-turn : (turns : ℕ) (past : List Event) (session : Session) (sent place : ℕ) (ticket : Option Ticket) (done : ℕ) (tries : List Tried) (bytes : List ℕ)
-      → ((later : List Event) (own : Session) (number : ℕ) (next : Option Ticket) (more : ℕ) → (after_acts (run_along run place) (replicate turns Turn) (on_path later own number next more)).standing ≡ Over (ends.Served bytes)
+      → ((later : List Event) (own : Session) (number : ℕ) (next : Option Ticket) (more : ℕ) → (after_acts (run_of_try run place) (replicate turns Turn) (on_path later own number next more)).standing ≡ Over (ends.Served bytes)
       → IsBlindServed run turns (trying later own number place next more tries) (place + 1) bytes)
-      → (after_acts (run_along run place) (replicate turns Turn) (after_act (run_along run place) (on_path past session sent ticket done) Turn)).standing ≡ Over (ends.Served bytes)
+      → (after_acts (run_of_try run place) (replicate turns Turn) (after_act (run_of_try run place) (on_path past session sent ticket done) Turn)).standing ≡ Over (ends.Served bytes)
       → IsBlindServed run (suc turns) (trying past session sent place ticket done tries) (place + 1) bytes
   served-turn turns past session sent place ticket done tries bytes goes served = by after.standing refl
     where
       after : Course
-      after = after_act (run_along run place) (on_path past session sent ticket done) Turn
+      after = after_act (run_of_try run place) (on_path past session sent ticket done) Turn
 
       at : (standing : Standing) → after.standing ≡ standing → after_blind_turn run (trying past session sent place ticket done tries) ≡ record { past = after.past; standing = on_try run.plan session sent place tries standing }
       at now is = turn-mirrored past session sent place ticket done tries ∙ ap (λ (s : Standing). record { past = after.past; standing = on_try run.plan session sent place tries s }) is
 
-      then : (standing : Standing) → after.standing ≡ standing → (after_acts (run_along run place) (replicate turns Turn) (record { past = after.past; standing = standing })).standing ≡ Over (ends.Served bytes)
-      then now is = ap (λ (s : Standing). (after_acts (run_along run place) (replicate turns Turn) (record { past = after.past; standing = s })).standing) (sym is) ∙ served
+      then : (standing : Standing) → after.standing ≡ standing → (after_acts (run_of_try run place) (replicate turns Turn) (record { past = after.past; standing = standing })).standing ≡ Over (ends.Served bytes)
+      then now is = ap (λ (s : Standing). (after_acts (run_of_try run place) (replicate turns Turn) (record { past = after.past; standing = s })).standing) (sym is) ∙ served
 
       ended : (end : End) → (after_blind_turn run (trying past session sent place ticket done tries)).standing ≡ tried run.plan session (sent + 1) place tries end → end ≡ ends.Served bytes
           → IsBlindServed run (suc turns) (trying past session sent place ticket done tries) (place + 1) bytes
@@ -183,18 +183,18 @@ module _ (mirrored : Mirrored) (run : BlindRun) where
       by : (standing : Standing) → after.standing ≡ standing → IsBlindServed run (suc turns) (trying past session sent place ticket done tries) (place + 1) bytes
       by Starting is =
           let command : Command = next_command (plan_at run.plan place) session sent ticket (slice_get (plan_at run.plan place).path.moves done) in
-          absurd (never-starts (plan_at run.plan place) session sent ticket done (answer_in (run_along run place) past command).reply is)
+          absurd (never-starts (plan_at run.plan place) session sent ticket done (answer_in (run_of_try run place) past command).reply is)
       by (Moving own number next more) is =
           served-later run turns (trying past session sent place ticket done tries) (place + 1) bytes
           (subst (λ (c : BlindCourse). IsBlindServed run turns c (place + 1) bytes) (sym (at (Moving own number next more) is)) (goes after.past own number next more (then (Moving own number next more) is)))
       by (Closing handle end) is =
-          ended end (ap (λ (c : BlindCourse). c.standing) (at (Closing handle end) is)) (closed-served (run_along run place) turns after.past handle end bytes (then (Closing handle end) is))
+          ended end (ap (λ (c : BlindCourse). c.standing) (at (Closing handle end) is)) (closed-served (run_of_try run place) turns after.past handle end bytes (then (Closing handle end) is))
       by (Over end) is =
-          ended end (ap (λ (c : BlindCourse). c.standing) (at (Over end) is)) (over-served (run_along run place) turns after.past end bytes (then (Over end) is))
+          ended end (ap (λ (c : BlindCourse). c.standing) (at (Over end) is)) (over-served (run_of_try run place) turns after.past end bytes (then (Over end) is))
 
   -- where a run on the path alone is served, so is the blind run
   pub try-served : (turns : ℕ) (past : List Event) (session : Session) (sent place : ℕ) (ticket : Option Ticket) (done : ℕ) (tries : List Tried) (bytes : List ℕ)
-      → (after_acts (run_along run place) (replicate turns Turn) (on_path past session sent ticket done)).standing ≡ Over (ends.Served bytes)
+      → (after_acts (run_of_try run place) (replicate turns Turn) (on_path past session sent ticket done)).standing ≡ Over (ends.Served bytes)
       → IsBlindServed run turns (trying past session sent place ticket done tries) (place + 1) bytes
   unfolding after_acts
   try-served zero past session sent place ticket done tries bytes served = absurd (false≢true (ap is_over served))
@@ -204,7 +204,7 @@ module _ (mirrored : Mirrored) (run : BlindRun) where
 
   -- where it is refused, or an HMAC of it is right by chance, so is the blind run's try, and the next path comes
   pub try-ends : (most : ℕ) (first past : List Event) (session : Session) (sent place : ℕ) (ticket : Option Ticket) (done : ℕ) (tries : List Tried)
-      → EndsBy (run_along run place) first session most (on_path past session sent ticket done)
+      → EndsBy (run_of_try run place) first session most (on_path past session sent ticket done)
       → TryEnds run first session most place (trying past session sent place ticket done tries)
   try-ends zero first past session sent place ticket done tries ends = absurd ends
   try-ends (suc most) first past session sent place ticket done tries (inl chance) = inr (chance-here run most (trying past session sent place ticket done tries) chance)

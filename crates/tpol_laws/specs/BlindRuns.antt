@@ -73,14 +73,14 @@ abbrev pub most_to : BlindPlan → ℕ → ℕ
 most_to plan position = sum_by commands_along (filter (is_tried plan) (take position plan.paths))
 
 -- the same machine and client with the plan of the path at this place, from 0
-abbrev pub run_along : BlindRun → ℕ → Run
-run_along run place =
+abbrev pub run_of_try : BlindRun → ℕ → Run
+run_of_try run place =
     record { setup = run.setup; client = run.client; locality = run.locality; plan = plan_at run.plan place }
 
 abbrev pub BlindChanceAt : BlindRun → List Event → BlindStanding → Type 0
 BlindChanceAt run past Starting = ⊥
 BlindChanceAt run past (Trying session sent place ticket done tries) =
-    IsByChance (run_along run place) (record { past = past; standing = Moving session sent ticket done })
+    IsByChance (run_of_try run place) (record { past = past; standing = Moving session sent ticket done })
 BlindChanceAt run past (Again session sent place tries) = ⊥
 BlindChanceAt run past (Closing session end) = ⊥
 BlindChanceAt run past (Over end) = ⊥
