@@ -1,0 +1,4 @@
+pub mod Filled
+pub mod Kept
+pub mod NoRequest
+pub mod ReadFirst

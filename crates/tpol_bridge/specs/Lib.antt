@@ -1,0 +1,9 @@
+pub mod Adopt
+pub mod Commands
+pub mod Digests
+pub mod Exports
+pub mod Laws
+pub mod Lines
+pub mod Reached
+pub mod Report
+pub mod Words

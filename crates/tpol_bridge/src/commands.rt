@@ -1,0 +1,41 @@
+//! The program's commands.
+
+use crate::adopt::adopt;
+use crate::digests::digests;
+use crate::request::{Request, request_of_words};
+use std::alloc::Global;
+use tpol_base::{NoMemory, Shelf};
+use tpol_front::Command;
+use tpol_steps::{Answer, Halt};
+
+impl Command for Request {
+    ghost use Rattle.std.specs.Prelude.{⊤};
+    ghost use Rattle.tpol_bridge.specs.Commands.{bridge_commands};
+    ghost use Rattle.tpol_bridge.specs.Reached.{IsExportFor};
+
+    ghost commands = { bridge_commands };
+
+    ghost IsDocument = { IsExportFor };
+
+    ghost IsTrueOf = { λ command input all answer. ⊤ };
+
+    fn from_words(alloc: Global, words: &Vec<String>) -> Result<Option<Request>, NoMemory> {
+        request_of_words(alloc, words)
+    }
+
+    fn reads_source(&self) -> bool {
+        true
+    }
+
+    fn carry_out<H: Shelf>(
+        &self,
+        alloc: Global,
+        input: &[u8],
+        shelf: &mut H,
+    ) -> Result<Answer, Halt> {
+        match self {
+            Request::Adopt => adopt(alloc, input),
+            Request::Digests { scene } => digests(alloc, scene, input, shelf),
+        }
+    }
+}

@@ -1,0 +1,68 @@
+ghost use Rattle.std.specs.Prelude.{◌≡◌, map, IfOk};
+ghost use Rattle.std.specs.String.{string_bytes};
+ghost use Rattle.tpol_bridge.specs.Words.{digests_request, one_word_request, request_of, scene_stem, three_word_request};
+
+use std::alloc::Global;
+use tpol_base::{NoMemory, Text, is_policy_name, without_folder};
+
+/// What the words ask for.
+#[derive(Drop)]
+pub enum Request {
+    /// `adopt`: the canonical text of the policy that the export in the source says.
+    Adopt,
+    /// `digests`, `digests --scene NAME`: the digest after each of its elements, filled with a scene of the shelf.
+    Digests { scene: Option<Text> },
+}
+
+/// The command that the words are, or `None` where they are none. It fails only where memory ran out.
+pub fn request_of_words(alloc: Global, words: &Vec<String>) -> Result<Option<Request>, NoMemory>
+    ensures { IfOk result (λ request. request ≡ request_of (map string_bytes words.now.items)) }
+{
+    match words.as_slice() {
+        [word] => Ok(one_word_request(word.as_str())),
+        [word, option, name] => {
+            three_word_request(alloc, word.as_str(), option.as_str(), name.as_str())
+        }
+        [] => Ok(None),
+        [_, _] => Ok(None),
+        [_, _, _, _, ..] => Ok(None),
+    }
+}
+
+fn one_word_request(word: &str) -> Option<Request>
+    ensures { result ≡ one_word_request word.now }
+{
+    if word == "adopt" {
+        return Some(Request::Adopt);
+    }
+    if word == "digests" {
+        return Some(Request::Digests { scene: None });
+    }
+    None
+}
+
+fn three_word_request(
+    alloc: Global,
+    word: &str,
+    option: &str,
+    name: &str,
+) -> Result<Option<Request>, NoMemory>
+    ensures { IfOk result (λ request. request ≡ three_word_request word.now option.now name.now) }
+{
+    if word == "digests" && option == "--scene" {
+        return digests_request(alloc, name);
+    }
+    Ok(None)
+}
+
+// The command `digests` with a scene.
+fn digests_request(alloc: Global, name: &str) -> Result<Option<Request>, NoMemory>
+    ensures { IfOk result (λ request. request ≡ digests_request (scene_stem name.now)) }
+{
+    let stem = without_folder(name);
+    if is_policy_name(stem) {
+        let scene = Some(Text::from_str(alloc, stem)?);
+        return Ok(Some(Request::Digests { scene }));
+    }
+    Ok(None)
+}

@@ -1,0 +1,4 @@
+pub mod Branches
+pub mod LastMark
+pub mod MarksErased
+pub mod Walked
