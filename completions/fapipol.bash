@@ -1,11 +1,11 @@
-# Completion of bash for fapipol; its words are those that `fapipol --words` lists.
+# Completion of bash for fapipol and fapibridge; their words are those that `--words` lists.
 # shellcheck shell=bash
 
 _fapipol() {
     local word=${COMP_WORDS[COMP_CWORD]} all=''
     case $COMP_CWORD:${COMP_WORDS[COMP_CWORD - 1]} in
         1:*) all=$("$1" --words 2>/dev/null | sed 's/ .*//' | uniq) ;;
-        2:compile | 2:paths | 2:lint) all=--scene ;;
+        2:compile | 2:paths | 2:lint | 2:digests) all=--scene ;;
         2:explain) all=--cert ;;
         2:import | 2:check) all=$(_fapipol_names json) ;;
         3:--scene | 4:--scene) all=$(_fapipol_names scene) ;;
@@ -23,4 +23,4 @@ _fapipol_names() {
     done
 }
 
-complete -F _fapipol fapipol ./fapipol
+complete -F _fapipol fapipol ./fapipol fapibridge ./fapibridge

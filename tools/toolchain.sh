@@ -1,4 +1,4 @@
-# shellcheck shell=bash disable=SC2154,SC2034 # (name, root, program, room, child and half_made are the launcher's)
+# shellcheck shell=bash disable=SC2154,SC2034 # (name, example, root, program, room, child and half_made are the launcher's)
 # What the launcher does with the toolchain: it proves and builds the program, or tries its source unproved.
 
 # The crates that the program stands on, lowest first, and then its own.
@@ -74,7 +74,7 @@ build() {
         if [ "$crate" = "$name" ]; then
             # (it proves, links and runs the program, which ends with 6 on an empty document)
             half_made=$program
-            rt_in "$crate" run "$crate" -- compile </dev/null >"$room/log" 2>&1 &
+            rt_in "$crate" run "$crate" -- "${example%% *}" </dev/null >"$room/log" 2>&1 &
         elif [ -z "$is_changed" ] && is_newer "$root/crates/$crate/out/rlib/stamp" "$crate"; then
             continue
         else
