@@ -1,6 +1,6 @@
 -- What a policy is that was filled.
-use Rattle.std.proofs.Common.{◌≡◌, List, [], ◌∷◌, Result, Ok, Err, Some, None, ap, sym, ◌∙◌}
-use Rattle.std.specs.Prelude.{Option, ℕ}
+use Rattle.std.proofs.Common.{◌≡◌, List, [], ◌∷◌, Result, Ok, Err, None, ap, sym, ◌∙◌}
+use Rattle.std.specs.Prelude.{Option}
 use Rattle.tpol_fill.proofs.FilledErased.{filled_ignores_boxes}
 use Rattle.tpol_fill.specs.Filling.{fill_faults, filled}
 use Rattle.tpol_fill.specs.Outcome.{Fault}

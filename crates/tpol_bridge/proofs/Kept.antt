@@ -1,5 +1,5 @@
 -- A document of the profile says the same policy as an export.
-use Rattle.std.proofs.Common.{◌≡◌, ℕ, List, [], ◌∷◌, Some, None, Result, Ok, Err, refl, ap, ◌∙◌}
+use Rattle.std.proofs.Common.{◌≡◌, List, [], ◌∷◌, Some, None, Ok, Err, refl, ap}
 use Rattle.std.specs.Prelude.{Option}
 use Rattle.serde_json.specs.Data.{Data}
 use Rattle.tpol_adopt.proofs.Conservative.{conservative}
