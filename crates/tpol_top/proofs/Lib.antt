@@ -5,3 +5,4 @@ pub mod Imported
 pub mod NoRequest
 pub mod PathAnswers
 pub mod ReadFirst
+pub mod SceneTold

@@ -3,9 +3,10 @@ ghost use Rattle.std.specs.String.{string_bytes};
 ghost use Rattle.tpol_base.specs.Causes.{Rose, Grows, GrowsInPart};
 ghost use Rattle.tpol_front.specs.Outside.{LosesAtMost};
 ghost use Rattle.tpol_front.specs.Report.{OfHeld, most_read};
+ghost use Rattle.tpol_laws.specs.Printed.{IsToldScene};
 ghost use Rattle.tpol_perform.specs.Explained.{IsExplainedScene};
 ghost use Rattle.tpol_steps.specs.Answer.{text_of};
-ghost use Rattle.tpol_top.specs.Explain.{IfExplain};
+ghost use Rattle.tpol_top.specs.Explain.{IfDone, IfExplain, IfPerform};
 ghost use Rattle.tpol_top.specs.Reached.{IsReadableOf};
 ghost use Rattle.tpol_top.specs.Report.{OfReport, report_of};
 ghost use Rattle.tpol_front.specs.Status.{IsWhole, IsWholeUnlessNoMemory, IsSilent, IsPastReading, status_of};
@@ -97,6 +98,15 @@ pub fn policy_main<S: Source, K: Sink, H: Shelf>(
     ensures explained { result ≡ Status.Done → IfExplain (request_of (map string_bytes words.now.items)) (λ manner.
         OfHeld (S.left source.old) (H.documents shelf.old) (λ input all.
         IsExplainedScene manner input all (report_of (map string_bytes words.now.items) input all).answer.lines)) }
+
+    // The report of a scene that `run` or `explain` carries out tells it, also where the sink failed and a first part of
+    // the report was written. Every command of its journal that asks for a policy session was authorized exactly where
+    // the clause above says, and served exactly where it says. A run begins on the first path that nothing blocks, and
+    // where only its own turns follow, one for each command of the path, it is served exactly where it begins on one,
+    // with what its goal gives; else it is printed what blocks each path.
+    ensures scene_told { IfPerform (request_of (map string_bytes words.now.items)) (λ manner.
+        OfHeld (S.left source.old) (H.documents shelf.old) (λ input all.
+        IfDone (report_of (map string_bytes words.now.items) input all).answer (IsToldScene manner input all))) }
 {
     run_program::<Request, S, K, H>(alloc, words, source, out, shelf)
 }
