@@ -46,7 +46,7 @@ lying-groups : (branches : List NamedBranch) → AllBranches LieNowhere branches
 lying-groups branches each = lying-branches (grouped branches) (each_grouped LieNowhere lying-or branches each)
 
 mutual
-  filled-elements-lie : (sight : Option Sight) (elements : Elements) → LieNowhere (filled_elements sight elements)
+  pub filled-elements-lie : (sight : Option Sight) (elements : Elements) → LieNowhere (filled_elements sight elements)
   filled-elements-lie sight End = refl
   filled-elements-lie sight (More' p element q rest) =
       ap (λ (first : ClosedElement). MoreClosed' nowhere first nowhere (erased_elements (filled_elements sight rest))) (filled-element-lies sight element)

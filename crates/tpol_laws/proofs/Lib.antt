@@ -26,6 +26,7 @@ mod FilledForms
 mod Finds
 mod Fit
 mod Followed
+mod Generated
 mod Goal
 mod GoalAt
 mod GoalChecks

@@ -1,6 +1,6 @@
 //! What the definitions promise together: functions whose clauses are the laws.
 
-ghost use Rattle.std.specs.Prelude.{◌≡◌, ◌≢◌, ◌≤◌, ◌<◌, ◌↔◌, ◌+◌, ◌*◌, ◌++◌, ◌∷◌, ◌⊎◌, ℕ, List, Ok, Option, None, Some, find, is_some, length, map, option_map, replicate, slice_get, take, true};
+ghost use Rattle.std.specs.Prelude.{◌≡◌, ◌≢◌, ◌≤◌, ◌<◌, ◌↔◌, ◌+◌, ◌*◌, ◌^◌, ◌++◌, [], ◌∷◌, ◌⊎◌, ℕ, List, Ok, Option, None, Some, find, is_some, length, map, option_map, replicate, slice_get, take, true};
 ghost use Rattle.std.specs.List.{Contains};
 ghost use Rattle.tpol_choose.specs.declared.block.Block.{Block};
 ghost use Rattle.tpol_choose.specs.Blocks.{chosen_path, first_block};
@@ -43,7 +43,8 @@ ghost use Rattle.tpol_lines.specs.Runs.{end_line};
 ghost use Rattle.tpol_laws.specs.Acts.{Act, Run, Turn, after_act, after_acts, begun, succeeds, turns_in};
 ghost use Rattle.tpol_laws.specs.BlindRuns.{BlindRun, HasBlindChance, IsBlindBegun, blind_begun, blind_turns, most_to};
 ghost use Rattle.tpol_laws.specs.Chances.{IsByChance};
-ghost use Rattle.tpol_generate.specs.Generate.{generated_performance, generated_setup};
+ghost use Rattle.tpol_fill.specs.Filling.{filled};
+ghost use Rattle.tpol_generate.specs.Generate.{generate_step, generated_answer, generated_performance, generated_policy, generated_setup};
 ghost use Rattle.tpol_laws.specs.Courses.{HasCourse, acts_for, course_at_begin, course_of, run_along};
 ghost use Rattle.tpol_laws.specs.GoalBytes.{goal_bytes};
 ghost use Rattle.tpol_laws.specs.Journal.{IsJournal};
@@ -227,6 +228,15 @@ pub fn journals_are_told()
     ensures scene { (staged : StagedScene) → IsJournal staged.setup (performed staged).past (performed staged).lines }
     ensures generated { (order : ℕ) (closed : Closed) → IsJournal (generated_setup order (policy_digest closed))
         (generated_performance order closed).past (generated_performance order closed).lines }
+{}
+
+/// No step of the command `gen` refuses the policy that it makes up, which has two paths for each of its ORs; so the
+/// command prints that many (`generated_answer`). The number of ORs is what `gen` takes, at most 12.
+pub fn gen_has_all_ways()
+    ensures answered { (ors order : ℕ) → ors ≤ 12
+        → generate_step ors order ≡ Ok (generated_answer ors order (filled (generated_policy ors order) None)) }
+    ensures ways { (ors order : ℕ) → ors ≤ 12
+        → length (paths_of (filled (generated_policy ors order) None) []) ≡ 2 ^ ors }
 {}
 
 /// A run of a script that begins on a path is a run as the other laws speak of it (`IsBegun`, `IsRun`), and is where

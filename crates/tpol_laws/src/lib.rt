@@ -74,6 +74,9 @@
 //! - `IsBegun`, `HasShortOffset`, that the plan is complete: as for `a_blocked_path_fails`; of a run that a script begins
 //!   on a path by `runs_of_scripts_have_courses`.
 //!
+//! `gen_has_all_ways`
+//! - `ors ≤ 12`: the words of `gen` name no more (`generation` of tpol_top/Words).
+//!
 //! `journals_are_told`, `refusals_end_runs`, `success_replies_have_code_zero`: none.
 //!
 //! That the commands of the run succeed is no premise of `session_digest_is_compiled`: a run stands on its path as
@@ -84,7 +87,7 @@ mod laws;
 
 pub use laws::{
     a_blocked_path_fails, a_path_that_can_is_complete, a_path_that_can_is_served, a_run_ends,
-    a_run_goes_on, blind_runs_are_served, journals_are_told, refusals_end_runs,
+    a_run_goes_on, blind_runs_are_served, gen_has_all_ways, journals_are_told, refusals_end_runs,
     runs_are_served_as_told, runs_of_scripts_have_courses, runs_send_commands, scenes_are_staged,
     session_digest_is_compiled, success_replies_have_code_zero,
 };
