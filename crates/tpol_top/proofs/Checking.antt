@@ -1,5 +1,5 @@
 -- What is told of a certificate, whichever memory the policy lies in, and of a path that is certified.
-use Rattle.std.proofs.Common.{◌≡◌, ◌∙◌, ℕ, ◌-◌, ◌≤◌, List, map, length, slice_get, ap, refl, sym, inl, inr, arith, Option, Some, None, Result, Ok, Err}
+use Rattle.std.proofs.Common.{◌≡◌, ◌∙◌, ℕ, ◌-◌, ◌≤◌, List, map, length, ap, refl, sym, inl, inr, arith, Option, Some, None, Result, Ok, Err}
 use Rattle.std.proofs.lemmas.Option.{slice_get_within}
 use Rattle.tpol_cert.proofs.ChoicesErased.{judgement_erased}
 use Rattle.tpol_cert.specs.Certificates.{Certifies}

@@ -1,5 +1,5 @@
 -- What is answered of a scene that is carried out tells it.
-use Rattle.std.proofs.Common.{◌≡◌, ℕ, true, false, if◌then◌else◌, nat_le, codes, length, List, Option, Some, None, Ok, ap}
+use Rattle.std.proofs.Common.{ℕ, true, false, if◌then◌else◌, nat_le, codes, length, List, Option, Some, None, Ok, ap}
 use Rattle.tpol_base.specs.declared.document.Document.{Document}
 use Rattle.tpol_front.specs.Report.{OfHeld, leaves, most_read, report_of_choice, report_of_command}
 use Rattle.tpol_laws.proofs.Printed.{scene-told}
