@@ -16,6 +16,7 @@ use Rattle.tpol_steps.specs.declared.answer.Answer.{Answer}
 use Rattle.tpol_steps.specs.declared.answer.Verdict.TheVariants.{Done}
 use Rattle.tpol_perform.specs.declared.new_run.NewRun.{NewRun}
 use Rattle.tpol_prepare.specs.declared.manner.Manner.TheVariants.{Run}
+use Rattle.tpol_prepare.specs.declared.manner.Way.TheVariants.{Sighted}
 use Rattle.tpol_prepare.specs.declared.scenario.Scenario.{Scenario}
 use Rattle.tpol_steps.specs.Filled.{filled_step}
 use Rattle.tpol_generate.specs.FirstRun.{performed_run}
@@ -110,7 +111,7 @@ generated_setup order digest = record {
 
 unfoldable pub generated_scenario : Setup → Closed → Scenario
 generated_scenario setup closed = record {
-  manner = Run;
+  manner = Run Sighted;
   seed = setup.seed;
   directory = directory_of setup;
   entities = [];

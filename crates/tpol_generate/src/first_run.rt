@@ -25,7 +25,7 @@ pub fn perform_run(
     requires scenario { IsScenarioOf setup scenario.now }
     requires locality { run.locality ≤ 4 }
     ensures told { IfOk result (λ performance. performance ≡ performed_run scenario.now policy.now run (start_of setup)) }
-    ensures few { IfOk result (λ performance. length performance.past ≤ 2000) }
+    ensures few { IfOk result (λ performance. length performance.past ≤ 65700) }
 {
     let mut performance = match Performance::new(alloc, setup) {
         Ok(performance) => performance,
@@ -55,7 +55,7 @@ fn run_first(
     requires locality { run.locality ≤ 4 }
     requires first { length performance.old.past ≡ 0 }
     ensures told { OnOk result (performance.new ≡ performed_run scenario.now policy.now run performance.old) }
-    ensures few { OnOk result (length performance.new.past ≤ 2000) }
+    ensures few { OnOk result (length performance.new.past ≤ 65700) }
 {
     performance.begin(alloc, scenario, policy, run)?;
     performance.turn_to_end(alloc, scenario, 1)

@@ -25,7 +25,7 @@ use tpol_digest::{count_paths, digest_of};
 use tpol_lines::{Lines, command_count_line, generated_line, path_count_line, push_line};
 use tpol_name::{Setup, directory};
 use tpol_perform::Performance;
-use tpol_prepare::{Manner, Scenario};
+use tpol_prepare::{Manner, Scenario, Way};
 use tpol_steps::{Answer, FilledDocument, Halt, Verdict, check_limits, digest_line, fill_document};
 use tpol_tree::{Approvals, Closed};
 
@@ -162,7 +162,7 @@ fn generated_performance(alloc: Global, order: u32, closed: Closed) -> Result<Pe
     requires form { IsFilledPolicy closed }
     requires within { AreWithinLimits (paths_of closed []) }
     ensures told { IfOk result (λ performance. performance ≡ generated_performance order closed) }
-    ensures few { IfOk result (λ performance. length performance.past ≤ 2000) }
+    ensures few { IfOk result (λ performance. length performance.past ≤ 65700) }
 {
     match generated_setup(alloc, order, &digest_of(&closed)) {
         Ok(setup) => performance_from(alloc, setup, closed),
@@ -179,7 +179,7 @@ fn performance_from(alloc: Global, setup: Setup, closed: Closed) -> Result<Perfo
     requires form { IsFilledPolicy closed }
     requires within { AreWithinLimits (paths_of closed []) }
     ensures told { IfOk result (λ performance. performance ≡ performed_run (generated_scenario setup closed) (codes "gen") generated_run (start_of setup)) }
-    ensures few { IfOk result (λ performance. length performance.past ≤ 2000) }
+    ensures few { IfOk result (λ performance. length performance.past ≤ 65700) }
 {
     match generated_scenario(alloc, &setup, closed) {
         Ok(scenario) => {
@@ -199,7 +199,7 @@ fn perform_on(alloc: Global, setup: Setup, scenario: &Scenario) -> Result<Perfor
     requires setup { IsSetup setup }
     requires scenario { IsScenarioOf setup scenario.now }
     ensures told { IfOk result (λ performance. performance ≡ performed_run scenario.now (codes "gen") generated_run (start_of setup)) }
-    ensures few { IfOk result (λ performance. length performance.past ≤ 2000) }
+    ensures few { IfOk result (λ performance. length performance.past ≤ 65700) }
 {
     match generated_run(alloc) {
         Ok(run) => perform_run(alloc, setup, scenario, "gen", run),
@@ -219,7 +219,7 @@ fn generated_scenario(alloc: Global, setup: &Setup, closed: Closed) -> Result<Sc
         Ok(directory) => {
             let begun = generated_documents(alloc, closed)?;
             Ok(Scenario {
-                manner: Manner::Run,
+                manner: Manner::Run(Way::Sighted),
                 seed: setup.seed,
                 directory,
                 entities: Sequence::new(alloc),

@@ -1,5 +1,5 @@
 -- Where the run of a script begins: the events before it are of others, and it begins on the chosen path or on none.
-use Rattle.std.proofs.Common.{◌≡◌, ◌⊎◌, ◌≤◌, ◌<◌, inl, inr, ℕ, suc, ◌+◌, ◌-◌, ◌^◌, Bool, true, false, if◌then◌else◌, List, [], ◌∷◌, ◌++◌, All, Option, Some, None, length, map, nat_eq, slice_get, refl, ap, sym, subst, ◌∙◌, arith, append_assoc, append-nil}
+use Rattle.std.proofs.Common.{◌≡◌, ◌≢◌, ◌⊎◌, ◌≤◌, ◌<◌, inl, inr, ℕ, suc, ◌+◌, ◌-◌, ◌^◌, Bool, true, false, if◌then◌else◌, List, [], ◌∷◌, ◌++◌, All, Option, Some, None, length, map, nat_eq, slice_get, refl, ap, sym, subst, ◌∙◌, arith, append_assoc, append-nil}
 use Rattle.std.specs.List.{AllByRecursion, IsDistinct}
 use Rattle.std.specs.Prelude.{Contains, find, is_none}
 use Rattle.std.specs.Option.{option_map, unwrap_or}
@@ -20,11 +20,15 @@ use Rattle.tpol_lines.specs.BlockLine.{block_line}
 use Rattle.tpol_lines.specs.Lines.{line_of}
 use Rattle.tpol_lines.specs.Runs.{chosen_line, nobranch_line}
 use Rattle.tpol_name.specs.declared.sight.Sight.{Sight}
-use Rattle.tpol_perform.specs.Begin.{begun_along, begun_at, begun_nowhere, begun_on, plan_along, run_begun, with_block, with_blocks, with_new_run}
+use Rattle.tpol_perform.specs.Begin.{begun_along, begun_at, begun_by, begun_in_sight, begun_nowhere, begun_on, plan_along, run_begun, with_block, with_blocks}
+use Rattle.tpol_perform.specs.NewRuns.{with_new_run}
 use Rattle.tpol_perform.specs.Performance.{PerformanceState, start_of, with_line}
 use Rattle.tpol_steps.specs.declared.filled.FilledDocument.{FilledDocument}
 use Rattle.tpol_prepare.specs.declared.scenario.Scenario.{Scenario}
 use Rattle.tpol_prepare.specs.declared.scenario.StagedScene.{StagedScene}
+use Rattle.tpol_prepare.specs.declared.manner.Way.{Way}
+use Rattle.tpol_prepare.specs.declared.manner.Way.TheVariants as ways
+use Rattle.tpol_prepare.specs.Manner.{way_of}
 use Rattle.tpol_prepare.specs.Scenario.{IsWalkable, grants_of, is_client, is_document, no_grants, paths_in, paths_named}
 use Rattle.tpol_prepare.specs.Staged.{IsStaged}
 use Rattle.tpol_runs.specs.Courses.{begun as begun_underway}
@@ -250,9 +254,20 @@ module _ (staged : StagedScene) (run : RunOf staged.script) (is : IsStaged stage
         among = stands-in.begins.among;
       }
 
-  pub begun-is : (chosen : Option ℕ) → chosen_for staged run ≡ chosen → behind_begin staged run ≡ begun_at staged.scenario (sight_at_begin staged run) (paths_for staged run) (begins staged run) chosen (before_begin staged run)
-  unfolding run_begun begun_on
-  begun-is chosen e = ap (λ o. begun_at staged.scenario (sight_at_begin staged run) (paths_for staged run) (begins staged run) o (before_begin staged run)) e
+  sighted-is : way_of staged.scenario.manner ≢ ways.Blind → behind_begin staged run ≡ begun_in_sight staged.scenario run.policy (begins staged run) (before_begin staged run)
+  unfolding run_begun
+  sighted-is sees = by (way_of staged.scenario.manner) sees
+    where
+      by : (way : Way) → way ≢ ways.Blind → begun_by way staged.scenario run.policy (begins staged run) (before_begin staged run) ≡ begun_in_sight staged.scenario run.policy (begins staged run) (before_begin staged run)
+      by ways.Sighted not_blind = refl
+      by ways.Blind not_blind = absurd (not_blind refl)
+
+  seen-is : begun_in_sight staged.scenario run.policy (begins staged run) (before_begin staged run) ≡ begun_at staged.scenario (sight_at_begin staged run) (paths_for staged run) (begins staged run) (chosen_for staged run) (before_begin staged run)
+  unfolding begun_in_sight begun_on
+  seen-is = refl
+
+  pub begun-is : way_of staged.scenario.manner ≢ ways.Blind → (chosen : Option ℕ) → chosen_for staged run ≡ chosen → behind_begin staged run ≡ begun_at staged.scenario (sight_at_begin staged run) (paths_for staged run) (begins staged run) chosen (before_begin staged run)
+  begun-is sees chosen e = sighted-is sees ∙ seen-is ∙ ap (λ o. begun_at staged.scenario (sight_at_begin staged run) (paths_for staged run) (begins staged run) o (before_begin staged run)) e
 
   -- on a path
   abbrev pub along-state : ℕ → Path → PerformanceState
@@ -260,19 +275,19 @@ module _ (staged : StagedScene) (run : RunOf staged.script) (is : IsStaged stage
       with_line (chosen_line run.number position path.steps)
       (with_new_run run.number (Some (begun_underway run.client run.locality (plan_along staged.scenario path (begins staged run)))) (before_begin staged run))
 
-  pub begun-along-is : (position : ℕ) (path : Path) → chosen_for staged run ≡ Some position → slice_get (paths_for staged run) (position - 1) ≡ Some path → behind_begin staged run ≡ along-state position path
-  begun-along-is position path chosen at =
-      begun-is (Some position) chosen ∙ ap (λ o. begun_along staged.scenario position (begins staged run) o (before_begin staged run)) at
+  pub begun-along-is : way_of staged.scenario.manner ≢ ways.Blind → (position : ℕ) (path : Path) → chosen_for staged run ≡ Some position → slice_get (paths_for staged run) (position - 1) ≡ Some path → behind_begin staged run ≡ along-state position path
+  begun-along-is sees position path chosen at =
+      begun-is sees (Some position) chosen ∙ ap (λ o. begun_along staged.scenario position (begins staged run) o (before_begin staged run)) at
 
-  pub begins-on : (position : ℕ) → chosen_for staged run ≡ Some position → BeginsOn staged run position
-  begins-on position chosen =
+  pub begins-on : way_of staged.scenario.manner ≢ ways.Blind → (position : ℕ) → chosen_for staged run ≡ Some position → BeginsOn staged run position
+  begins-on sees position chosen =
       let found = open-path (paths_for staged run) (sight_at_begin staged run) (begins staged run).grants run.goal run.locality position chosen in
       record {
         chosen = chosen;
         path = found.path;
         listed = found.at;
         opens = none-is _ found.passes;
-        printed = ap (λ (p : PerformanceState). p.lines) (begun-along-is position found.path chosen found.at);
+        printed = ap (λ (p : PerformanceState). p.lines) (begun-along-is sees position found.path chosen found.at);
       }
 
   -- on none
@@ -307,11 +322,11 @@ module _ (staged : StagedScene) (run : RunOf staged.script) (is : IsStaged stage
       (block-told position path rest p (first_block path (sight_at_begin staged run) (begins staged run).grants run.goal run.locality) refl none
       (λ q later. blocks-told (position + 1) rest q later))
 
-  pub begins-nowhere : chosen_for staged run ≡ None → BeginsNowhere staged run
+  pub begins-nowhere : way_of staged.scenario.manner ≢ ways.Blind → chosen_for staged run ≡ None → BeginsNowhere staged run
   unfolding begun_nowhere chosen_path
-  begins-nowhere chosen =
+  begins-nowhere sees chosen =
       let p = with_line (nobranch_line run.number) (with_new_run run.number None (before_begin staged run)) in
-      let at = begun-is None chosen in
+      let at = begun-is sees None chosen in
       let told = blocks-told 1 (paths_for staged run) p chosen in
       record {
         blocks = told.blocks;

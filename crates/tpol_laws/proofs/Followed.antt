@@ -1,84 +1,121 @@
 -- A run of a scene's script is a run among others: its turns are turns of the run.
-use Rattle.std.proofs.Common.{◌≡◌, ◌⊎◌, inl, inr, ℕ, zero, suc, ◌+◌, ◌<◌, ◌^◌, if◌then◌else◌, true≢false, Bool, true, false, List, [], ◌∷◌, ◌++◌, Option, Some, None, nat_eq, refl, ap, sym, subst, ◌∙◌, arith, append_assoc}
+use Rattle.std.proofs.Common.{◌≡◌, ◌⊎◌, inl, inr, ℕ, zero, suc, ◌+◌, ◌<◌, ◌^◌, if◌then◌else◌, true≢false, Bool, true, false, List, [], ◌∷◌, ◌++◌, ◌-◌, slice_get, IfSome, Option, Some, None, nat_eq, refl, ap, sym, subst, ◌∙◌, arith, append_assoc}
 use Rattle.std.specs.List.{AllByRecursion}
 use Rattle.std.specs.Prelude.{⊤, Contains, find, replicate}
 use Rattle.std.proofs.lemmas.Bool.{eqb-true}
-use Rattle.std.proofs.lemmas.List.Elements.{Contains-append_left, Contains-push}
+use Rattle.std.proofs.lemmas.List.Elements.{Contains-append_left, Contains-append_right, Contains-push}
 use Rattle.std.proofs.lemmas.Option.{none-some, same_Some}
+use Rattle.tpol_driver.specs.declared.blind_end.BlindEnd.{BlindEnd}
+use Rattle.tpol_driver.specs.declared.blind_end.BlindEnd.TheVariants as blind_ends
 use Rattle.tpol_driver.specs.declared.end.End.{End}
-use Rattle.tpol_driver.specs.Driving.{Closing, Drive, Ends, Moving, Over, Sends, Standing, Starting, hears, sends}
+use Rattle.tpol_driver.specs.declared.end.End.TheVariants as ends
+use Rattle.tpol_driver.specs.Driving.{Drive, Ends, Sends, sends}
 use Rattle.tpol_lines.specs.Lines.{line_of}
 use Rattle.tpol_lines.specs.Runs.{end_line, over_line}
+use Rattle.tpol_name.specs.declared.setup.Setup.{Setup}
+use Rattle.tpol_perform.specs.Blind.{with_blind_end, with_path}
 use Rattle.tpol_perform.specs.Performance.{PerformanceState, with_line}
 use Rattle.tpol_perform.specs.CommandsTold.{commanded}
 use Rattle.tpol_perform.specs.Script.{all_happened, happened, turn_told}
 use Rattle.tpol_perform.specs.Turns.{most_turns, sent, sent_now, replied, turned, turned_and, turned_by, turned_on, turned_times, turned_to_end, turned_to_end_by, with_end}
 use Rattle.tpol_prepare.specs.declared.scenario.Scenario.{Scenario}
+use Rattle.tpol_prepare.specs.Scenario.{paths_named}
 use Rattle.tpol_scene.specs.declared.script.ScriptEvent.{ScriptEvent}
 use Rattle.tpol_scene.specs.declared.script.ScriptEvent.TheVariants.{Command, Begin, Turn, Time, Presence, Reset}
 use Rattle.tpol_laws.specs.Told.{IsAlone, is_turn_of, times_given, turns_for, turns_given}
+use Rattle.tpol_runs.specs.declared.ended.Ended.{Ended}
+use Rattle.tpol_runs.specs.declared.ended.Ended.TheVariants as ended
 use Rattle.tpol_runs.specs.declared.numbered.Numbered.{Numbered}
-use Rattle.tpol_runs.specs.Courses.{begun as begun_underway, end_told, goes_on, heard_by, next_of, sent_in, stands_at, underway_at}
+use Rattle.tpol_runs.specs.Courses.{command_in, command_of, end_of, end_told, goes_on, heard_by, heard_of, next_of, sent_in, underway_at}
 use Rattle.tpol_runs.specs.Runs.{has_number, run_at, run_in, with_run}
-use Rattle.tpol_runs.specs.Underway.{Underway}
+use Rattle.tpol_runs.specs.Underway.{Driver, Sighted, Underway}
+use Rattle.tpol_runs.proofs.Driven.{ends_step, goes_step, sends_step}
 use Rattle.tpol_wire.specs.declared.command.Command.{Command as WireCommand}
 use Rattle.tpol_wire.specs.Commands.{spelling}
 use Rattle.tpm_engine.specs.declared.event.Event.{Event}
-use Rattle.tpol_laws.specs.Acts.{Course, Run, Turn as OwnTurn, after_act, after_acts, answer_in, event_in, turned as turned_in}
-use Rattle.tpol_laws.proofs.Prints.{Allows, IsBehind, IsOther, Spares, command-printed, found-there, happened-spares}
+use Rattle.tpm_engine.specs.Events.{Answered, event_of}
+use Rattle.tpm_engine.specs.Legal.{answer_to}
+use Rattle.tpol_laws.specs.Acts.{Course, Run, Turn as OwnTurn, after_act, after_acts, turned as turned_in}
+use Rattle.tpol_laws.proofs.Prints.{Allows, IsBehind, IsOther, Prints, Spares, command-printed, found-there, happened-spares, nobranch-printed, path-printed, prints-none}
 
--- ---- where the driver stands
+-- ---- a run by its driver
+
+-- where a run's commands come from: what the machine started from, the client that sends them, from which locality
+pub record Seat : Type 0 where
+  pub setup : Setup
+  pub client : ℕ
+  pub locality : ℕ
+
+-- how far the run is: the machine's events, newest first, and its driver
+pub record Driving : Type 0 where
+  pub past : List Event
+  pub driver : Driver
+
+abbrev answer_from : Seat → List Event → WireCommand → Answered
+answer_from seat past command = answer_to seat.setup past seat.locality (spelling command)
+
+-- the run after the machine has executed its command, if it has one
+abbrev driven_by : Seat → Driving → Option WireCommand → Driving
+driven_by seat run None = run
+driven_by seat run (Some command) = record {
+  past = event_of seat.client seat.locality (spelling command) (answer_from seat run.past command) ∷ run.past;
+  driver = heard_of run.driver (answer_from seat run.past command).reply;
+}
+
+abbrev driven_once : Seat → Driving → Driving
+driven_once seat run = driven_by seat run (command_of run.driver)
+
+-- after so many turns
+abbrev pub driven_times : Seat → ℕ → Driving → Driving
+driven_times seat zero run = run
+driven_times seat (suc n) run = driven_times seat n (driven_once seat run)
 
 -- the run of a script, as the table of runs has it
-abbrev pub entry_at : Run → ℕ → Standing → Numbered
-entry_at run number standing = record { number = number; run = underway_at (begun_underway run.client run.locality run.plan) standing }
+abbrev pub underway_from : Seat → Driver → Underway
+underway_from seat driver = record { client = seat.client; locality = seat.locality; driver = driver }
 
-pub sends-next : (run : Run) (standing : Standing) → next_of (underway_at (begun_underway run.client run.locality run.plan) standing) ≡ sent_in (begun_underway run.client run.locality run.plan) (sends run.plan standing)
-sends-next run Starting = refl
-sends-next run (Moving session sent ticket done) = refl
-sends-next run (Closing session end) = refl
-sends-next run (Over end) = refl
+abbrev pub entry_at : Seat → ℕ → Driver → Numbered
+entry_at seat number driver = record { number = number; run = underway_at (underway_from seat driver) driver }
 
 -- it hears a reply, and goes on from where it stood
-pub record Hears (run : Run) (before after : Standing) (reply : List ℕ) : Type 0 where
-  pub goes : goes_on (heard_by (underway_at (begun_underway run.client run.locality run.plan) before) reply) ≡ underway_at (begun_underway run.client run.locality run.plan) after
-  pub ends : (end : End) → after ≡ Over end → end_told (heard_by (underway_at (begun_underway run.client run.locality run.plan) before) reply) ≡ Some end
+record Hears (seat : Seat) (driver : Driver) (reply : List ℕ) : Type 0 where
+  goes : goes_on (heard_by (underway_at (underway_from seat driver) driver) reply) ≡ underway_at (underway_from seat (heard_of driver reply)) (heard_of driver reply)
+  ends : end_told (heard_by (underway_at (underway_from seat driver) driver) reply) ≡ end_of (heard_of driver reply)
 
-module _ (run : Run) where
-  -- a run that stands elsewhere, of the same plan
-  abbrev from : Standing → Underway
-  from before = record { client = run.client; locality = run.locality; most_commands = (begun_underway run.client run.locality run.plan).most_commands; driving = record { plan = run.plan; standing = before } }
+hears-reply : (seat : Seat) (driver : Driver) (command : WireCommand) (reply : List ℕ) → command_of driver ≡ Some command → Hears seat driver reply
+hears-reply seat driver command reply is = record {
+  goes = goes_step (underway_from seat driver) driver reply;
+  ends = ends_step (underway_from seat driver) driver command reply is;
+}
 
-  goes-from : (before after : Standing) → goes_on (Some (stands_at (from before) after)) ≡ underway_at (begun_underway run.client run.locality run.plan) after
-  goes-from before Starting = refl
-  goes-from before (Moving session sent ticket done) = refl
-  goes-from before (Closing session end) = refl
-  goes-from before (Over end) = refl
+-- ---- what its end prints
 
-  ends-from : (before after : Standing) (end : End) → after ≡ Over end → end_told (Some (stands_at (from before) after)) ≡ Some end
-  ends-from before after end is = ap (λ s. end_told (Some (stands_at (from before) s))) is
+-- the end that the last line tells; where no path was served blindly the lines of the paths stand last
+abbrev pub last_end : Ended → Option End
+last_end (ended.Sighted end) = Some end
+last_end (ended.Blind policy (blind_ends.Served position bytes)) = Some (ends.Served bytes)
+last_end (ended.Blind policy (blind_ends.NoBranch tries)) = None
+last_end (ended.Blind policy (blind_ends.Denied at rc)) = Some (ends.Denied at rc)
+last_end (ended.Blind policy (blind_ends.BadReply at)) = Some (ends.BadReply at)
 
-  hears-reply : (before : Standing) (command : WireCommand) (reply : List ℕ) → sends run.plan before ≡ Sends command → Hears run before (hears run.plan before reply) reply
-  hears-reply Starting command reply is = record { goes = goes-from Starting (hears run.plan Starting reply); ends = ends-from Starting (hears run.plan Starting reply) }
-  hears-reply (Moving session sent ticket done) command reply is =
-      let before = Moving session sent ticket done in
-      record { goes = goes-from before (hears run.plan before reply); ends = ends-from before (hears run.plan before reply) }
-  hears-reply (Closing session end) command reply is =
-      let before = Closing session end in
-      record { goes = goes-from before (hears run.plan before reply); ends = ends-from before (hears run.plan before reply) }
-  hears-reply (Over end) command reply is = absurd cc
+abbrev pub TellsEnd : ℕ → List (List ℕ) → Ended → Type 0
+TellsEnd number lines end = IfSome (last_end end) (λ e. Contains lines (line_of (end_line number e)))
+
+pub tells-more : (number : ℕ) (lines more : List (List ℕ)) (end : Option End) → IfSome end (λ e. Contains lines (line_of (end_line number e))) → IfSome end (λ e. Contains (lines ++ more) (line_of (end_line number e)))
+tells-more number lines more None tells = tt
+tells-more number lines more (Some end) tells = Contains-append_left lines more (line_of (end_line number end)) tells
 
 -- ---- the run in the performance
 
--- The machine is where the run's course is, the table has the run where its driver stands, and its end is told.
--- Since the state `first`, lines were only added.
-pub record Follows (run : Run) (number : ℕ) (first p : PerformanceState) (course : Course) : Type 0 where
-  pub setup : p.setup ≡ run.setup
-  pub past : p.past ≡ course.past
-  pub found : find (has_number number) p.runs ≡ Some (entry_at run number course.standing)
+-- The machine is where the run is, the table has the run with its driver, and its end is told. Since the state `first`,
+-- lines were only added.
+pub record Follows (seat : Seat) (number : ℕ) (first p : PerformanceState) (run : Driving) : Type 0 where
+  pub setup : p.setup ≡ seat.setup
+  pub past : p.past ≡ run.past
+  pub found : find (has_number number) p.runs ≡ Some (entry_at seat number run.driver)
   pub added : List (List ℕ)
   pub lines : p.lines ≡ first.lines ++ added
-  pub told : (end : End) → course.standing ≡ Over end → Contains added (line_of (end_line number end))
+  pub told : (end : Ended) → end_of run.driver ≡ Some end → TellsEnd number added end
 
 -- any line may be printed
 abbrev pub any : List ℕ → Type 0
@@ -95,194 +132,252 @@ allows-any number = record {
   block = λ position steps block. tt;
   chosen = λ run position steps. tt;
   nobranch = λ run. tt;
+  blind = λ run. tt;
+  tried = λ position steps tried. tt;
   over = λ run. tt;
   ends = λ run end apart small. tt;
 }
 
-module _ (run : Run) (number : ℕ) (scenario : Scenario) (first : PerformanceState) where
+module _ (seat : Seat) (number : ℕ) (scenario : Scenario) (first : PerformanceState) where
   -- one line more
-  line-follows : (p : PerformanceState) (course : Course) (text : List ℕ) → Follows run number first p course → Follows run number first (with_line text p) course
-  line-follows p course text is = record {
+  line-follows : (p : PerformanceState) (run : Driving) (text : List ℕ) → Follows seat number first p run → Follows seat number first (with_line text p) run
+  line-follows p run text is = record {
     setup = is.setup;
     past = is.past;
     found = is.found;
     added = is.added ++ line_of text ∷ [];
     lines = ap (λ l. l ++ line_of text ∷ []) is.lines ∙ append_assoc first.lines is.added (line_of text ∷ []);
-    told = λ end over. Contains-append_left is.added (line_of text ∷ []) _ (is.told end over);
+    told = λ end over. tells-more number is.added (line_of text ∷ []) (last_end end) (is.told end over);
   }
 
+  -- from p to q the lines of this end were added
+  record TellsLast (end : Ended) (p q : PerformanceState) : Type 0 where
+    prints : Prints any p q
+    tells : TellsEnd number prints.added end
+
+  -- lines, and behind them that of the end
+  tells-line : (end : Ended) (e : End) (p q : PerformanceState) → last_end end ≡ Some e → Prints any p q → TellsLast end p (with_line (end_line number e) q)
+  tells-line end e p q last prints =
+      let line = line_of (end_line number e) in
+      record {
+        prints = record {
+          setup = prints.setup;
+          past = prints.past;
+          runs = prints.runs;
+          added = prints.added ++ line ∷ [];
+          lines = ap (λ l. l ++ line ∷ []) prints.lines ∙ append_assoc p.lines prints.added (line ∷ []);
+          each = λ i d within. tt;
+        };
+        tells = subst (λ o. IfSome o (λ x. Contains (prints.added ++ line ∷ []) (line_of (end_line number x)))) (sym last) (Contains-push prints.added line);
+      }
+
+  blind-tells : (policy : List ℕ) (end : BlindEnd) (p : PerformanceState) → TellsLast (ended.Blind policy end) p (with_blind_end number (paths_named scenario policy) end p)
+  unfolding with_blind_end
+  blind-tells policy (blind_ends.Served position bytes) p =
+      let path = slice_get (paths_named scenario policy) (position - 1) in
+      tells-line (ended.Blind policy (blind_ends.Served position bytes)) (ends.Served bytes) p (with_path number position path p) refl
+      (path-printed any number (allows-any number) number position path p)
+  blind-tells policy (blind_ends.NoBranch tries) p =
+      record { prints = nobranch-printed any number (allows-any number) number (paths_named scenario policy) tries p; tells = tt }
+  blind-tells policy (blind_ends.Denied at rc) p = tells-line (ended.Blind policy (blind_ends.Denied at rc)) (ends.Denied at rc) p p refl (prints-none any p)
+  blind-tells policy (blind_ends.BadReply at) p = tells-line (ended.Blind policy (blind_ends.BadReply at)) (ends.BadReply at) p p refl (prints-none any p)
+
+  end-tells : (end : Ended) (p : PerformanceState) → TellsLast end p (with_end scenario number (Some end) p)
+  end-tells (ended.Sighted end) p = tells-line (ended.Sighted end) end p p refl (prints-none any p)
+  end-tells (ended.Blind policy end) p = blind-tells policy end p
+
   -- the end of the run is told where it came to it
-  end-follows : (end : Option End) (p : PerformanceState) (past : List Event) (now : Standing) (added : List (List ℕ))
-      → p.setup ≡ run.setup → p.past ≡ past → find (has_number number) p.runs ≡ Some (entry_at run number now) → p.lines ≡ first.lines ++ added
-      → ((e : End) → now ≡ Over e → end ≡ Some e)
-      → Follows run number first (with_end number end p) (record { past = past; standing = now })
-  end-follows None p past now added setup same found lines ends = record {
+  end-follows : (end : Option Ended) (p : PerformanceState) (past : List Event) (now : Driver) (added : List (List ℕ))
+      → p.setup ≡ seat.setup → p.past ≡ past → find (has_number number) p.runs ≡ Some (entry_at seat number now) → p.lines ≡ first.lines ++ added → end ≡ end_of now
+      → Follows seat number first (with_end scenario number end p) (record { past = past; driver = now })
+  end-follows None p past now added setup same found lines is = record {
     setup = setup;
     past = same;
     found = found;
     added = added;
     lines = lines;
-    told = λ e over. absurd (none-some e (ends e over));
+    told = λ e over. absurd (none-some e (is ∙ over));
   }
-  end-follows (Some end) p past now added setup same found lines ends = record {
-    setup = setup;
-    past = same;
-    found = found;
-    added = added ++ line_of (end_line number end) ∷ [];
-    lines = ap (λ l. l ++ line_of (end_line number end) ∷ []) lines ∙ append_assoc first.lines added (line_of (end_line number end) ∷ []);
-    told = λ e over. subst (λ x. Contains (added ++ line_of (end_line number end) ∷ []) (line_of (end_line number x))) (same_Some end e (ends e over)) (Contains-push added (line_of (end_line number end)));
-  }
+  end-follows (Some end) p past now added setup same found lines is =
+      let last = end-tells end p in
+      record {
+        setup = last.prints.setup ∙ setup;
+        past = last.prints.past ∙ same;
+        found = ap (find (has_number number)) last.prints.runs ∙ found;
+        added = added ++ last.prints.added;
+        lines = last.prints.lines ∙ ap (λ l. l ++ last.prints.added) lines ∙ append_assoc first.lines added last.prints.added;
+        told = λ e over.
+            subst (λ x. TellsEnd number (added ++ last.prints.added) x) (same_Some end e (is ∙ over)) (tells-behind added last.prints.added (last_end end) last.tells);
+      }
+    where
+      tells-behind : (before lines : List (List ℕ)) (e : Option End) → IfSome e (λ x. Contains lines (line_of (end_line number x))) → IfSome e (λ x. Contains (before ++ lines) (line_of (end_line number x)))
+      tells-behind before lines None tells = tt
+      tells-behind before lines (Some e) tells = Contains-append_right before lines (line_of (end_line number e)) tells
 
   -- ---- one turn
 
-  -- where the performance is literally where the course is
-  sent-from : (past : List Event) (standing : Standing) (runs : List Numbered) (lines added : List (List ℕ)) (command : WireCommand) → sends run.plan standing ≡ Sends command
-      → find (has_number number) runs ≡ Some (entry_at run number standing) → lines ≡ first.lines ++ added
-      → Follows run number first (sent scenario number (record { client = run.client; locality = run.locality; buffer = spelling command }) (record { setup = run.setup; past = past; runs = runs; lines = lines }))
-      (turned_in run (record { past = past; standing = standing }) (Sends command))
+  -- where the performance is literally where the run is
+  sent-from : (past : List Event) (driver : Driver) (runs : List Numbered) (lines added : List (List ℕ)) (command : WireCommand) → command_of driver ≡ Some command
+      → find (has_number number) runs ≡ Some (entry_at seat number driver) → lines ≡ first.lines ++ added
+      → Follows seat number first (sent scenario number (record { client = seat.client; locality = seat.locality; buffer = spelling command }) (record { setup = seat.setup; past = past; runs = runs; lines = lines }))
+      (driven_by seat (record { past = past; driver = driver }) (Some command))
   unfolding sent replied
-  sent-from past standing runs lines added command next found grown =
-      let p : PerformanceState = record { setup = run.setup; past = past; runs = runs; lines = lines } in
-      let reply = (answer_in run past command).reply in
-      let q = commanded scenario run.client run.locality (spelling command) p in
-      let is = command-printed any number (allows-any number) scenario run.client run.locality (spelling command) p in
-      let there : find (has_number number) q.runs ≡ Some (entry_at run number standing) = ap (find (has_number number)) is.runs ∙ found in
-      let heard = hears-reply run standing command reply next in
-      let now : heard_by (run_at q.runs number) reply ≡ heard_by (underway_at (begun_underway run.client run.locality run.plan) standing) reply =
+  sent-from past driver runs lines added command next found grown =
+      let p : PerformanceState = record { setup = seat.setup; past = past; runs = runs; lines = lines } in
+      let reply = (answer_from seat past command).reply in
+      let q = commanded scenario seat.client seat.locality (spelling command) p in
+      let is = command-printed any number (allows-any number) scenario seat.client seat.locality (spelling command) p in
+      let there : find (has_number number) q.runs ≡ Some (entry_at seat number driver) = ap (find (has_number number)) is.runs ∙ found in
+      let heard = hears-reply seat driver command reply next in
+      let now : heard_by (run_at q.runs number) reply ≡ heard_by (underway_at (underway_from seat driver) driver) reply =
       ap (λ f. heard_by (run_in f) reply) there in
-      let after = hears run.plan standing reply in
       let r : PerformanceState = record q { runs = with_run q.runs number (goes_on (heard_by (run_at q.runs number) reply)) } in
-      end-follows (end_told (heard_by (run_at q.runs number) reply)) r (event_in run past command ∷ past) after (added ++ is.added)
+      end-follows (end_told (heard_by (run_at q.runs number) reply)) r (event_of seat.client seat.locality (spelling command) (answer_from seat past command) ∷ past) (heard_of driver reply) (added ++ is.added)
       is.setup is.past
       (found-there q.runs number _ (goes_on (heard_by (run_at q.runs number) reply)) there
       ∙ ap (λ o. Some (record { number = number; run = o })) (ap goes_on now ∙ heard.goes))
       (is.lines ∙ ap (λ l. l ++ is.added) grown ∙ append_assoc first.lines added is.added)
-      (λ end over. ap end_told now ∙ heard.ends end over)
+      (ap end_told now ∙ heard.ends)
 
-  sent-follows : (p : PerformanceState) (past : List Event) (standing : Standing) (command : WireCommand) → sends run.plan standing ≡ Sends command
-      → Follows run number first p (record { past = past; standing = standing })
-      → Follows run number first (sent scenario number (record { client = run.client; locality = run.locality; buffer = spelling command }) p)
-      (turned_in run (record { past = past; standing = standing }) (Sends command))
-  sent-follows p past standing command next is =
-      let at : record { setup = run.setup; past = past; runs = p.runs; lines = p.lines } ≡ p =
+  sent-follows : (p : PerformanceState) (run : Driving) (command : WireCommand) → command_of run.driver ≡ Some command → Follows seat number first p run
+      → Follows seat number first (sent scenario number (record { client = seat.client; locality = seat.locality; buffer = spelling command }) p) (driven_by seat run (Some command))
+  sent-follows p run command next is =
+      let at : record { setup = seat.setup; past = run.past; runs = p.runs; lines = p.lines } ≡ p =
       λ i. record { setup = sym is.setup i; past = sym is.past i; runs = p.runs; lines = p.lines } in
-      subst (λ (q : PerformanceState). Follows run number first (sent scenario number (record { client = run.client; locality = run.locality; buffer = spelling command }) q)
-      (turned_in run (record { past = past; standing = standing }) (Sends command))) at
-      (sent-from past standing p.runs p.lines is.added command next is.found is.lines)
+      subst (λ (q : PerformanceState). Follows seat number first (sent scenario number (record { client = seat.client; locality = seat.locality; buffer = spelling command }) q)
+      (driven_by seat run (Some command))) at
+      (sent-from run.past run.driver p.runs p.lines is.added command next is.found is.lines)
 
   -- what is sent now
-  pub sends-now : (p : PerformanceState) (course : Course) → Follows run number first p course → sent_now number p ≡ sent_in (begun_underway run.client run.locality run.plan) (sends run.plan course.standing)
-  sends-now p course is = ap (λ f. next_of (run_in f)) is.found ∙ sends-next run course.standing
+  pub sends-now : (p : PerformanceState) (run : Driving) → Follows seat number first p run → sent_now number p ≡ sent_in (underway_from seat run.driver) (command_of run.driver)
+  sends-now p run is = ap (λ f. next_of (run_in f)) is.found ∙ sends_step (underway_from seat run.driver) run.driver
 
-  by-follows : (drive : Drive) (p : PerformanceState) (course : Course) → sends run.plan course.standing ≡ drive → Follows run number first p course
-      → Follows run number first (turned_by scenario number (sent_in (begun_underway run.client run.locality run.plan) drive) p) (turned_in run course drive)
-  by-follows (Sends command) p course next is = sent-follows p course.past course.standing command next is
-  by-follows (Ends end) p course next is = line-follows p course (over_line number) is
+  by-follows : (next : Option WireCommand) (p : PerformanceState) (run : Driving) → command_of run.driver ≡ next → Follows seat number first p run
+      → Follows seat number first (turned_by scenario number (sent_in (underway_from seat run.driver) next) p) (driven_by seat run next)
+  by-follows (Some command) p run next is = sent-follows p run command next is
+  by-follows None p run next is = line-follows p run (over_line number) is
 
-  turn-follows : (p : PerformanceState) (course : Course) → Follows run number first p course → Follows run number first (turned scenario number p) (after_act run course OwnTurn)
+  turn-follows : (p : PerformanceState) (run : Driving) → Follows seat number first p run → Follows seat number first (turned scenario number p) (driven_once seat run)
   unfolding turned
-  turn-follows p course is =
-      subst (λ next. Follows run number first (turned_by scenario number next p) (after_act run course OwnTurn)) (sym (sends-now p course is))
-      (by-follows (sends run.plan course.standing) p course refl is)
+  turn-follows p run is =
+      subst (λ next. Follows seat number first (turned_by scenario number next p) (driven_once seat run)) (sym (sends-now p run is))
+      (by-follows (command_of run.driver) p run refl is)
 
   -- ---- turns
 
-  pub times-follow : (n : ℕ) (p : PerformanceState) (course : Course) → Follows run number first p course → Follows run number first (turned_times scenario number n p) (after_acts run (replicate n OwnTurn) course)
-  unfolding turned_times after_acts
-  times-follow zero p course is = is
-  times-follow (suc n) p course is = times-follow n (turned scenario number p) (after_act run course OwnTurn) (turn-follows p course is)
+  times-follow : (n : ℕ) (p : PerformanceState) (run : Driving) → Follows seat number first p run → Follows seat number first (turned_times scenario number n p) (driven_times seat n run)
+  unfolding turned_times
+  times-follow zero p run is = is
+  times-follow (suc n) p run is = times-follow n (turned scenario number p) (driven_once seat run) (turn-follows p run is)
 
   -- a run that is over stays so
-  stays : (n : ℕ) (course : Course) (end : End) → sends run.plan course.standing ≡ Ends end → after_acts run (replicate n OwnTurn) course ≡ course
-  unfolding after_acts
-  stays zero course end over = refl
-  stays (suc n) course end over = ap (after_acts run (replicate n OwnTurn)) (ap (turned_in run course) over) ∙ stays n course end over
+  stays : (n : ℕ) (run : Driving) → command_of run.driver ≡ None → driven_times seat n run ≡ run
+  stays zero run over = refl
+  stays (suc n) run over = ap (driven_times seat n) (ap (driven_by seat run) over) ∙ stays n run over
 
-  and-follows : (n : ℕ) (drive : Drive) (p : PerformanceState) (course : Course) → sends run.plan course.standing ≡ drive → Follows run number first p course
-      → ((q : PerformanceState) (later : Course) → Follows run number first q later → Follows run number first (turned_on scenario number n q) (after_acts run (replicate n OwnTurn) later))
-      → Follows run number first (turned_and (turned_on scenario number n) scenario number (sent_in (begun_underway run.client run.locality run.plan) drive) p) (after_acts run (replicate n OwnTurn) (turned_in run course drive))
-  and-follows n (Sends command) p course next is later =
-      later (sent scenario number (record { client = run.client; locality = run.locality; buffer = spelling command }) p) (turned_in run course (Sends command)) (sent-follows p course.past course.standing command next is)
-  and-follows n (Ends end) p course next is later = subst (Follows run number first p) (sym (stays n course end next)) is
+  and-follows : (n : ℕ) (next : Option WireCommand) (p : PerformanceState) (run : Driving) → command_of run.driver ≡ next → Follows seat number first p run
+      → ((q : PerformanceState) (later : Driving) → Follows seat number first q later → Follows seat number first (turned_on scenario number n q) (driven_times seat n later))
+      → Follows seat number first (turned_and (turned_on scenario number n) scenario number (sent_in (underway_from seat run.driver) next) p) (driven_times seat n (driven_by seat run next))
+  and-follows n (Some command) p run next is later =
+      later (sent scenario number (record { client = seat.client; locality = seat.locality; buffer = spelling command }) p) (driven_by seat run (Some command)) (sent-follows p run command next is)
+  and-follows n None p run next is later = subst (Follows seat number first p) (sym (stays n run next)) is
 
-  on-follow : (n : ℕ) (p : PerformanceState) (course : Course) → Follows run number first p course → Follows run number first (turned_on scenario number n p) (after_acts run (replicate n OwnTurn) course)
-  unfolding turned_on after_acts
-  on-follow zero p course is = is
-  on-follow (suc n) p course is =
-      subst (λ next. Follows run number first (turned_and (turned_on scenario number n) scenario number next p) (after_acts run (replicate n OwnTurn) (after_act run course OwnTurn))) (sym (sends-now p course is))
-      (and-follows n (sends run.plan course.standing) p course refl is (on-follow n))
+  on-follow : (n : ℕ) (p : PerformanceState) (run : Driving) → Follows seat number first p run → Follows seat number first (turned_on scenario number n p) (driven_times seat n run)
+  unfolding turned_on
+  on-follow zero p run is = is
+  on-follow (suc n) p run is =
+      subst (λ next. Follows seat number first (turned_and (turned_on scenario number n) scenario number next p) (driven_times seat n (driven_once seat run))) (sym (sends-now p run is))
+      (and-follows n (command_of run.driver) p run refl is (on-follow n))
 
-  end-by-follows : (n : ℕ) → most_turns ≡ n → (drive : Drive) (p : PerformanceState) (course : Course) → sends run.plan course.standing ≡ drive → Follows run number first p course
-      → Follows run number first (turned_to_end_by scenario number (sent_in (begun_underway run.client run.locality run.plan) drive) p) (after_acts run (replicate n OwnTurn) (turned_in run course drive))
-  end-by-follows n most (Sends command) p course next is =
-      subst (λ m. Follows run number first (turned_on scenario number most_turns (sent scenario number (record { client = run.client; locality = run.locality; buffer = spelling command }) p)) (after_acts run (replicate m OwnTurn) (turned_in run course (Sends command)))) most
-      (on-follow most_turns (sent scenario number (record { client = run.client; locality = run.locality; buffer = spelling command }) p) (turned_in run course (Sends command)) (sent-follows p course.past course.standing command next is))
-  end-by-follows n most (Ends end) p course next is = subst (Follows run number first (with_line (over_line number) p)) (sym (stays n course end next)) (line-follows p course (over_line number) is)
+  end-by-follows : (n : ℕ) → most_turns ≡ n → (next : Option WireCommand) (p : PerformanceState) (run : Driving) → command_of run.driver ≡ next → Follows seat number first p run
+      → Follows seat number first (turned_to_end_by scenario number (sent_in (underway_from seat run.driver) next) p) (driven_times seat n (driven_by seat run next))
+  end-by-follows n most (Some command) p run next is =
+      let q = sent scenario number (record { client = seat.client; locality = seat.locality; buffer = spelling command }) p in
+      subst (λ m. Follows seat number first (turned_on scenario number most_turns q) (driven_times seat m (driven_by seat run (Some command)))) most
+      (on-follow most_turns q (driven_by seat run (Some command)) (sent-follows p run command next is))
+  end-by-follows n most None p run next is = subst (Follows seat number first (with_line (over_line number) p)) (sym (stays n run next)) (line-follows p run (over_line number) is)
 
-  most-is : most_turns ≡ 1027
+  most-is : most_turns ≡ 65664
   unfolding most_turns
   most-is = refl
 
-  to-end-follows : (n : ℕ) → most_turns ≡ n → (p : PerformanceState) (course : Course) → Follows run number first p course → Follows run number first (turned_to_end scenario number p) (after_acts run (replicate (suc n) OwnTurn) course)
-  unfolding turned_to_end after_acts
-  to-end-follows n most p course is =
-      subst (λ next. Follows run number first (turned_to_end_by scenario number next p) (after_acts run (replicate n OwnTurn) (after_act run course OwnTurn))) (sym (sends-now p course is))
-      (end-by-follows n most (sends run.plan course.standing) p course refl is)
+  to-end-follows : (n : ℕ) → most_turns ≡ n → (p : PerformanceState) (run : Driving) → Follows seat number first p run → Follows seat number first (turned_to_end scenario number p) (driven_times seat (suc n) run)
+  unfolding turned_to_end
+  to-end-follows n most p run is =
+      subst (λ next. Follows seat number first (turned_to_end_by scenario number next p) (driven_times seat n (driven_once seat run))) (sym (sends-now p run is))
+      (end-by-follows n most (command_of run.driver) p run refl is)
 
-  pub told-follows : (times : Option ℕ) (p : PerformanceState) (course : Course) → Follows run number first p course → Follows run number first (turn_told scenario number times p) (after_acts run (replicate (times_given times) OwnTurn) course)
-  told-follows None p course is = to-end-follows 1027 most-is p course is
-  told-follows (Some n) p course is = times-follow n p course is
+  pub told-follows : (times : Option ℕ) (p : PerformanceState) (run : Driving) → Follows seat number first p run → Follows seat number first (turn_told scenario number times p) (driven_times seat (times_given times) run)
+  told-follows None p run is = to-end-follows 65664 most-is p run is
+  told-follows (Some n) p run is = times-follow n p run is
 
   -- ---- events
 
-  spared-follows : (p q : PerformanceState) (course : Course) → Follows run number first p course → Spares any number p q → q.past ≡ p.past → Follows run number first q course
-  spared-follows p q course is spares past = record {
+  spared-follows : (p q : PerformanceState) (run : Driving) → Follows seat number first p run → Spares any number p q → q.past ≡ p.past → Follows seat number first q run
+  spared-follows p q run is spares past = record {
     setup = spares.setup ∙ is.setup;
     past = past ∙ is.past;
     found = spares.found ∙ is.found;
     added = is.added ++ spares.added;
     lines = spares.lines ∙ ap (λ l. l ++ spares.added) is.lines ∙ append_assoc first.lines is.added spares.added;
-    told = λ end over. Contains-append_left is.added spares.added _ (is.told end over);
+    told = λ end over. tells-more number is.added spares.added (last_end end) (is.told end over);
   }
 
   quiet : (event : ScriptEvent) (p : PerformanceState) → is_turn_of number event ≡ false → (is_turn_of number event ≡ true) ⊎ ((happened scenario event p).past ≡ p.past) → (happened scenario event p).past ≡ p.past
   quiet event p apart (inl turn) = absurd (true≢false (sym turn ∙ apart))
   quiet event p apart (inr past) = past
 
-  other-follows : (event : ScriptEvent) → IsOther number event → is_turn_of number event ≡ false → (p : PerformanceState) (course : Course)
+  other-follows : (event : ScriptEvent) → IsOther number event → is_turn_of number event ≡ false → (p : PerformanceState) (run : Driving)
       → (is_turn_of number event ≡ true) ⊎ ((happened scenario event p).past ≡ p.past)
-      → Follows run number first p course → Follows run number first (happened scenario event p) course
-  other-follows event other apart p course alone is =
-      spared-follows p (happened scenario event p) course is (happened-spares any number (allows-any number) scenario event other p) (quiet event p apart alone)
+      → Follows seat number first p run → Follows seat number first (happened scenario event p) run
+  other-follows event other apart p run alone is =
+      spared-follows p (happened scenario event p) run is (happened-spares any number (allows-any number) scenario event other p) (quiet event p apart alone)
 
-  turn-by : (b : Bool) (other : ℕ) (times : Option ℕ) → b ≡ nat_eq other number → other < 2 ^ 16 → (p : PerformanceState) (course : Course)
+  turn-by : (b : Bool) (other : ℕ) (times : Option ℕ) → b ≡ nat_eq other number → other < 2 ^ 16 → (p : PerformanceState) (run : Driving)
       → (is_turn_of number (Turn other times) ≡ true) ⊎ ((happened scenario (Turn other times) p).past ≡ p.past)
-      → Follows run number first p course → Follows run number first (turn_told scenario other times p) (after_acts run (replicate (if b then times_given times else 0) OwnTurn) course)
-  unfolding after_acts
-  turn-by true other times same small p course alone is =
-      subst (λ n. Follows run number first (turn_told scenario n times p) (after_acts run (replicate (times_given times) OwnTurn) course)) (sym (eqb-true other number (sym same))) (told-follows times p course is)
-  turn-by false other times same small p course alone is = other-follows (Turn other times) (sym same, small) (sym same) p course alone is
+      → Follows seat number first p run → Follows seat number first (turn_told scenario other times p) (driven_times seat (if b then times_given times else 0) run)
+  turn-by true other times same small p run alone is =
+      subst (λ n. Follows seat number first (turn_told scenario n times p) (driven_times seat (times_given times) run)) (sym (eqb-true other number (sym same))) (told-follows times p run is)
+  turn-by false other times same small p run alone is = other-follows (Turn other times) (sym same, small) (sym same) p run alone is
 
-  event-follows : (event : ScriptEvent) → IsBehind number event → (p : PerformanceState) (course : Course) → (is_turn_of number event ≡ true) ⊎ ((happened scenario event p).past ≡ p.past)
-      → Follows run number first p course → Follows run number first (happened scenario event p) (after_acts run (replicate (turns_given number event) OwnTurn) course)
-  unfolding after_acts
-  event-follows (Command client locality buffer) behind p course alone is = other-follows (Command client locality buffer) tt refl p course alone is
-  event-follows (Begin other client locality policy place goal) behind p course alone is = other-follows (Begin other client locality policy place goal) behind refl p course alone is
-  event-follows (Turn other times) behind p course alone is = turn-by (nat_eq other number) other times refl behind p course alone is
-  event-follows (Time ms) behind p course alone is = other-follows (Time ms) tt refl p course alone is
-  event-follows (Presence on) behind p course alone is = other-follows (Presence on) tt refl p course alone is
-  event-follows Reset behind p course alone is = other-follows Reset tt refl p course alone is
+  event-follows : (event : ScriptEvent) → IsBehind number event → (p : PerformanceState) (run : Driving) → (is_turn_of number event ≡ true) ⊎ ((happened scenario event p).past ≡ p.past)
+      → Follows seat number first p run → Follows seat number first (happened scenario event p) (driven_times seat (turns_given number event) run)
+  event-follows (Command client locality buffer) behind p run alone is = other-follows (Command client locality buffer) tt refl p run alone is
+  event-follows (Begin other client locality policy place goal) behind p run alone is = other-follows (Begin other client locality policy place goal) behind refl p run alone is
+  event-follows (Turn other times) behind p run alone is = turn-by (nat_eq other number) other times refl behind p run alone is
+  event-follows (Time ms) behind p run alone is = other-follows (Time ms) tt refl p run alone is
+  event-follows (Presence on) behind p run alone is = other-follows (Presence on) tt refl p run alone is
+  event-follows Reset behind p run alone is = other-follows Reset tt refl p run alone is
 
   -- turns in two parts
-  after-both : (m n : ℕ) (course : Course) → after_acts run (replicate n OwnTurn) (after_acts run (replicate m OwnTurn) course) ≡ after_acts run (replicate (m + n) OwnTurn) course
-  unfolding after_acts
-  after-both zero n course = let e : zero + n ≡ n = omega arith in rw e refl
-  after-both (suc m) n course = let e : suc m + n ≡ suc (m + n) = omega arith in rw e (after-both m n (after_act run course OwnTurn))
+  driven-both : (m n : ℕ) (run : Driving) → driven_times seat n (driven_times seat m run) ≡ driven_times seat (m + n) run
+  driven-both zero n run = let e : zero + n ≡ n = omega arith in rw e refl
+  driven-both (suc m) n run = let e : suc m + n ≡ suc (m + n) = omega arith in rw e (driven-both m n (driven_once seat run))
 
-  pub own-follow : (own : List ScriptEvent) → AllByRecursion (IsBehind number) own → (p : PerformanceState) (course : Course) → IsAlone scenario number own p
-      → Follows run number first p course → Follows run number first (all_happened scenario own p) (after_acts run (replicate (turns_for number own) OwnTurn) course)
-  unfolding IsAlone all_happened after_acts
-  own-follow [] behind p course alone is = is
-  own-follow (event ∷ rest) behind p course alone is =
-      subst (Follows run number first (all_happened scenario rest (happened scenario event p))) (after-both (turns_given number event) (turns_for number rest) course)
-      (own-follow rest behind.1 (happened scenario event p) (after_acts run (replicate (turns_given number event) OwnTurn) course) alone.1 (event-follows event behind.0 p course alone.0 is))
+  pub own-follow : (own : List ScriptEvent) → AllByRecursion (IsBehind number) own → (p : PerformanceState) (run : Driving) → IsAlone scenario number own p
+      → Follows seat number first p run → Follows seat number first (all_happened scenario own p) (driven_times seat (turns_for number own) run)
+  unfolding IsAlone all_happened
+  own-follow [] behind p run alone is = is
+  own-follow (event ∷ rest) behind p run alone is =
+      subst (Follows seat number first (all_happened scenario rest (happened scenario event p))) (driven-both (turns_given number event) (turns_for number rest) run)
+      (own-follow rest behind.1 (happened scenario event p) (driven_times seat (turns_given number event) run) alone.1 (event-follows event behind.0 p run alone.0 is))
+
+-- ---- a run on one path
+
+abbrev pub seat_of : Run → Seat
+seat_of run = record { setup = run.setup; client = run.client; locality = run.locality }
+
+-- where it is, by its driver
+abbrev pub sighted_at : Run → Course → Driving
+sighted_at run course = record { past = course.past; driver = Sighted (record { plan = run.plan; standing = course.standing }) }
+
+sighted-by : (run : Run) (course : Course) (drive : Drive) → driven_by (seat_of run) (sighted_at run course) (command_in drive) ≡ sighted_at run (turned_in run course drive)
+sighted-by run course (Sends command) = refl
+sighted-by run course (Ends end) = refl
+
+-- its turns are those of its driver
+pub sighted-turns : (run : Run) (n : ℕ) (course : Course) → driven_times (seat_of run) n (sighted_at run course) ≡ sighted_at run (after_acts run (replicate n OwnTurn) course)
+unfolding after_acts
+sighted-turns run zero course = refl
+sighted-turns run (suc n) course =
+    ap (driven_times (seat_of run) n) (sighted-by run course (sends run.plan course.standing)) ∙ sighted-turns run n (after_act run course OwnTurn)

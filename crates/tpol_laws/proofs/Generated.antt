@@ -1,5 +1,5 @@
 -- What `gen` makes up has two paths for each OR, and no step of the command refuses it.
-use Rattle.std.proofs.Common.{◌≡◌, ◌≤◌, ◌<◌, ◌∙◌, ℕ, zero, suc, ◌+◌, ◌*◌, ◌/◌, ◌%◌, ◌^◌, ◌==◌, Bool, true, false, if◌then◌else◌, get_or, nat_lt, codes, length, map, List, [], ◌∷◌, ◌++◌, Option, None, Some, Ok, refl, ap, sym, subst, arith}
+use Rattle.std.proofs.Common.{◌≡◌, ◌≤◌, ◌<◌, ◌∙◌, ℕ, zero, suc, ◌+◌, ◌*◌, ◌/◌, ◌%◌, ◌^◌, ◌==◌, Bool, true, false, get_or, codes, length, map, List, [], ◌∷◌, ◌++◌, None, Ok, refl, ap, sym, subst, arith}
 use Rattle.std.proofs.lemmas.Bool.{lt-ltb}
 use Rattle.std.proofs.lemmas.List.{length-append, length-map}
 use Rattle.std.proofs.lemmas.Nat.{pow_below}
@@ -13,18 +13,16 @@ use Rattle.tpol_digest.specs.Paths.{followed_by, paths_at, paths_at_element, pat
 use Rattle.tpol_digest.proofs.Products.{Each-product}
 use Rattle.tpol_fill.specs.Filling.{element_faults, elements_faults, fill_faults, filled, filled_element, filled_elements}
 use Rattle.tpol_fill.specs.Outcome.{Fault}
-use Rattle.tpol_generate.specs.Generate.{branch_b, generate_step, generated_answer, generated_or, generated_ors, generated_policy}
+use Rattle.tpol_generate.specs.Generate.{generate_step, generated_answer, generated_or, generated_ors, generated_policy}
 use Rattle.tpol_json.specs.declared.place.Place.{Place}
 use Rattle.tpol_json.specs.Places.{at_item, at_member, root}
 use Rattle.tpol_steps.proofs.PathSteps.{within}
-use Rattle.tpol_steps.specs.Filled.{filled_step, unless_fault}
+use Rattle.tpol_steps.specs.Filled.{filled_step}
 use Rattle.tpol_steps.specs.Limits.{limit_step}
-use Rattle.tpol_steps.specs.Steps.{Step, ◌>>=◌}
 use Rattle.tpol_tree.specs.ClosedErased.{erased}
 use Rattle.tpol_tree.specs.declared.closed.Closed.{Closed}
 use Rattle.tpol_tree.specs.declared.path.ApprovedDoc.{ApprovedDoc}
 use Rattle.tpol_tree.specs.declared.path.Path.{Path}
-use Rattle.tpol_tree.specs.declared.policy.Elements.{Elements}
 use Rattle.tpol_laws.proofs.FilledForms.{filled-elements-lie}
 
 -- ---- paths

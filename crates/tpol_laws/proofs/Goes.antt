@@ -12,32 +12,44 @@ use Rattle.tpm_engine.specs.Views.{next_number}
 use Rattle.tpm_engine.proofs.Journals.{calls-in-order}
 use Rattle.tpol_choose.specs.declared.block.Block.{Block}
 use Rattle.tpol_choose.specs.Blocks.{chosen_path, first_block}
-use Rattle.tpol_driver.specs.declared.end.End.{End}
+use Rattle.tpol_driver.specs.declared.blind_end.BlindEnd.{BlindEnd}
+use Rattle.tpol_driver.specs.declared.blind_end.BlindEnd.TheVariants as blind_ends
+use Rattle.tpol_driver.specs.declared.blind_plan.BlindPlan.{BlindPlan}
+use Rattle.tpol_driver.specs.declared.end.End.TheVariants as ends
+use Rattle.tpol_driver.specs.Blind.{first_complete, none_tried}
 use Rattle.tpol_lines.specs.BlockLine.{block_line}
 use Rattle.tpol_lines.specs.Events.{presence_line, reset_line, time_line}
 use Rattle.tpol_lines.specs.Lines.{line_of}
-use Rattle.tpol_lines.specs.Runs.{chosen_line, end_line, nobranch_line, over_line}
+use Rattle.tpol_lines.specs.Runs.{blind_line, chosen_line, end_line, nobranch_line, over_line}
 use Rattle.tpol_name.specs.declared.setup.Setup.{Setup}
 use Rattle.tpol_name.specs.declared.sight.Sight.{Sight}
 use Rattle.tpol_perform.specs.declared.new_run.NewRun.{NewRun}
-use Rattle.tpol_perform.specs.Begin.{begun_along, begun_at, begun_nowhere, begun_on, new_run, plan_along, run_begun, with_block, with_blocks, with_new_run}
+use Rattle.tpol_perform.specs.Begin.{begun_along, begun_at, begun_by, begun_in_sight, begun_nowhere, begun_on, plan_along, run_begun, with_block, with_blocks}
+use Rattle.tpol_perform.specs.Blind.{begun_blindly, begun_by_plan, begun_on_tries, blind_plan, with_blind_end, with_nobranch, with_path}
+use Rattle.tpol_perform.specs.NewRuns.{new_run, with_new_run}
 use Rattle.tpol_perform.specs.CommandsTold.{commanded}
 use Rattle.tpol_perform.specs.Performance.{PerformanceState, number_in, with_event, with_line}
 use Rattle.tpol_perform.specs.Script.{all_happened, happened, turn_told}
 use Rattle.tpol_perform.specs.Turns.{most_turns, replied, sent, sent_now, turned, turned_and, turned_by, turned_on, turned_times, turned_to_end, turned_to_end_by, with_end}
+use Rattle.tpol_prepare.specs.declared.manner.Way.{Way}
+use Rattle.tpol_prepare.specs.declared.manner.Way.TheVariants as ways
 use Rattle.tpol_prepare.specs.declared.scenario.Scenario.{Scenario}
+use Rattle.tpol_prepare.specs.Manner.{way_of}
 use Rattle.tpol_prepare.specs.Scenario.{paths_named}
+use Rattle.tpol_runs.specs.declared.ended.Ended.{Ended}
+use Rattle.tpol_runs.specs.declared.ended.Ended.TheVariants as ended
 use Rattle.tpol_runs.specs.declared.numbered.Numbered.{Numbered}
 use Rattle.tpol_runs.specs.declared.sent.Sent.{Sent}
-use Rattle.tpol_runs.specs.Courses.{begun, end_told, goes_on, heard_by}
+use Rattle.tpol_runs.specs.Courses.{begun, begun_blind, end_told, goes_on, heard_by}
 use Rattle.tpol_runs.specs.Runs.{run_at, with_run}
+use Rattle.tpol_runs.specs.Underway.{Underway}
 use Rattle.tpol_scene.specs.declared.script.ScriptEvent.{ScriptEvent}
 use Rattle.tpol_scene.specs.declared.script.ScriptEvent.TheVariants.{Command, Begin, Turn, Time, Presence, Reset}
 use Rattle.tpol_tree.specs.declared.path.Path.{Path}
 use Rattle.tpol_tree.specs.declared.path.PathStep.{PathStep}
 use Rattle.tpol_laws.specs.Journal.{event_line}
 use Rattle.tpol_laws.proofs.Followed.{allows-any, any}
-use Rattle.tpol_laws.proofs.Prints.{command-first, command-printed}
+use Rattle.tpol_laws.proofs.Prints.{Prints, command-first, command-printed, nobranch-printed, path-printed}
 
 -- ---- each event is told
 
@@ -150,9 +162,30 @@ module _ (scenario : Scenario) where
 
   -- ---- turns
 
-  goes-end : (run : ℕ) (end : Option End) (p : PerformanceState) → Goes p (with_end run end p)
+  goes-printed : (p q : PerformanceState) → Prints any p q → Goes p q
+  unfolding journal_after AreTold
+  goes-printed p q is = record {
+    setup = is.setup;
+    calls = [];
+    past = is.past;
+    added = is.added;
+    lines = is.lines;
+    told = λ are. subst (AreTold q.lines) (sym is.past) (subst (λ lines. AreTold lines p.past) (sym is.lines) (told-more p.past p.lines is.added are));
+  }
+
+  goes-blind-end : (run : ℕ) (paths : List Path) (end : BlindEnd) (p : PerformanceState) → Goes p (with_blind_end run paths end p)
+  unfolding with_blind_end
+  goes-blind-end run paths (blind_ends.Served position bytes) p =
+      let q = with_path run position (slice_get paths (position - 1)) p in
+      goes-then p q _ (goes-printed p q (path-printed any run (allows-any run) run position (slice_get paths (position - 1)) p)) (goes-line q (end_line run (ends.Served bytes)))
+  goes-blind-end run paths (blind_ends.NoBranch tries) p = goes-printed p (with_nobranch run paths tries p) (nobranch-printed any run (allows-any run) run paths tries p)
+  goes-blind-end run paths (blind_ends.Denied at rc) p = goes-line p (end_line run (ends.Denied at rc))
+  goes-blind-end run paths (blind_ends.BadReply at) p = goes-line p (end_line run (ends.BadReply at))
+
+  goes-end : (run : ℕ) (end : Option Ended) (p : PerformanceState) → Goes p (with_end scenario run end p)
   goes-end run None p = goes-none p
-  goes-end run (Some end) p = goes-line p (end_line run end)
+  goes-end run (Some (ended.Sighted end)) p = goes-line p (end_line run end)
+  goes-end run (Some (ended.Blind policy end)) p = goes-blind-end run (paths_named scenario policy) end p
 
   goes-sent : (run : ℕ) (command : Sent) (p : PerformanceState) → Goes p (sent scenario run command p)
   unfolding sent replied
@@ -227,12 +260,35 @@ module _ (scenario : Scenario) where
   goes-at sight paths run None p = goes-nowhere sight run paths p
   goes-at sight paths run (Some position) p = goes-along position run (slice_get paths (position - 1)) p
 
-  pub goes-begun : (policy : List ℕ) (run : NewRun) (p : PerformanceState) → Goes p (run_begun scenario policy run p)
-  unfolding run_begun begun_on
-  goes-begun policy run p =
+  goes-sighted : (policy : List ℕ) (run : NewRun) (p : PerformanceState) → Goes p (begun_in_sight scenario policy run p)
+  unfolding begun_in_sight begun_on
+  goes-sighted policy run p =
       let sight = sight_after p.setup p.past in
       let paths = paths_named scenario policy in
       goes-at sight paths run (chosen_path paths sight run.grants run.goal run.locality) p
+
+  goes-on-tries : (number : ℕ) (run : Underway) (plan : BlindPlan) (tried : Option ℕ) (p : PerformanceState) → Goes p (begun_on_tries number run plan tried p)
+  goes-on-tries number run plan None p =
+      let q = with_new_run number None p in
+      goes-then p q _ (goes-runs p q.runs) (goes-printed q (with_nobranch number plan.paths (none_tried plan) q) (nobranch-printed any number (allows-any number) number plan.paths (none_tried plan) q))
+  goes-on-tries number run plan (Some position) p = goes-runs p (with_new_run number (Some run) p).runs
+
+  goes-by-plan : (policy : List ℕ) (run : NewRun) (plan : BlindPlan) (p : PerformanceState) → Goes p (begun_by_plan policy run plan p)
+  goes-by-plan policy run plan p =
+      let q = with_line (blind_line run.number) p in
+      goes-then p q _ (goes-line p (blind_line run.number)) (goes-on-tries run.number (begun_blind run.client run.locality policy plan) plan (first_complete plan) q)
+
+  goes-blindly : (policy : List ℕ) (run : NewRun) (p : PerformanceState) → Goes p (begun_blindly scenario policy run p)
+  unfolding begun_blindly
+  goes-blindly policy run p = goes-by-plan policy run (blind_plan scenario (paths_named scenario policy) run) p
+
+  goes-way : (way : Way) (policy : List ℕ) (run : NewRun) (p : PerformanceState) → Goes p (begun_by way scenario policy run p)
+  goes-way ways.Sighted policy run p = goes-sighted policy run p
+  goes-way ways.Blind policy run p = goes-blindly policy run p
+
+  pub goes-begun : (policy : List ℕ) (run : NewRun) (p : PerformanceState) → Goes p (run_begun scenario policy run p)
+  unfolding run_begun
+  goes-begun policy run p = goes-way (way_of scenario.manner) policy run p
 
   -- ---- the script
 

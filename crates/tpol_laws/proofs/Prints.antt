@@ -5,13 +5,22 @@ use Rattle.std.specs.List.{AllByRecursion}
 use Rattle.std.proofs.lemmas.Bool.{eq-eqb, eqb-true}
 use Rattle.std.proofs.lemmas.List.{append-nil}
 use Rattle.std.proofs.lemmas.List.Elements.{All-append, All-cons, All-nil, Contains-append_left, Contains-push}
+use Rattle.tpol_driver.specs.declared.blind_end.BlindEnd.{BlindEnd}
+use Rattle.tpol_driver.specs.declared.blind_end.BlindEnd.TheVariants as blind_ends
+use Rattle.tpol_driver.specs.declared.blind_end.Tried.{Tried}
+use Rattle.tpol_driver.specs.declared.blind_plan.BlindPlan.{BlindPlan}
 use Rattle.tpol_driver.specs.declared.end.End.{End}
+use Rattle.tpol_driver.specs.declared.end.End.TheVariants as ends
+use Rattle.tpol_driver.specs.Blind.{first_complete, none_tried}
 use Rattle.tpol_lines.specs.BlockLine.{block_line}
 use Rattle.tpol_lines.specs.CertLine.{certificate_line}
 use Rattle.tpol_lines.specs.Events.{command_line, presence_line, reset_line, time_line}
 use Rattle.tpol_lines.specs.Lines.{line_of}
 use Rattle.tpol_lines.specs.OpeningLine.{opening_line}
-use Rattle.tpol_lines.specs.Runs.{chosen_line, end_line, nobranch_line, over_line}
+use Rattle.tpol_lines.specs.Runs.{blind_line, chosen_line, end_line, nobranch_line, over_line}
+use Rattle.tpol_lines.specs.TriedLine.{tried_line}
+use Rattle.tpol_runs.specs.declared.ended.Ended.{Ended}
+use Rattle.tpol_runs.specs.declared.ended.Ended.TheVariants as ended
 use Rattle.tpol_runs.specs.declared.numbered.Numbered.{Numbered}
 use Rattle.tpol_runs.specs.declared.sent.Sent.{Sent}
 use Rattle.tpol_runs.specs.Courses.{end_told, goes_on, heard_by}
@@ -22,15 +31,19 @@ use Rattle.tpol_choose.specs.Blocks.{chosen_path, first_block}
 use Rattle.tpol_digest.specs.Paths.{paths_of}
 use Rattle.tpol_name.specs.declared.sight.Sight.{Sight}
 use Rattle.tpol_perform.specs.declared.new_run.NewRun.{NewRun}
-use Rattle.tpol_perform.specs.Begin.{begun_along, begun_at, begun_nowhere, begun_on, new_run, plan_along, run_begun, with_block, with_blocks, with_new_run}
+use Rattle.tpol_perform.specs.Begin.{begun_along, begun_at, begun_by, begun_in_sight, begun_nowhere, begun_on, plan_along, run_begun, with_block, with_blocks}
+use Rattle.tpol_perform.specs.Blind.{begun_blindly, begun_by_plan, begun_on_tries, blind_plan, with_blind_end, with_nobranch, with_path, with_tries}
 use Rattle.tpol_perform.specs.CommandsTold.{certificate_of_opening, command_told, commanded, entity_opened, opening_told, policy_opened, with_certificate, with_opening}
+use Rattle.tpol_perform.specs.NewRuns.{new_run, with_new_run}
 use Rattle.tpol_perform.specs.Performance.{PerformanceState, number_in, with_event, with_line}
 use Rattle.tpol_perform.specs.Script.{all_happened, happened, turn_told}
 use Rattle.tpol_perform.specs.Turns.{most_turns, sent, sent_now, replied, turned, turned_and, turned_by, turned_on, turned_times, turned_to_end, turned_to_end_by, with_end}
+use Rattle.tpol_prepare.specs.declared.manner.Way.{Way}
+use Rattle.tpol_prepare.specs.declared.manner.Way.TheVariants as ways
 use Rattle.tpol_prepare.specs.declared.scenario.Scenario.{Scenario}
-use Rattle.tpol_prepare.specs.Manner.{certifies, explains}
+use Rattle.tpol_prepare.specs.Manner.{certifies, explains, way_of}
 use Rattle.tpol_prepare.specs.Scenario.{paths_named, policy_of_entity}
-use Rattle.tpol_runs.specs.Courses.{begun, next_of}
+use Rattle.tpol_runs.specs.Courses.{begun, begun_blind, next_of}
 use Rattle.tpol_scene.specs.declared.script.ScriptEvent.{ScriptEvent}
 use Rattle.tpol_scene.specs.declared.script.ScriptEvent.TheVariants.{Command, Begin, Turn, Time, Presence, Reset}
 use Rattle.tpol_trace.specs.declared.answer.Opening.{Opening}
@@ -189,8 +202,41 @@ pub record Allows (P : List ℕ → Type 0) (number : ℕ) : Type 0 where
   pub block : (position : ℕ) (steps : List PathStep) (block : Block) → P (line_of (block_line position steps block))
   pub chosen : (run position : ℕ) (steps : List PathStep) → P (line_of (chosen_line run position steps))
   pub nobranch : (run : ℕ) → P (line_of (nobranch_line run))
+  pub blind : (run : ℕ) → P (line_of (blind_line run))
+  pub tried : (position : ℕ) (steps : List PathStep) (tried : Tried) → P (line_of (tried_line position steps tried))
   pub over : (run : ℕ) → P (line_of (over_line run))
   pub ends : (run : ℕ) (end : End) → nat_eq run number ≡ false → run < 2 ^ 16 → P (line_of (end_line run end))
+
+-- ---- blind runs
+
+module _ (P : List ℕ → Type 0) (number : ℕ) (allows : Allows P number) where
+  tries-printed : (position : ℕ) (paths : List Path) (tries : List Tried) (p : PerformanceState) → Prints P p (with_tries position paths tries p)
+  unfolding with_tries
+  tries-printed position [] tries p = prints-none P p
+  tries-printed position (path ∷ paths) [] p = prints-none P p
+  tries-printed position (path ∷ paths) (tried ∷ tries) p =
+      let text = tried_line position path.steps tried in
+      prints-then P p (with_line text p) (with_tries (position + 1) paths tries (with_line text p)) (prints-line P p text (allows.tried position path.steps tried)) (tries-printed (position + 1) paths tries (with_line text p))
+
+  pub nobranch-printed : (run : ℕ) (paths : List Path) (tries : List Tried) (p : PerformanceState) → Prints P p (with_nobranch run paths tries p)
+  nobranch-printed run paths tries p =
+      prints-then P p (with_line (nobranch_line run) p) (with_nobranch run paths tries p) (prints-line P p (nobranch_line run) (allows.nobranch run)) (tries-printed 1 paths tries (with_line (nobranch_line run) p))
+
+  pub path-printed : (run position : ℕ) (path : Option Path) (p : PerformanceState) → Prints P p (with_path run position path p)
+  path-printed run position None p = prints-none P p
+  path-printed run position (Some path) p = prints-line P p (chosen_line run position path.steps) (allows.chosen run position path.steps)
+
+  -- the end of another run
+  blind-end-printed : (other : ℕ) → nat_eq other number ≡ false → other < 2 ^ 16 → (paths : List Path) (end : BlindEnd) (p : PerformanceState) → Prints P p (with_blind_end other paths end p)
+  unfolding with_blind_end
+  blind-end-printed other apart small paths (blind_ends.Served position bytes) p =
+      let path = slice_get paths (position - 1) in
+      let text = end_line other (ends.Served bytes) in
+      prints-then P p (with_path other position path p) (with_line text (with_path other position path p)) (path-printed other position path p)
+      (prints-line P (with_path other position path p) text (allows.ends other (ends.Served bytes) apart small))
+  blind-end-printed other apart small paths (blind_ends.NoBranch tries) p = nobranch-printed other paths tries p
+  blind-end-printed other apart small paths (blind_ends.Denied at rc) p = prints-line P p (end_line other (ends.Denied at rc)) (allows.ends other (ends.Denied at rc) apart small)
+  blind-end-printed other apart small paths (blind_ends.BadReply at) p = prints-line P p (end_line other (ends.BadReply at)) (allows.ends other (ends.BadReply at) apart small)
 
 module _ (P : List ℕ → Type 0) (number : ℕ) (allows : Allows P number) (scenario : Scenario) where
   -- ---- commands
@@ -259,9 +305,12 @@ module _ (P : List ℕ → Type 0) (number : ℕ) (allows : Allows P number) (sc
   -- ---- turns of another run
 
   module _ (other : ℕ) (apart : nat_eq other number ≡ false) (small : other < 2 ^ 16) where
-    end-spares : (end : Option End) (p : PerformanceState) → Spares P number p (with_end other end p)
+    end-spares : (end : Option Ended) (p : PerformanceState) → Spares P number p (with_end scenario other end p)
     end-spares None p = spares-none P number p
-    end-spares (Some end) p = spares-line P number p (end_line other end) (allows.ends other end apart small)
+    end-spares (Some (ended.Sighted end)) p = spares-line P number p (end_line other end) (allows.ends other end apart small)
+    end-spares (Some (ended.Blind policy end)) p =
+        let paths = paths_named scenario policy in
+        spares-printed P number p (with_blind_end other paths end p) (blind-end-printed P number allows other apart small paths end p)
 
     sent-spares : (command : Sent) (p : PerformanceState) → Spares P number p (sent scenario other command p)
     unfolding sent replied
@@ -362,12 +411,38 @@ module _ (P : List ℕ → Type 0) (number : ℕ) (allows : Allows P number) (sc
   at-spares sight paths run (Some position) p apart small =
       along-spares run.number apart small position run (slice_get paths (position - 1)) p refl
 
-  begin-spares : (policy : List ℕ) (run : NewRun) (p : PerformanceState) → nat_eq run.number number ≡ false → run.number < 2 ^ 16 → Spares P number p (run_begun scenario policy run p)
-  unfolding run_begun begun_on
-  begin-spares policy run p apart small =
+  sighted-spares : (policy : List ℕ) (run : NewRun) (p : PerformanceState) → nat_eq run.number number ≡ false → run.number < 2 ^ 16 → Spares P number p (begun_in_sight scenario policy run p)
+  unfolding begun_in_sight begun_on
+  sighted-spares policy run p apart small =
       let sight = sight_after p.setup p.past in
       let paths = paths_named scenario policy in
       at-spares sight paths run (chosen_path paths sight run.grants run.goal run.locality) p apart small
+
+  on-tries-spare : (other : ℕ) (run : Underway) (plan : BlindPlan) (tried : Option ℕ) (p : PerformanceState) → nat_eq other number ≡ false → other < 2 ^ 16 → Spares P number p (begun_on_tries other run plan tried p)
+  on-tries-spare other run plan None p apart small =
+      let q = with_new_run other None p in
+      spares-then P number p q (with_nobranch other plan.paths (none_tried plan) q) (new-run-spares other apart small None p)
+      (spares-printed P number q (with_nobranch other plan.paths (none_tried plan) q) (nobranch-printed P number allows other plan.paths (none_tried plan) q))
+  on-tries-spare other run plan (Some position) p apart small = new-run-spares other apart small (Some run) p
+
+  by-plan-spares : (policy : List ℕ) (run : NewRun) (plan : BlindPlan) (p : PerformanceState) → nat_eq run.number number ≡ false → run.number < 2 ^ 16 → Spares P number p (begun_by_plan policy run plan p)
+  by-plan-spares policy run plan p apart small =
+      let q = with_line (blind_line run.number) p in
+      let underway = begun_blind run.client run.locality policy plan in
+      spares-then P number p q (begun_on_tries run.number underway plan (first_complete plan) q) (spares-line P number p (blind_line run.number) (allows.blind run.number))
+      (on-tries-spare run.number underway plan (first_complete plan) q apart small)
+
+  blindly-spares : (policy : List ℕ) (run : NewRun) (p : PerformanceState) → nat_eq run.number number ≡ false → run.number < 2 ^ 16 → Spares P number p (begun_blindly scenario policy run p)
+  unfolding begun_blindly
+  blindly-spares policy run p apart small = by-plan-spares policy run (blind_plan scenario (paths_named scenario policy) run) p apart small
+
+  way-spares : (way : Way) (policy : List ℕ) (run : NewRun) (p : PerformanceState) → nat_eq run.number number ≡ false → run.number < 2 ^ 16 → Spares P number p (begun_by way scenario policy run p)
+  way-spares ways.Sighted policy run p apart small = sighted-spares policy run p apart small
+  way-spares ways.Blind policy run p apart small = blindly-spares policy run p apart small
+
+  begin-spares : (policy : List ℕ) (run : NewRun) (p : PerformanceState) → nat_eq run.number number ≡ false → run.number < 2 ^ 16 → Spares P number p (run_begun scenario policy run p)
+  unfolding run_begun
+  begin-spares policy run p apart small = way-spares (way_of scenario.manner) policy run p apart small
 
   pub happened-spares : (event : ScriptEvent) → IsOther number event → (p : PerformanceState) → Spares P number p (happened scenario event p)
   happened-spares (Command client locality buffer) is p = command-spares client locality buffer p

@@ -3,7 +3,7 @@ use Rattle.std.proofs.Common.{◌≡◌, ◌++◌, ◌≤◌, refl, subst, ℕ, 
 use Rattle.std.proofs.lemmas.Bool.{ltb-false}
 use Rattle.std.proofs.lemmas.List.Elements.{All-from_recursion, recursion_from_All}
 use Rattle.std.specs.List.{AllByRecursion, flat_map, list_any}
-use Rattle.std.specs.Prelude.{IfOk, ◌||◌}
+use Rattle.std.specs.Prelude.{IfOk, ◌||◌, ⊤}
 use Rattle.serde_json.specs.Data.{Data}
 use Rattle.tpol_base.specs.declared.document.Document.{Document}
 use Rattle.tpol_digest.specs.Limits.{AreWithinLimits}
@@ -21,18 +21,22 @@ use Rattle.tpol_prepare.proofs.StagedScenes.{is_staged, script_kept}
 use Rattle.tpol_prepare.proofs.Walkable.{walkable}
 use Rattle.tpol_prepare.specs.declared.entities.CompiledEntity.{CompiledEntity}
 use Rattle.tpol_prepare.specs.declared.manner.Manner.{Manner}
+use Rattle.tpol_prepare.specs.declared.manner.Way.{Way}
+use Rattle.tpol_prepare.specs.declared.manner.Way.TheVariants.{Blind, Sighted}
 use Rattle.tpol_prepare.specs.declared.prepared.PreparedScene.{PreparedScene}
 use Rattle.tpol_prepare.specs.declared.scenario.StagedScene.{StagedScene}
+use Rattle.tpol_prepare.specs.Begins.{begins_step}
 use Rattle.tpol_prepare.specs.Entities.{IsReadyEntity}
+use Rattle.tpol_prepare.specs.Manner.{way_of}
 use Rattle.tpol_prepare.specs.Prepared.{prepared_step}
-use Rattle.tpol_prepare.specs.Scenario.{IsWalkable, entity_document, limited_step, scenario_with, staged_by, staged_step, staged_with}
+use Rattle.tpol_prepare.specs.Scenario.{HasFewPaths, IsWalkable, begun_limits, entity_document, limited_step, scenario_with, staged_by, staged_step, staged_with}
 use Rattle.tpol_prepare.specs.Staged.{IsStaged}
 use Rattle.tpol_scene.proofs.SceneLemmas.{SceneFits, scene_ok}
 use Rattle.tpol_scene.specs.declared.scene.Scene.{Scene}
 use Rattle.tpol_scene.specs.Scenes.{scene_faults, scene_in}
 use Rattle.tpol_steps.specs.declared.filled.FilledDocument.{FilledDocument}
 use Rattle.tpol_steps.specs.Filled.{IsReadyDocument}
-use Rattle.tpol_steps.specs.Limits.{is_too_long, limit_step, limits_step, within_limits}
+use Rattle.tpol_steps.specs.Limits.{few_to_try, is_too_long, limit_step, limits_step, tried_limit_step, tried_limits_step, within_limits}
 use Rattle.tpol_steps.specs.SceneStep.{scene_of_bytes, scene_of_document, unless_scene_fault}
 use Rattle.tpol_steps.specs.Steps.{Step}
 use Rattle.tpol_steps.specs.StoreStep.{store_step}
@@ -156,21 +160,83 @@ documents-walkable approvals all [] ready are = tt
 documents-walkable approvals all (document ∷ rest) ready are =
     (walkable approvals document.closed ready.0 all are.0, documents-walkable approvals all rest ready.1 are.1)
 
--- the policies of a scene that is within the limits
-record AreWithin (approvals : List ApprovedDoc) (prepared : PreparedScene) : Type 0 where
-  pub entities : AllByRecursion (IsWithin approvals) (map entity_document prepared.entities)
-  pub begun : AllByRecursion (IsWithin approvals) prepared.begun
+-- ---- policies whose paths blind runs try
 
-scene-within : (prepared : PreparedScene) (approvals : List ApprovedDoc) → IfOk (limited_step prepared approvals) (λ done. AreWithin approvals prepared)
-unfolding limited_step
-scene-within prepared approvals =
-    step-then (λ done. AllByRecursion (IsWithin approvals) (map entity_document prepared.entities)) (λ done. AreWithin approvals prepared)
-    (limits_step approvals (map entity_document prepared.entities)) (λ done. limits_step approvals prepared.begun)
-    (documents-within approvals (map entity_document prepared.entities))
-    (λ done e entities. also (limits_step approvals prepared.begun) entities (documents-within approvals prepared.begun))
+abbrev IsFew : List ApprovedDoc → FilledDocument → Type 0
+IsFew approvals document = IsWithin approvals document × HasFewPaths approvals document
+
+few-to-try : (document : Option (List ℕ)) (paths : List Path) (many : Bool) → nat_lt 64 (length paths) ≡ many → IfOk (few_to_try document paths) (λ done. length paths ≤ 64)
+few-to-try document paths true many = rw many tt
+few-to-try document paths false many = rw many (ltb-false 64 (length paths) many)
+
+document-few : (approvals : List ApprovedDoc) (document : FilledDocument) → IfOk (tried_limit_step (Some document.name) document.closed approvals) (λ done. IsFew approvals document)
+unfolding tried_limit_step
+document-few approvals document =
+    let paths = paths_of document.closed approvals in
+    step-then (λ done. length paths ≤ 64) (λ done. IsFew approvals document) (few_to_try (Some document.name) paths) (λ few. limit_step (Some document.name) document.closed approvals)
+    (few-to-try (Some document.name) paths (nat_lt 64 (length paths)) refl)
+    (λ done e few. also (limit_step (Some document.name) document.closed approvals) few (document-within approvals document))
   where
-    also : (step : Step (Unit {0})) → AllByRecursion (IsWithin approvals) (map entity_document prepared.entities) → IfOk step (λ done. AllByRecursion (IsWithin approvals) prepared.begun)
-        → IfOk step (λ done. AreWithin approvals prepared)
+    also : (step : Step (Unit {0})) → length (paths_of document.closed approvals) ≤ 64 → IfOk step (λ done. IsWithin approvals document) → IfOk step (λ done. IsFew approvals document)
+    also (Ok done) few is = (is, few)
+    also (Err answer) few is = tt
+
+documents-few : (approvals : List ApprovedDoc) (documents : List FilledDocument) → IfOk (tried_limits_step approvals documents) (λ done. AllByRecursion (IsFew approvals) documents)
+unfolding tried_limits_step
+documents-few approvals [] = tt
+documents-few approvals (document ∷ rest) =
+    step-then (λ done. IsFew approvals document) (λ done. AllByRecursion (IsFew approvals) (document ∷ rest)) (tried_limit_step (Some document.name) document.closed approvals)
+    (λ done. tried_limits_step approvals rest) (document-few approvals document)
+    (λ done e is. step-kept (λ done. AllByRecursion (IsFew approvals) rest) (λ done. AllByRecursion (IsFew approvals) (document ∷ rest)) (tried_limits_step approvals rest)
+    (documents-few approvals rest) (λ done are. (is, are)))
+  where
+    step-kept : {A : Type 0} (P Q : A → Type 0) (step : Step A) → IfOk step P → ((x : A) → P x → Q x) → IfOk step Q
+    step-kept P Q (Ok x) is keeps = keeps x is
+    step-kept P Q (Err answer) is keeps = tt
+
+firsts : {A : Type 0} (P Q : A → Type 0) (xs : List A) → AllByRecursion (λ x. P x × Q x) xs → AllByRecursion P xs
+firsts P Q [] are = tt
+firsts P Q (x ∷ rest) are = (are.0.0, firsts P Q rest are.1)
+
+seconds : {A : Type 0} (P Q : A → Type 0) (xs : List A) → AllByRecursion (λ x. P x × Q x) xs → AllByRecursion Q xs
+seconds P Q [] are = tt
+seconds P Q (x ∷ rest) are = (are.0.1, seconds P Q rest are.1)
+
+-- what the limits keep of the policies that a script begins, by how its runs are driven
+record AreBegun (way : Way) (approvals : List ApprovedDoc) (begun : List FilledDocument) : Type 0 where
+  within : AllByRecursion (IsWithin approvals) begun
+  few : way ≡ Blind → AllByRecursion (HasFewPaths approvals) begun
+
+begun-within : (way : Way) (approvals : List ApprovedDoc) (begun : List FilledDocument) → IfOk (begun_limits way approvals begun) (λ done. AreBegun way approvals begun)
+begun-within Sighted approvals begun = by (limits_step approvals begun) (documents-within approvals begun)
+  where
+    by : (step : Step (Unit {0})) → IfOk step (λ done. AllByRecursion (IsWithin approvals) begun) → IfOk step (λ done. AreBegun Sighted approvals begun)
+    by (Ok done) are = record { within = are; few = λ blind. absurd cc }
+    by (Err answer) are = tt
+begun-within Blind approvals begun = by (tried_limits_step approvals begun) (documents-few approvals begun)
+  where
+    by : (step : Step (Unit {0})) → IfOk step (λ done. AllByRecursion (IsFew approvals) begun) → IfOk step (λ done. AreBegun Blind approvals begun)
+    by (Ok done) are = record {
+      within = firsts (IsWithin approvals) (HasFewPaths approvals) begun are;
+      few = λ blind. seconds (IsWithin approvals) (HasFewPaths approvals) begun are;
+    }
+    by (Err answer) are = tt
+
+-- the policies of a scene that is within the limits
+record AreWithin (way : Way) (approvals : List ApprovedDoc) (prepared : PreparedScene) : Type 0 where
+  pub entities : AllByRecursion (IsWithin approvals) (map entity_document prepared.entities)
+  pub begun : AreBegun way approvals prepared.begun
+
+scene-within : (way : Way) (prepared : PreparedScene) (approvals : List ApprovedDoc) → IfOk (limited_step way prepared approvals) (λ done. AreWithin way approvals prepared)
+unfolding limited_step
+scene-within way prepared approvals =
+    step-then (λ done. AllByRecursion (IsWithin approvals) (map entity_document prepared.entities)) (λ done. AreWithin way approvals prepared)
+    (limits_step approvals (map entity_document prepared.entities)) (λ done. begun_limits way approvals prepared.begun)
+    (documents-within approvals (map entity_document prepared.entities))
+    (λ done e entities. also (begun_limits way approvals prepared.begun) entities (begun-within way approvals prepared.begun))
+  where
+    also : (step : Step (Unit {0})) → AllByRecursion (IsWithin approvals) (map entity_document prepared.entities) → IfOk step (λ done. AreBegun way approvals prepared.begun)
+        → IfOk step (λ done. AreWithin way approvals prepared)
     also (Ok done) entities are = record { entities = entities; begun = are }
     also (Err answer) entities are = tt
 
@@ -178,7 +244,7 @@ scene-within prepared approvals =
 
 module _ (manner : Manner) (scene : Scene) (fits : SceneFits scene) (store : List NamedPolicy) (readable : AreReadable store) where
   parts-staged : (prepared : PreparedScene) → prepared_step store scene ≡ Ok prepared → AreReady prepared
-      → AreWithin (approved_documents store (Some prepared.sight)) prepared
+      → AreWithin (way_of manner) (approved_documents store (Some prepared.sight)) prepared
       → IsStaged (scenario_with manner scene prepared (approved_documents store (Some prepared.sight)))
   parts-staged prepared e ready are =
       let approvals = approved_documents store (Some prepared.sight) in
@@ -189,7 +255,8 @@ module _ (manner : Manner) (scene : Scene) (fits : SceneFits scene) (store : Lis
         entities = All-from_recursion (λ (entity : CompiledEntity). IsWalkable approvals entity.document.closed) prepared.entities
             (entities-walkable approvals forms prepared.entities (recursion_from_All IsReadyEntity prepared.entities ready.entities) are.entities);
         begun = All-from_recursion (λ (document : FilledDocument). IsWalkable approvals document.closed) prepared.begun
-            (documents-walkable approvals forms prepared.begun (recursion_from_All IsReadyDocument prepared.begun ready.begun) are.begun);
+            (documents-walkable approvals forms prepared.begun (recursion_from_All IsReadyDocument prepared.begun ready.begun) are.begun.within);
+        few = λ blind. All-from_recursion (HasFewPaths approvals) prepared.begun (are.begun.few blind);
         policies = prepared_have store scene prepared e;
       })
       ready.entities ready.begun (λ i document there. (each i document there).bounded) fits.clients
@@ -199,16 +266,21 @@ module _ (manner : Manner) (scene : Scene) (fits : SceneFits scene) (store : Lis
   unfolding staged_with staged_by
   scene-staged =
       step-then (AreReady) IsStaged (prepared_step store scene) _ (prepared-ready store readable scene)
-      (λ prepared e ready. step-then (λ done. AreWithin (approved_documents store (Some prepared.sight)) prepared) IsStaged
-      (limited_step prepared (approved_documents store (Some prepared.sight))) _ (scene-within prepared (approved_documents store (Some prepared.sight)))
+      (λ prepared e ready. step-then (λ done. AreWithin (way_of manner) (approved_documents store (Some prepared.sight)) prepared) IsStaged
+      (limited_step (way_of manner) prepared (approved_documents store (Some prepared.sight))) _ (scene-within (way_of manner) prepared (approved_documents store (Some prepared.sight)))
       (λ done within are. parts-staged prepared e ready are))
+
+any-step : (step : Step (Unit {0})) → IfOk step (λ done. ⊤)
+any-step (Ok done) = tt
+any-step (Err answer) = tt
 
 any-staged : (manner : Manner) (input : List ℕ) (all : List Document) → IfOk (staged_step manner input all) IsStaged
 unfolding staged_step
 any-staged manner input all =
     step-then SceneFits IsStaged (scene_of_bytes input) _ (scene-fits input)
-    (λ scene e fits. step-then AreReadable IsStaged (store_step all) _ (store-readable all)
-    (λ store f readable. scene-staged manner scene fits store readable))
+    (λ scene e fits. step-then (λ few. ⊤) IsStaged (begins_step (way_of manner) scene.script) _ (any-step (begins_step (way_of manner) scene.script))
+    (λ few g holds. step-then AreReadable IsStaged (store_step all) _ (store-readable all)
+    (λ store f readable. scene-staged manner scene fits store readable)))
 
 -- the scene that bytes and the documents of a shelf give
 pub step-staged : (manner : Manner) (input : List ℕ) (all : List Document) (staged : StagedScene) → staged_step manner input all ≡ Ok staged → IsStaged staged

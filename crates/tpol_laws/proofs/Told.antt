@@ -1,35 +1,40 @@
 -- What the report tells of a run of the script: that it is served exactly where it begins on a path.
-use Rattle.std.proofs.Common.{◌≡◌, ◌≤◌, ◌↔◌, ℕ, zero, suc, if◌then◌else◌, List, [], ◌∷◌, ◌++◌, All, Option, Some, None, length, replicate, refl, ap, sym, subst, ◌∙◌, append_assoc, append-nil, arith}
+use Rattle.std.proofs.Common.{◌≡◌, ◌≢◌, ◌≤◌, ◌↔◌, ℕ, zero, suc, if◌then◌else◌, List, [], ◌∷◌, ◌++◌, All, Option, Some, None, length, replicate, refl, ap, sym, subst, ◌∙◌, append_assoc, append-nil, arith}
 use Rattle.std.specs.List.{AllByRecursion}
 use Rattle.std.specs.Prelude.{Contains, find}
 use Rattle.std.proofs.lemmas.Bool.{eq-eqb}
 use Rattle.std.proofs.lemmas.List.Elements.{All-append, All-contains, All-cons, All-nil, Contains-append_left, Contains-append_right}
 use Rattle.tpol_choose.specs.Blocks.{first_block}
-use Rattle.tpol_driver.specs.declared.end.End.{End}
 use Rattle.tpol_driver.specs.declared.end.End.TheVariants.{Served}
-use Rattle.tpol_driver.specs.Driving.{Over, Standing, Starting}
+use Rattle.tpol_driver.specs.Driving.{Over, Standing}
 use Rattle.tpol_lines.specs.Lines.{line_of}
 use Rattle.tpol_lines.specs.Runs.{chosen_line, end_line, nobranch_line, over_line}
-use Rattle.tpol_perform.specs.Begin.{begun_nowhere, with_new_run}
+use Rattle.tpol_perform.specs.Begin.{begun_nowhere}
+use Rattle.tpol_perform.specs.NewRuns.{with_new_run}
 use Rattle.tpol_perform.specs.Performance.{PerformanceState, start_of, with_line}
 use Rattle.tpol_perform.specs.Script.{all_happened, happened, performed, turn_told}
 use Rattle.tpol_perform.specs.Turns.{turned, turned_by, turned_times, turned_to_end, turned_to_end_by}
 use Rattle.tpol_prepare.specs.declared.scenario.Scenario.{Scenario}
 use Rattle.tpol_prepare.specs.declared.scenario.StagedScene.{StagedScene}
+use Rattle.tpol_prepare.specs.declared.manner.Way.TheVariants as ways
+use Rattle.tpol_prepare.specs.Manner.{way_of}
 use Rattle.tpol_prepare.specs.Staged.{IsStaged}
-use Rattle.tpol_runs.specs.Courses.{next_of}
+use Rattle.tpol_runs.specs.declared.ended.Ended.{Ended}
+use Rattle.tpol_runs.specs.declared.ended.Ended.TheVariants as ended
+use Rattle.tpol_runs.specs.Courses.{end_of, next_of}
+use Rattle.tpol_runs.specs.Underway.{Sighted}
 use Rattle.tpol_runs.specs.Runs.{has_number, run_at, run_in}
 use Rattle.tpol_scene.specs.declared.script.ScriptEvent.{ScriptEvent}
 use Rattle.tpol_scene.specs.declared.script.ScriptEvent.TheVariants.{Begin, Turn}
 use Rattle.tpol_tree.specs.declared.path.Path.{Path}
 use Rattle.tpm_engine.specs.Sights.{sight_after}
 use Rattle.tpm_engine.specs.Views.{world_at}
-use Rattle.tpol_laws.specs.Acts.{begun}
+use Rattle.tpol_laws.specs.Acts.{Turn as OwnTurn, after_acts, begun}
 use Rattle.tpol_laws.specs.GoalBytes.{goal_bytes}
 use Rattle.tpol_laws.specs.PathCommands.{commands_along}
 use Rattle.tpol_laws.specs.Told.{BeginsNowhere, BeginsOn, HasTurns, IsAlone, IsServedOn, IsToldServed, RunOf, before_begin, begins, behind_begin, behind_own, bytes_for, chosen_for, paths_for, sight_at_begin, turns_for, turns_given, with_over}
 use Rattle.tpol_laws.proofs.Begun.{along-state, begins-nowhere, begins-on, begun-along-is, begun-is, begun-run-is, front, none-before, run-along, setup-before, stands-in}
-use Rattle.tpol_laws.proofs.Followed.{Follows, allows-any, any, entry_at, own-follow}
+use Rattle.tpol_laws.proofs.Followed.{Follows, allows-any, any, entry_at, own-follow, seat_of, sighted-turns, sighted_at}
 use Rattle.tpol_laws.proofs.Prints.{IsBehind, all-behind, all-spare, blocks-spare, found-begun}
 use Rattle.tpol_laws.proofs.Owing.{at-most-twice}
 use Rattle.tpol_laws.proofs.Served.{path-served}
@@ -46,9 +51,9 @@ unfolding all_happened
 all-append scenario [] ys p = refl
 all-append scenario (x ∷ xs) ys p = all-append scenario xs ys (happened scenario x p)
 
-turns-to-end : (number : ℕ) (before after : List ScriptEvent) → 1028 ≤ turns_for number (before ++ Turn number None ∷ after)
+turns-to-end : (number : ℕ) (before after : List ScriptEvent) → 65665 ≤ turns_for number (before ++ Turn number None ∷ after)
 turns-to-end number [] after =
-    let here : turns_given number (Turn number None) ≡ 1028 = ap (λ b. if b then 1028 else 0) (eq-eqb number number refl) in
+    let here : turns_given number (Turn number None) ≡ 65665 = ap (λ b. if b then 65665 else 0) (eq-eqb number number refl) in
     omega (arith, here)
 turns-to-end number (event ∷ before) after =
     let later = turns-to-end number before after in
@@ -76,7 +81,7 @@ module _ (staged : StagedScene) (run : RunOf staged.script) where
 
 module _ (staged : StagedScene) (run : RunOf staged.script) (is : IsStaged staged) where
   pub follows-begin : (position : ℕ) (path : Path) → chosen_for staged run ≡ Some position → behind_begin staged run ≡ along-state staged run is position path
-      → Follows (run-along staged run is path) run.number (behind_begin staged run) (behind_begin staged run) (begun (before_begin staged run).past)
+      → Follows (seat_of (run-along staged run is path)) run.number (behind_begin staged run) (behind_begin staged run) (sighted_at (run-along staged run is path) (begun (before_begin staged run).past))
   follows-begin position path chosen same = record {
     setup = ap (λ (p : PerformanceState). p.setup) same ∙ setup-before staged run is;
     past = ap (λ (p : PerformanceState). p.past) same;
@@ -86,20 +91,23 @@ module _ (staged : StagedScene) (run : RunOf staged.script) (is : IsStaged stage
     told = λ end over. absurd (not-over end over);
   }
     where
-      not-over : (end : End) → Starting ≡ Over end → ⊥
+      not-over : (end : Ended) → None ≡ Some end → ⊥
       not-over end over = cc
 
-  over-none : (path : Path) (at : Standing) (bytes : List ℕ) → at ≡ Over (Served bytes) → run_in (Some (entry_at (run-along staged run is path) run.number at)) ≡ None
-  over-none path at bytes over = ap (λ s. run_in (Some (entry_at (run-along staged run is path) run.number s))) over
+  over-none : (path : Path) (at : Standing) (bytes : List ℕ) → at ≡ Over (Served bytes) → run_in (Some (entry_at (seat_of (run-along staged run is path)) run.number (Sighted (record { plan = (run-along staged run is path).plan; standing = at })))) ≡ None
+  over-none path at bytes over = ap (λ s. run_in (Some (entry_at (seat_of (run-along staged run is path)) run.number (Sighted (record { plan = (run-along staged run is path).plan; standing = s }))))) over
 
-  pub served-on : IsAlone staged.scenario run.number run.own (behind_begin staged run) → (position : ℕ) (on : BeginsOn staged run position)
+  pub served-on : way_of staged.scenario.manner ≢ ways.Blind → IsAlone staged.scenario run.number run.own (behind_begin staged run) → (position : ℕ) (on : BeginsOn staged run position)
       → commands_along on.path ≤ turns_for run.number run.own → IsServedOn staged run position on.path
-  served-on alone position on enough =
+  served-on sees alone position on enough =
       let among = run-along staged run is on.path in
       let past = (before_begin staged run).past in
-      let same = begun-along-is staged run is position on.path on.chosen on.listed in
+      let same = begun-along-is staged run is sees position on.path on.chosen on.listed in
       let behind = front (IsBehind run.number) run.own run.after (stands-in staged run is).behind in
-      let follows = own-follow among run.number staged.scenario (behind_begin staged run) run.own behind (behind_begin staged run) (begun past) alone (follows-begin position on.path on.chosen same) in
+      let at = after_acts among (replicate (turns_for run.number run.own) OwnTurn) (begun past) in
+      let follows : Follows (seat_of among) run.number (behind_begin staged run) (behind_own staged run) (sighted_at among at) =
+      subst (Follows (seat_of among) run.number (behind_begin staged run) (behind_own staged run)) (sighted-turns among (turns_for run.number run.own) (begun past))
+      (own-follow (seat_of among) run.number staged.scenario (behind_begin staged run) run.own behind (behind_begin staged run) (sighted_at among (begun past)) alone (follows-begin position on.path on.chosen same)) in
       let opens = subst (λ setup. first_block on.path (sight_after setup past) (begins staged run).grants run.goal run.locality ≡ None) (setup-before staged run is) on.opens in
       let bytes = goal_bytes (world_at staged.setup past) run.goal in
       let given : bytes ≡ bytes_for staged run = ap (λ setup. goal_bytes (world_at setup past) run.goal) (sym (setup-before staged run is)) in
@@ -107,7 +115,8 @@ module _ (staged : StagedScene) (run : RunOf staged.script) (is : IsStaged stage
       record {
         added = follows.added;
         printed = follows.lines ∙ ap (λ l. l ++ follows.added) on.printed ∙ append_assoc (before_begin staged run).lines (line_of (chosen_line run.number position on.path.steps) ∷ []) follows.added;
-        served = subst (λ (b : List ℕ). Contains follows.added (line_of (end_line run.number (Served b)))) given (follows.told (Served bytes) served);
+        served = subst (λ (b : List ℕ). Contains follows.added (line_of (end_line run.number (Served b)))) given
+            (follows.told (ended.Sighted (Served bytes)) (ap (λ s. end_of (Sighted (record { plan = among.plan; standing = s }))) served));
         over = ap run_in follows.found ∙ over-none on.path _ bytes served;
       }
 
@@ -137,51 +146,51 @@ module _ (staged : StagedScene) (run : RunOf staged.script) (is : IsStaged stage
       let spares = all-spare (IsUnserved run.number) run.number (allows-unserved run.number (stands-in staged run is).begins.greatest) staged.scenario run.before (stands-in staged run is).others (start_of staged.setup) in
       subst (All (IsUnserved run.number)) (sym spares.lines) spares.each
 
-  none-at-begin : chosen_for staged run ≡ None → All (IsUnserved run.number) (behind_begin staged run).lines
+  none-at-begin : way_of staged.scenario.manner ≢ ways.Blind → chosen_for staged run ≡ None → All (IsUnserved run.number) (behind_begin staged run).lines
   unfolding begun_nowhere
-  none-at-begin chosen =
+  none-at-begin sees chosen =
       let allows = allows-unserved run.number (stands-in staged run is).begins.greatest in
       let p = with_new_run run.number None (before_begin staged run) in
       let spares = blocks-spare (IsUnserved run.number) run.number allows staged.scenario (sight_at_begin staged run) (begins staged run) 1 (paths_for staged run) (with_line (nobranch_line run.number) p) in
-      subst (All (IsUnserved run.number)) (sym (ap (λ (q : PerformanceState). q.lines) (begun-is staged run is None chosen) ∙ spares.lines))
+      subst (All (IsUnserved run.number)) (sym (ap (λ (q : PerformanceState). q.lines) (begun-is staged run is sees None chosen) ∙ spares.lines))
       (All-append (IsUnserved run.number) ((before_begin staged run).lines ++ line_of (nobranch_line run.number) ∷ []) spares.added
       (All-append (IsUnserved run.number) (before_begin staged run).lines (line_of (nobranch_line run.number) ∷ []) none-told
       (All-cons (IsUnserved run.number) (line_of (nobranch_line run.number)) [] (allows.nobranch run.number) (All-nil (IsUnserved run.number)))) spares.each)
 
-  never-told : chosen_for staged run ≡ None → IsToldServed run.number (performed staged).lines → ⊥
-  never-told chosen told =
+  never-told : way_of staged.scenario.manner ≢ ways.Blind → chosen_for staged run ≡ None → IsToldServed run.number (performed staged).lines → ⊥
+  never-told sees chosen told =
       let allows = allows-unserved run.number (stands-in staged run is).begins.greatest in
-      let nowhere = begins-nowhere staged run is chosen in
+      let nowhere = begins-nowhere staged run is sees chosen in
       let spares = all-behind (IsUnserved run.number) run.number allows staged.scenario (run.own ++ run.after) (stands-in staged run is).behind (behind_begin staged run) nowhere.over in
       let line = line_of (end_line run.number (Served told.0)) in
       let all : All (IsUnserved run.number) (performed staged).lines =
       subst (All (IsUnserved run.number)) (sym (ap (λ (p : PerformanceState). p.lines) (performed-is staged run) ∙ spares.lines))
-      (All-append (IsUnserved run.number) (behind_begin staged run).lines spares.added (none-at-begin chosen) spares.each) in
+      (All-append (IsUnserved run.number) (behind_begin staged run).lines spares.added (none-at-begin sees chosen) spares.each) in
       All-contains (IsUnserved run.number) (performed staged).lines line all told.1 told.0 refl
 
   -- ---- exactly
 
-  on-path : IsToldServed run.number (performed staged).lines → (chosen : Option ℕ) → chosen_for staged run ≡ chosen → (position : ℕ) × BeginsOn staged run position
-  on-path told None chosen = absurd (never-told chosen told)
-  on-path told (Some position) chosen = (position, begins-on staged run is position chosen)
+  on-path : way_of staged.scenario.manner ≢ ways.Blind → IsToldServed run.number (performed staged).lines → (chosen : Option ℕ) → chosen_for staged run ≡ chosen → (position : ℕ) × BeginsOn staged run position
+  on-path sees told None chosen = absurd (never-told sees chosen told)
+  on-path sees told (Some position) chosen = (position, begins-on staged run is sees position chosen)
 
-  pub served-exactly : IsAlone staged.scenario run.number run.own (behind_begin staged run) → HasTurns staged run
+  pub served-exactly : way_of staged.scenario.manner ≢ ways.Blind → IsAlone staged.scenario run.number run.own (behind_begin staged run) → HasTurns staged run
       → IsToldServed run.number (performed staged).lines ↔ ((position : ℕ) × BeginsOn staged run position)
-  served-exactly alone turns = (
-    λ told. on-path told (chosen_for staged run) refl,
-    λ on. (bytes_for staged run, served-told on.0 on.1.path (served-on alone on.0 on.1 (turns on.0 on.1))),
+  served-exactly sees alone turns = (
+    λ told. on-path sees told (chosen_for staged run) refl,
+    λ on. (bytes_for staged run, served-told on.0 on.1.path (served-on sees alone on.0 on.1 (turns on.0 on.1))),
   )
 
-  pub served-with : IsAlone staged.scenario run.number run.own (behind_begin staged run) → HasTurns staged run → (position : ℕ) → BeginsOn staged run position
+  pub served-with : way_of staged.scenario.manner ≢ ways.Blind → IsAlone staged.scenario run.number run.own (behind_begin staged run) → HasTurns staged run → (position : ℕ) → BeginsOn staged run position
       → Contains (performed staged).lines (line_of (end_line run.number (Served (bytes_for staged run))))
-  served-with alone turns position on = served-told position on.path (served-on alone position on (turns position on))
+  served-with sees alone turns position on = served-told position on.path (served-on sees alone position on (turns position on))
 
   -- ---- turns to its end
 
   pub to-end-enough : (before after : List ScriptEvent) → run.own ≡ before ++ Turn run.number None ∷ after → HasTurns staged run
   to-end-enough before after own position on =
       let short : length on.path.moves ≤ 512 = (begun-run-is staged run is on.path _ on.listed).short in
-      let given : 1028 ≤ turns_for run.number run.own = subst (λ events. 1028 ≤ turns_for run.number events) (sym own) (turns-to-end run.number before after) in
+      let given : 65665 ≤ turns_for run.number run.own = subst (λ events. 65665 ≤ turns_for run.number events) (sym own) (turns-to-end run.number before after) in
       omega (arith, short, given, at-most-twice on.path.moves)
 
 -- ---- turns of a run that is over

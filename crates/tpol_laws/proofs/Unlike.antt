@@ -121,6 +121,8 @@ allows-unserved number within = record {
   block = λ position steps block. starts-apart number _ (λ (e : 98 ≡ 114). omega (arith, e));
   chosen = λ run position steps. word-apart number run _ (λ (e : 112 ≡ 115). omega (arith, e));
   nobranch = λ run. word-apart number run _ (λ (e : 110 ≡ 115). omega (arith, e));
+  blind = λ run. word-apart number run _ (λ (e : 98 ≡ 115). omega (arith, e));
+  tried = λ position steps tried. starts-apart number _ (λ (e : 98 ≡ 114). omega (arith, e));
   over = λ run. word-apart number run _ (λ (e : 111 ≡ 115). omega (arith, e));
   ends = λ run end apart small. number-apart number run (end_text end) apart small within;
 }

@@ -10,7 +10,7 @@ use Rattle.tpol_lines.specs.Lines.{line_of}
 use Rattle.tpol_lines.specs.Runs.{chosen_line, end_line, nobranch_line, over_line}
 use Rattle.tpol_name.specs.declared.sight.Sight.{Sight}
 use Rattle.tpol_perform.specs.declared.new_run.NewRun.{NewRun}
-use Rattle.tpol_perform.specs.Begin.{new_run}
+use Rattle.tpol_perform.specs.NewRuns.{new_run}
 use Rattle.tpol_perform.specs.Performance.{PerformanceState, start_of}
 use Rattle.tpol_perform.specs.Script.{all_happened, happened}
 use Rattle.tpol_prepare.specs.declared.scenario.Scenario.{Scenario}
@@ -79,9 +79,9 @@ IsAlone scenario number (event ∷ rest) p =
     ((is_turn_of number event ≡ true) ⊎ ((happened scenario event p).past ≡ p.past))
     × IsAlone scenario number rest (happened scenario event p)
 
--- how many turns it has; those to its end are as many as the longest path can need
+-- how many turns it has; those to its end are as many as any run can need
 abbrev pub times_given : Option ℕ → ℕ
-times_given None = 1028
+times_given None = 65665
 times_given (Some times) = times
 
 abbrev pub turns_given : ℕ → ScriptEvent → ℕ

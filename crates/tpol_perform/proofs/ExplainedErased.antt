@@ -32,7 +32,8 @@ use Rattle.tpol_prepare.specs.Entities.{erased_entity}
 use Rattle.tpol_perform.specs.Explained.{IsExplained, IsExplainedScene}
 use Rattle.tpol_perform.specs.Performance.{PerformanceState}
 use Rattle.tpol_prepare.specs.Prepared.{prepared_step}
-use Rattle.tpol_prepare.specs.Manner.{explains}
+use Rattle.tpol_prepare.specs.Begins.{begins_step}
+use Rattle.tpol_prepare.specs.Manner.{explains, way_of}
 use Rattle.tpol_prepare.specs.Scenario.{HasPolicyAt, HavePolicies, IsScenarioOf, erased_scenario, erased_staged, is_entity, limited_step, policy_of_entity, scenario_with, staged_by, staged_step, staged_with}
 use Rattle.tpol_steps.specs.SceneStep.{scene_of_bytes}
 use Rattle.tpol_perform.specs.Script.{performance_answer, performed}
@@ -146,7 +147,7 @@ module _ (manner : Manner) where
   manner_by : (scene : Scene) (prepared : PreparedScene) (approvals : List ApprovedDoc) (staged : StagedScene) → staged_by manner scene prepared approvals ≡ Ok staged → HasManner staged
   unfolding staged_by
   manner_by scene prepared approvals staged =
-      through (limited_step prepared approvals) (λ within. Ok (scenario_with manner scene prepared approvals)) staged
+      through (limited_step (way_of manner) prepared approvals) (λ within. Ok (scenario_with manner scene prepared approvals)) staged
       (λ within e. let same : scenario_with manner scene prepared approvals ≡ staged = cc in subst HasManner same refl)
 
   manner_with : (scene : Scene) (store : List NamedPolicy) (staged : StagedScene) → staged_with manner scene store ≡ Ok staged → HasManner staged
@@ -158,8 +159,9 @@ module _ (manner : Manner) where
   manner_staged : (input : List ℕ) (all : List Document) (staged : StagedScene) → staged_step manner input all ≡ Ok staged → HasManner staged
   unfolding staged_step
   manner_staged input all staged =
-      through (scene_of_bytes input) (λ scene. store_step all >>= λ store. staged_with manner scene store) staged
-      (λ scene. through (store_step all) (λ store. staged_with manner scene store) staged (λ store. manner_with scene store staged))
+      through (scene_of_bytes input) (λ scene. begins_step (way_of manner) scene.script >>= λ few. store_step all >>= λ store. staged_with manner scene store) staged
+      (λ scene. through (begins_step (way_of manner) scene.script) (λ few. store_step all >>= λ store. staged_with manner scene store) staged
+      (λ few. through (store_step all) (λ store. staged_with manner scene store) staged (λ store. manner_with scene store staged)))
 
 -- ---- what is answered where openings are told
 

@@ -1,7 +1,9 @@
 pub mod AgreeingFacts
+mod AllPaths
 pub mod Certified
 pub mod Chosen
 pub mod ExplainedErased
+mod FewPaths
 pub mod Masks
 pub mod OpenedMeets
 pub mod OpenedTold
@@ -12,4 +14,5 @@ pub mod PerformanceErased
 pub mod SoundFacts
 pub mod Timeless
 pub mod Told
+mod TryLines
 pub mod TurnSteps

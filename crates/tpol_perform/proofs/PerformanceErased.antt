@@ -10,7 +10,11 @@ use Rattle.tpol_choose.specs.Blocks.{chosen_path}
 use Rattle.tpol_digest.proofs.Erasures.{paths_ignore_boxes}
 use Rattle.tpol_digest.specs.Paths.{paths_of}
 use Rattle.tpol_name.specs.declared.sight.Sight.{Sight}
+use Rattle.tpol_runs.specs.declared.ended.Ended.{Ended}
+use Rattle.tpol_runs.specs.declared.ended.Ended.TheVariants as ended
 use Rattle.tpol_runs.specs.declared.sent.Sent.{Sent}
+use Rattle.tpol_runs.specs.Courses.{end_told, goes_on, heard_by}
+use Rattle.tpol_runs.specs.Runs.{run_at, with_run}
 use Rattle.tpol_scene.specs.declared.script.ScriptEvent.{ScriptEvent}
 use Rattle.tpol_scene.specs.declared.script.ScriptEvent.TheVariants.{Command, Begin, Turn, Time, Presence, Reset}
 use Rattle.tpol_steps.specs.declared.answer.Verdict.TheVariants.{Done}
@@ -18,17 +22,21 @@ use Rattle.tpol_steps.specs.declared.filled.FilledDocument.{FilledDocument}
 use Rattle.tpol_prepare.specs.declared.entities.CompiledEntity.{CompiledEntity}
 use Rattle.tpol_perform.specs.declared.new_run.NewRun.{NewRun}
 use Rattle.tpol_prepare.specs.declared.manner.Manner.{Manner}
+use Rattle.tpol_prepare.specs.declared.manner.Way.{Way}
+use Rattle.tpol_prepare.specs.declared.manner.Way.TheVariants.{Blind, Sighted}
 use Rattle.tpol_prepare.specs.declared.scenario.Scenario.{Scenario}
 use Rattle.tpol_prepare.specs.declared.scenario.StagedScene.{StagedScene}
-use Rattle.tpol_perform.specs.Begin.{begun_along, begun_at, begun_on, new_run, run_begun}
+use Rattle.tpol_perform.specs.Begin.{begun_along, begun_at, begun_by, begun_in_sight, begun_on, run_begun}
+use Rattle.tpol_perform.specs.Blind.{begun_blindly, begun_by_plan, blind_plan, with_blind_end}
+use Rattle.tpol_perform.specs.NewRuns.{new_run}
 use Rattle.tpol_perform.specs.CommandsTold.{certificate_of_opening, command_told, commanded, opening_told, policy_opened, with_certificate, with_opening}
 use Rattle.tpol_prepare.specs.Entities.{erased_entity}
 use Rattle.tpol_steps.specs.Filled.{erased_filled}
 use Rattle.tpol_perform.specs.Performance.{PerformanceState, number_in, start_of}
-use Rattle.tpol_prepare.specs.Manner.{certifies, explains}
+use Rattle.tpol_prepare.specs.Manner.{certifies, explains, way_of}
 use Rattle.tpol_prepare.specs.Scenario.{erased_scenario, erased_staged, is_document, is_entity, paths_in, paths_named}
 use Rattle.tpol_perform.specs.Script.{all_happened, happened, performance_answer, performed, turn_told}
-use Rattle.tpol_perform.specs.Turns.{replied, sent, sent_now, turned, turned_and, turned_by, turned_on, turned_times, turned_to_end, turned_to_end_by, most_turns}
+use Rattle.tpol_perform.specs.Turns.{replied, sent, sent_now, turned, turned_and, turned_by, turned_on, turned_times, turned_to_end, turned_to_end_by, most_turns, with_end}
 use Rattle.tpol_prepare.proofs.EntitiesErased.{reversed_erased}
 use Rattle.tpol_perform.proofs.OpeningErased.{opening_of_erased}
 use Rattle.tpol_trace.specs.declared.answer.Opening.{Opening}
@@ -76,7 +84,7 @@ told_erased true scenario event (Some opened) p =
     ap (λ (l : List CompiledEntity). policy_opened scenario.manner (map erased_document scenario.approvals) event opened.facts (option_map (λ entity. entity.document.closed) (find (is_entity opened.entity) l)) p) (reversed_erased scenario.entities)
     ∙ entity_erased scenario.manner scenario.approvals event opened.facts opened.entity p (reverse scenario.entities)
 
--- ---- commands and turns
+-- ---- commands
 
 commanded_erased : (scenario : Scenario) (client locality : ℕ) (buffer : List ℕ) (p : PerformanceState) → commanded (erased_scenario scenario) client locality buffer p ≡ commanded scenario client locality buffer p
 unfolding commanded
@@ -84,10 +92,39 @@ commanded_erased scenario client locality buffer p =
     told_erased (explains scenario.manner) scenario (number_in p) (opened_to p.setup p.past locality buffer)
     (command_told client locality buffer (answer_to p.setup p.past locality buffer) p)
 
+-- ---- ends
+
+named_erased : (approvals : List ApprovedDoc) (name : List ℕ) (begun : List FilledDocument) → paths_in (map erased_document approvals) (find (is_document name) (map erased_filled begun)) ≡ paths_in approvals (find (is_document name) begun)
+named_erased approvals name [] = refl
+named_erased approvals name (document ∷ rest) =
+    elim (bytes_eq document.name name) as (λ b. paths_in (map erased_document approvals) (if b then Some (erased_filled document) else find (is_document name) (map erased_filled rest))
+    ≡ paths_in approvals (if b then Some document else find (is_document name) rest)) [
+      | true ↦ paths_ignore_boxes document.closed approvals
+      | false ↦ named_erased approvals name rest
+    ]
+
+paths_erased : (scenario : Scenario) (policy : List ℕ) → paths_named (erased_scenario scenario) policy ≡ paths_named scenario policy
+unfolding paths_named
+paths_erased scenario policy = named_erased scenario.approvals policy scenario.begun
+
+end_erased : (scenario : Scenario) (run : ℕ) (end : Option Ended) (p : PerformanceState) → with_end (erased_scenario scenario) run end p ≡ with_end scenario run end p
+end_erased scenario run None p = refl
+end_erased scenario run (Some (ended.Sighted end)) p = refl
+end_erased scenario run (Some (ended.Blind policy end)) p = ap (λ (paths : List Path). with_blind_end run paths end p) (paths_erased scenario policy)
+
+replied_erased : (scenario : Scenario) (run : ℕ) (reply : List ℕ) (p : PerformanceState) → replied (erased_scenario scenario) run reply p ≡ replied scenario run reply p
+unfolding replied
+replied_erased scenario run reply p =
+    end_erased scenario run (end_told (heard_by (run_at p.runs run) reply)) (record p { runs = with_run p.runs run (goes_on (heard_by (run_at p.runs run) reply)) })
+
+-- ---- turns
+
 sent_erased : (scenario : Scenario) (run : ℕ) (command : Sent) (p : PerformanceState) → sent (erased_scenario scenario) run command p ≡ sent scenario run command p
 unfolding sent
 sent_erased scenario run command p =
-    ap (replied run (answer_to p.setup p.past command.locality command.buffer).reply) (commanded_erased scenario command.client command.locality command.buffer p)
+    let reply = (answer_to p.setup p.past command.locality command.buffer).reply in
+    ap (replied (erased_scenario scenario) run reply) (commanded_erased scenario command.client command.locality command.buffer p)
+    ∙ replied_erased scenario run reply (commanded scenario command.client command.locality command.buffer p)
 
 by_erased : (scenario : Scenario) (run : ℕ) (next : Option Sent) (p : PerformanceState) → turned_by (erased_scenario scenario) run next p ≡ turned_by scenario run next p
 by_erased scenario run None p = refl
@@ -126,15 +163,6 @@ turn_erased scenario run (Some times) p = times_erased scenario run times p
 
 -- ---- runs that begin
 
-named_erased : (approvals : List ApprovedDoc) (name : List ℕ) (begun : List FilledDocument) → paths_in (map erased_document approvals) (find (is_document name) (map erased_filled begun)) ≡ paths_in approvals (find (is_document name) begun)
-named_erased approvals name [] = refl
-named_erased approvals name (document ∷ rest) =
-    elim (bytes_eq document.name name) as (λ b. paths_in (map erased_document approvals) (if b then Some (erased_filled document) else find (is_document name) (map erased_filled rest))
-    ≡ paths_in approvals (if b then Some document else find (is_document name) rest)) [
-      | true ↦ paths_ignore_boxes document.closed approvals
-      | false ↦ named_erased approvals name rest
-    ]
-
 along_erased : (scenario : Scenario) (position : ℕ) (run : NewRun) (path : Option Path) (p : PerformanceState) → begun_along (erased_scenario scenario) position run path p ≡ begun_along scenario position run path p
 along_erased scenario position run None p = refl
 along_erased scenario position run (Some path) p = refl
@@ -143,11 +171,24 @@ at_erased : (scenario : Scenario) (sight : Sight) (paths : List Path) (run : New
 at_erased scenario sight paths run None p = refl
 at_erased scenario sight paths run (Some position) p = along_erased scenario position run (slice_get paths (position - 1)) p
 
-begun_erased : (scenario : Scenario) (policy : List ℕ) (run : NewRun) (p : PerformanceState) → run_begun (erased_scenario scenario) policy run p ≡ run_begun scenario policy run p
-unfolding run_begun begun_on paths_named
-begun_erased scenario policy run p =
-    ap (λ (paths : List Path). begun_at (erased_scenario scenario) (sight_after p.setup p.past) paths run (chosen_path paths (sight_after p.setup p.past) run.grants run.goal run.locality) p) (named_erased scenario.approvals policy scenario.begun)
+sighted_erased : (scenario : Scenario) (policy : List ℕ) (run : NewRun) (p : PerformanceState) → begun_in_sight (erased_scenario scenario) policy run p ≡ begun_in_sight scenario policy run p
+unfolding begun_in_sight begun_on
+sighted_erased scenario policy run p =
+    ap (λ (paths : List Path). begun_at (erased_scenario scenario) (sight_after p.setup p.past) paths run (chosen_path paths (sight_after p.setup p.past) run.grants run.goal run.locality) p) (paths_erased scenario policy)
     ∙ at_erased scenario (sight_after p.setup p.past) (paths_named scenario policy) run (chosen_path (paths_named scenario policy) (sight_after p.setup p.past) run.grants run.goal run.locality) p
+
+blindly_erased : (scenario : Scenario) (policy : List ℕ) (run : NewRun) (p : PerformanceState) → begun_blindly (erased_scenario scenario) policy run p ≡ begun_blindly scenario policy run p
+unfolding begun_blindly
+blindly_erased scenario policy run p =
+    ap (λ (paths : List Path). begun_by_plan policy run (blind_plan scenario paths run) p) (paths_erased scenario policy)
+
+way_erased : (way : Way) (scenario : Scenario) (policy : List ℕ) (run : NewRun) (p : PerformanceState) → begun_by way (erased_scenario scenario) policy run p ≡ begun_by way scenario policy run p
+way_erased Sighted scenario policy run p = sighted_erased scenario policy run p
+way_erased Blind scenario policy run p = blindly_erased scenario policy run p
+
+begun_erased : (scenario : Scenario) (policy : List ℕ) (run : NewRun) (p : PerformanceState) → run_begun (erased_scenario scenario) policy run p ≡ run_begun scenario policy run p
+unfolding run_begun
+begun_erased scenario policy run p = way_erased (way_of scenario.manner) scenario policy run p
 
 -- a run that begins, and goes to its end
 pub run_erased : (scenario : Scenario) (policy : List ℕ) (run : NewRun) (number : ℕ) (p : PerformanceState) → turned_to_end (erased_scenario scenario) number (run_begun (erased_scenario scenario) policy run p) ≡ turned_to_end scenario number (run_begun scenario policy run p)

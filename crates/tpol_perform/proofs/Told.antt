@@ -14,28 +14,41 @@ use Rattle.tpm_rules.specs.declared.outcome.Outcome.{Outcome}
 use Rattle.tpol_choose.specs.declared.block.Block.{Block}
 use Rattle.tpol_choose.specs.Blocks.{chosen_path, first_block}
 use Rattle.tpol_digest.specs.Paths.{paths_of}
-use Rattle.tpol_driver.specs.declared.end.End.{End}
+use Rattle.tpol_driver.specs.declared.blind_end.BlindEnd.{BlindEnd}
+use Rattle.tpol_driver.specs.declared.blind_end.BlindEnd.TheVariants as blind_ends
+use Rattle.tpol_driver.specs.declared.blind_end.Tried.{Tried}
+use Rattle.tpol_driver.specs.declared.blind_plan.BlindPlan.{BlindPlan}
+use Rattle.tpol_driver.specs.declared.end.End.TheVariants as ends
+use Rattle.tpol_driver.specs.Blind.{first_complete, none_tried}
 use Rattle.tpol_lines.specs.Lines.{line_of}
 use Rattle.tpol_lines.specs.BlockLine.{block_line}
 use Rattle.tpol_lines.specs.CertLine.{certificate_line}
 use Rattle.tpol_lines.specs.Events.{command_line, presence_line, reset_line, time_line}
 use Rattle.tpol_lines.specs.OpeningLine.{opening_line}
-use Rattle.tpol_lines.specs.Runs.{chosen_line, end_line, nobranch_line, over_line}
+use Rattle.tpol_lines.specs.Runs.{blind_line, chosen_line, end_line, nobranch_line, over_line}
+use Rattle.tpol_lines.specs.TriedLine.{tried_line}
 use Rattle.tpol_name.specs.declared.setup.Setup.{Setup}
 use Rattle.tpol_name.specs.declared.sight.Sight.{Sight}
+use Rattle.tpol_runs.specs.declared.ended.Ended.{Ended}
+use Rattle.tpol_runs.specs.declared.ended.Ended.TheVariants as ended
 use Rattle.tpol_runs.specs.declared.sent.Sent.{Sent}
-use Rattle.tpol_runs.specs.Courses.{begun, end_told, goes_on, heard_by}
+use Rattle.tpol_runs.specs.Courses.{begun, begun_blind, end_told, goes_on, heard_by}
 use Rattle.tpol_runs.specs.Runs.{run_at, with_run}
+use Rattle.tpol_runs.specs.Underway.{Underway}
 use Rattle.tpol_scene.specs.declared.script.ScriptEvent.{ScriptEvent}
 use Rattle.tpol_scene.specs.declared.script.ScriptEvent.TheVariants.{Command, Begin, Turn, Time, Presence, Reset}
 use Rattle.tpol_perform.specs.declared.new_run.NewRun.{NewRun}
+use Rattle.tpol_prepare.specs.declared.manner.Way.{Way}
+use Rattle.tpol_prepare.specs.declared.manner.Way.TheVariants.{Blind, Sighted}
 use Rattle.tpol_prepare.specs.declared.scenario.Scenario.{Scenario}
 use Rattle.tpol_prepare.specs.declared.scenario.StagedScene.{StagedScene}
-use Rattle.tpol_perform.specs.Begin.{begun_along, begun_at, begun_nowhere, begun_on, new_run, plan_along, run_begun, with_block, with_blocks, with_new_run}
+use Rattle.tpol_perform.specs.Begin.{begun_along, begun_at, begun_by, begun_in_sight, begun_nowhere, begun_on, plan_along, run_begun, with_block, with_blocks}
+use Rattle.tpol_perform.specs.Blind.{begun_blindly, begun_by_plan, begun_on_tries, blind_plan, with_blind_end, with_nobranch, with_path, with_tries}
+use Rattle.tpol_perform.specs.NewRuns.{new_run, with_new_run}
 use Rattle.tpol_perform.specs.CommandsTold.{certificate_of_opening, command_told, commanded, opening_told, policy_opened, with_certificate, with_opening}
 use Rattle.tpol_perform.specs.Explained.{IsCertifiedBehind, IsExplained, IsJudged, IsOpened, IsTold}
 use Rattle.tpol_perform.specs.Performance.{PerformanceState, number_in, start_of, with_event, with_line}
-use Rattle.tpol_prepare.specs.Manner.{certifies, explains}
+use Rattle.tpol_prepare.specs.Manner.{certifies, explains, way_of}
 use Rattle.tpol_prepare.specs.Scenario.{HavePolicies, paths_named, policy_of_entity}
 use Rattle.tpol_perform.specs.Script.{all_happened, happened, performed, turn_told}
 use Rattle.tpol_perform.specs.Turns.{most_turns, replied, sent, sent_now, turned, turned_and, turned_by, turned_on, turned_times, turned_to_end, turned_to_end_by, with_end}
@@ -224,11 +237,36 @@ module _ (setup : Setup) (scenario : Scenario) (tells : explains scenario.manner
 
   -- ---- turns
 
-  with_end_so : (run : ℕ) (end : Option End) (p : PerformanceState) → Told p → Told (with_end run end p)
-  with_end_so run None p h = h
-  with_end_so run (Some end) p h = with_text (end_line run end) p h
+  -- what became of paths
+  tries_so : (position : ℕ) (paths : List Path) (tries : List Tried) (p : PerformanceState) → Told p → Told (with_tries position paths tries p)
+  unfolding with_tries
+  tries_so position [] tries p h = h
+  tries_so position (path ∷ paths) [] p h = h
+  tries_so position (path ∷ paths) (tried ∷ tries) p h =
+      tries_so (position + 1) paths tries (with_line (tried_line position path.steps tried) p) (with_text (tried_line position path.steps tried) p h)
 
-  replied_so : (run : ℕ) (reply : List ℕ) (p : PerformanceState) → Told p → Told (replied run reply p)
+  nobranch_so : (run : ℕ) (paths : List Path) (tries : List Tried) (p : PerformanceState) → Told p → Told (with_nobranch run paths tries p)
+  nobranch_so run paths tries p h = tries_so 1 paths tries (with_line (nobranch_line run) p) (with_text (nobranch_line run) p h)
+
+  path_so : (run position : ℕ) (path : Option Path) (p : PerformanceState) → Told p → Told (with_path run position path p)
+  path_so run position None p h = h
+  path_so run position (Some path) p h = with_text (chosen_line run position path.steps) p h
+
+  blind_end_so : (run : ℕ) (paths : List Path) (end : BlindEnd) (p : PerformanceState) → Told p → Told (with_blind_end run paths end p)
+  unfolding with_blind_end
+  blind_end_so run paths (blind_ends.Served position bytes) p h =
+      let path = slice_get paths (position - 1) in
+      with_text (end_line run (ends.Served bytes)) (with_path run position path p) (path_so run position path p h)
+  blind_end_so run paths (blind_ends.NoBranch tries) p h = nobranch_so run paths tries p h
+  blind_end_so run paths (blind_ends.Denied at rc) p h = with_text (end_line run (ends.Denied at rc)) p h
+  blind_end_so run paths (blind_ends.BadReply at) p h = with_text (end_line run (ends.BadReply at)) p h
+
+  with_end_so : (run : ℕ) (end : Option Ended) (p : PerformanceState) → Told p → Told (with_end scenario run end p)
+  with_end_so run None p h = h
+  with_end_so run (Some (ended.Sighted end)) p h = with_text (end_line run end) p h
+  with_end_so run (Some (ended.Blind policy end)) p h = blind_end_so run (paths_named scenario policy) end p h
+
+  replied_so : (run : ℕ) (reply : List ℕ) (p : PerformanceState) → Told p → Told (replied scenario run reply p)
   unfolding replied
   replied_so run reply p h =
       with_end_so run (end_told (heard_by (run_at p.runs run) reply)) (record p { runs = with_run p.runs run (goes_on (heard_by (run_at p.runs run) reply)) })
@@ -300,12 +338,34 @@ module _ (setup : Setup) (scenario : Scenario) (tells : explains scenario.manner
   at_so sight paths run None p h = nowhere_so sight run paths p h
   at_so sight paths run (Some position) p h = along_so position run (slice_get paths (position - 1)) p h
 
-  begun_so : (policy : List ℕ) (run : NewRun) (p : PerformanceState) → Told p → Told (run_begun scenario policy run p)
-  unfolding run_begun begun_on
-  begun_so policy run p h =
+  sighted_so : (policy : List ℕ) (run : NewRun) (p : PerformanceState) → Told p → Told (begun_in_sight scenario policy run p)
+  unfolding begun_in_sight begun_on
+  sighted_so policy run p h =
       let sight = sight_after p.setup p.past in
       let paths = paths_named scenario policy in
       at_so sight paths run (chosen_path paths sight run.grants run.goal run.locality) p h
+
+  on_tries_so : (number : ℕ) (run : Underway) (plan : BlindPlan) (first : Option ℕ) (p : PerformanceState) → Told p → Told (begun_on_tries number run plan first p)
+  on_tries_so number run plan None p h =
+      nobranch_so number plan.paths (none_tried plan) (with_new_run number None p) (record { starts = h.starts; legal = h.legal; each = h.each })
+  on_tries_so number run plan (Some position) p h = record { starts = h.starts; legal = h.legal; each = h.each }
+
+  by_plan_so : (policy : List ℕ) (run : NewRun) (plan : BlindPlan) (p : PerformanceState) → Told p → Told (begun_by_plan policy run plan p)
+  by_plan_so policy run plan p h =
+      on_tries_so run.number (begun_blind run.client run.locality policy plan) plan (first_complete plan) (with_line (blind_line run.number) p)
+      (with_text (blind_line run.number) p h)
+
+  blindly_so : (policy : List ℕ) (run : NewRun) (p : PerformanceState) → Told p → Told (begun_blindly scenario policy run p)
+  unfolding begun_blindly
+  blindly_so policy run p h = by_plan_so policy run (blind_plan scenario (paths_named scenario policy) run) p h
+
+  by_so : (way : Way) (policy : List ℕ) (run : NewRun) (p : PerformanceState) → Told p → Told (begun_by way scenario policy run p)
+  by_so Sighted policy run p h = sighted_so policy run p h
+  by_so Blind policy run p h = blindly_so policy run p h
+
+  begun_so : (policy : List ℕ) (run : NewRun) (p : PerformanceState) → Told p → Told (run_begun scenario policy run p)
+  unfolding run_begun
+  begun_so policy run p h = by_so (way_of scenario.manner) policy run p h
 
   -- ---- the script
 

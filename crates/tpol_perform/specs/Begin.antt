@@ -1,34 +1,24 @@
--- A run begins: on the first path of its policy that its client can go, or on none.
-use Rattle.std.specs.Prelude.{ℕ, ◌+◌, ◌-◌, List, [], ◌∷◌, ◌++◌, codes, Option, Some, None, slice_get}
-use Rattle.std.specs.Int.{to_be_bytes, w32}
+-- A run begins: on the first path of its policy that its client can go, or on none; or blindly.
+use Rattle.std.specs.Prelude.{ℕ, ◌+◌, ◌-◌, List, [], ◌∷◌, Option, Some, None, slice_get}
 use Rattle.tpm_engine.specs.Sights.{sight_after}
-use Rattle.tpol_base.specs.declared.digest.Digest32.{Digest32}
 use Rattle.tpol_choose.specs.declared.block.Block.{Block}
 use Rattle.tpol_choose.specs.Blocks.{chosen_path, first_block}
 use Rattle.tpol_driver.specs.declared.plan.Plan.{Plan}
-use Rattle.tpol_goal.specs.declared.goal.Goal.{Goal}
-use Rattle.tpol_goal.specs.declared.grants.Grants.{Grants}
-use Rattle.tpol_hash.specs.Sha256.{sha256_digest}
 use Rattle.tpol_lines.specs.BlockLine.{block_line}
 use Rattle.tpol_lines.specs.Runs.{chosen_line, nobranch_line}
 use Rattle.tpol_name.specs.declared.sight.Sight.{Sight}
 use Rattle.tpol_runs.specs.Courses.{begun}
-use Rattle.tpol_runs.specs.Underway.{Underway}
 use Rattle.tpol_perform.specs.declared.new_run.NewRun.{NewRun}
 use Rattle.tpol_prepare.specs.declared.scenario.Scenario.{Scenario}
+use Rattle.tpol_perform.specs.Blind.{begun_blindly}
+use Rattle.tpol_perform.specs.NewRuns.{run_seed, with_new_run}
 use Rattle.tpol_perform.specs.Performance.{PerformanceState, with_line}
-use Rattle.tpol_prepare.specs.Scenario.{grants_of, paths_named}
+use Rattle.tpol_prepare.specs.declared.manner.Way.{Way}
+use Rattle.tpol_prepare.specs.declared.manner.Way.TheVariants.{Blind, Sighted}
+use Rattle.tpol_prepare.specs.Manner.{way_of}
+use Rattle.tpol_prepare.specs.Scenario.{paths_named}
 use Rattle.tpol_tree.specs.declared.path.Path.{Path}
 use Rattle.tpol_tree.specs.declared.path.PathStep.{PathStep}
-
--- the run that a client begins, with what it may use
-abbrev pub new_run : List (ℕ × Grants) → ℕ → ℕ → ℕ → Goal → NewRun
-new_run clients number client locality goal =
-    record { number = number; client = client; locality = locality; goal = goal; grants = grants_of clients client }
-
--- the seed of a run's nonces: H(seed || "CALL" || run in four bytes)
-abbrev pub run_seed : Digest32 → ℕ → Digest32
-run_seed seed number = sha256_digest (seed.bytes ++ codes "CALL" ++ to_be_bytes w32 number)
 
 abbrev pub plan_along : Scenario → Path → NewRun → Plan
 plan_along scenario path run = record {
@@ -39,10 +29,6 @@ plan_along scenario path run = record {
   nonce_seed = run_seed scenario.seed run.number;
   tickets = [];
 }
-
--- one more run
-abbrev pub with_new_run : ℕ → Option Underway → PerformanceState → PerformanceState
-with_new_run number run p = record p { runs = p.runs ++ record { number = number; run = run } ∷ [] }
 
 -- on the path at this position
 abbrev pub begun_along : Scenario → ℕ → NewRun → Option Path → PerformanceState → PerformanceState
@@ -78,7 +64,16 @@ unfoldable pub begun_on : Scenario → Sight → List Path → NewRun → Perfor
 begun_on scenario sight paths run p =
     begun_at scenario sight paths run (chosen_path paths sight run.grants run.goal run.locality) p
 
+-- a run of the policy of this name begins, with what the machine shows now
+unfoldable pub begun_in_sight : Scenario → List ℕ → NewRun → PerformanceState → PerformanceState
+begun_in_sight scenario policy run p =
+    begun_on scenario (sight_after p.setup p.past) (paths_named scenario policy) run p
+
+-- as the runs of the scene are driven
+abbrev pub begun_by : Way → Scenario → List ℕ → NewRun → PerformanceState → PerformanceState
+begun_by Sighted scenario policy run p = begun_in_sight scenario policy run p
+begun_by Blind scenario policy run p = begun_blindly scenario policy run p
+
 -- a run of the policy of this name begins
 unfoldable pub run_begun : Scenario → List ℕ → NewRun → PerformanceState → PerformanceState
-run_begun scenario policy run p =
-    begun_on scenario (sight_after p.setup p.past) (paths_named scenario policy) run p
+run_begun scenario policy run p = begun_by (way_of scenario.manner) scenario policy run p

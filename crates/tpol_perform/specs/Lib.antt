@@ -1,7 +1,9 @@
 pub mod Begin
+pub mod Blind
 pub mod CommandsTold
 pub mod Explained
 pub mod Meeting
+pub mod NewRuns
 pub mod Performance
 pub mod Script
 pub mod Turns

@@ -8,8 +8,9 @@ use Rattle.tpol_steps.specs.declared.answer.Verdict.TheVariants.{Done}
 use Rattle.tpol_prepare.specs.declared.manner.Manner.{Manner}
 use Rattle.tpol_prepare.specs.declared.scenario.Scenario.{Scenario}
 use Rattle.tpol_prepare.specs.declared.scenario.StagedScene.{StagedScene}
-use Rattle.tpol_perform.specs.Begin.{new_run, run_begun}
+use Rattle.tpol_perform.specs.Begin.{run_begun}
 use Rattle.tpol_perform.specs.CommandsTold.{commanded}
+use Rattle.tpol_perform.specs.NewRuns.{new_run}
 use Rattle.tpol_perform.specs.Performance.{PerformanceState, presence_set, start_of, time_passed, was_reset}
 use Rattle.tpol_prepare.specs.Scenario.{staged_step}
 use Rattle.tpol_steps.specs.Steps.{Step, ◌>>=◌}

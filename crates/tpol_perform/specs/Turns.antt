@@ -1,34 +1,38 @@
 -- The turns of a run: each sends its next command, and hears the reply.
 use Rattle.std.specs.Prelude.{ℕ, zero, suc, List, Option, Some, None}
 use Rattle.tpm_engine.specs.Legal.{answer_to}
-use Rattle.tpol_driver.specs.declared.end.End.{End}
 use Rattle.tpol_lines.specs.Runs.{end_line, over_line}
+use Rattle.tpol_runs.specs.declared.ended.Ended.{Ended}
+use Rattle.tpol_runs.specs.declared.ended.Ended.TheVariants.{Blind, Sighted}
 use Rattle.tpol_runs.specs.declared.sent.Sent.{Sent}
 use Rattle.tpol_runs.specs.Courses.{end_told, goes_on, heard_by, next_of}
 use Rattle.tpol_runs.specs.Runs.{run_at, with_run}
 use Rattle.tpol_prepare.specs.declared.scenario.Scenario.{Scenario}
+use Rattle.tpol_perform.specs.Blind.{with_blind_end}
 use Rattle.tpol_perform.specs.CommandsTold.{commanded}
 use Rattle.tpol_perform.specs.Performance.{PerformanceState, with_line}
+use Rattle.tpol_prepare.specs.Scenario.{paths_named}
 
 -- the next command of a run, unless it is over
 abbrev pub sent_now : ℕ → PerformanceState → Option Sent
 sent_now run p = next_of (run_at p.runs run)
 
--- the line of the end of a run, where it came to it
-abbrev pub with_end : ℕ → Option End → PerformanceState → PerformanceState
-with_end run None p = p
-with_end run (Some end) p = with_line (end_line run end) p
+-- the lines of the end of a run, where it came to it
+abbrev pub with_end : Scenario → ℕ → Option Ended → PerformanceState → PerformanceState
+with_end scenario run None p = p
+with_end scenario run (Some (Sighted end)) p = with_line (end_line run end) p
+with_end scenario run (Some (Blind policy end)) p = with_blind_end run (paths_named scenario policy) end p
 
 -- a run hears a reply
-unfoldable pub replied : ℕ → List ℕ → PerformanceState → PerformanceState
-replied run reply p =
-    with_end run (end_told (heard_by (run_at p.runs run) reply))
+unfoldable pub replied : Scenario → ℕ → List ℕ → PerformanceState → PerformanceState
+replied scenario run reply p =
+    with_end scenario run (end_told (heard_by (run_at p.runs run) reply))
     (record p { runs = with_run p.runs run (goes_on (heard_by (run_at p.runs run) reply)) })
 
 -- a run sends a command, and hears the reply
 unfoldable pub sent : Scenario → ℕ → Sent → PerformanceState → PerformanceState
 sent scenario run command p =
-    replied run (answer_to p.setup p.past command.locality command.buffer).reply
+    replied scenario run (answer_to p.setup p.past command.locality command.buffer).reply
     (commanded scenario command.client command.locality command.buffer p)
 
 -- one turn
@@ -54,9 +58,9 @@ unfoldable pub turned_on : Scenario → ℕ → ℕ → PerformanceState → Per
 turned_on scenario run zero p = p
 turned_on scenario run (suc n) p = turned_and (turned_on scenario run n) scenario run (sent_now run p) p
 
--- the most commands of a run behind its first: two for each of 512 moves, the goal and two more
+-- the most commands of a run behind its first: on each of 64 paths two for each of 512 moves, the goal, and one more
 unfoldable pub most_turns : ℕ
-most_turns = 1027
+most_turns = 65664
 
 -- all turns to the run's end, and one line of a run that was over before
 abbrev pub turned_to_end_by : Scenario → ℕ → Option Sent → PerformanceState → PerformanceState

@@ -1,4 +1,4 @@
-//! A run begins.
+//! A run begins: on the first path of its policy that its client can go, or on none.
 
 ghost use Rattle.std.specs.Prelude.{◌≡◌, ◌+◌, ◌≤◌, [], None, Some, All, IfOk, List, OnOk, length, map};
 ghost use Rattle.tpol_choose.specs.Blocks.{first_block};
@@ -10,27 +10,28 @@ ghost use Rattle.tpol_name.specs.declared.sight.Sight.{Sight as OneSight};
 ghost use Rattle.tpol_perform.specs.declared.new_run.NewRun.{NewRun as OneRun};
 ghost use Rattle.tpol_tree.specs.declared.path.Path.{Path as OnePath};
 ghost use Rattle.tpol_tree.specs.declared.path.PathStep.{PathStep};
-ghost use Rattle.tpol_perform.specs.Begin.{begun_along, begun_nowhere, begun_on, plan_along, run_begun, run_seed, with_block, with_blocks, with_new_run};
+ghost use Rattle.tpol_perform.specs.Begin.{begun_along, begun_in_sight, begun_nowhere, begun_on, plan_along, run_begun, with_block, with_blocks};
+ghost use Rattle.tpol_perform.specs.NewRuns.{with_new_run};
 ghost use Rattle.tpol_perform.specs.Performance.{with_line};
 ghost use Rattle.tpol_prepare.specs.Scenario.{IsScenarioOf, IsWalkable, paths_named};
 ghost use Rattle.tpol_runs.specs.Courses.{begun};
 
-use crate::new_run::NewRun;
+use crate::new_run::{NewRun, run_seed};
 use crate::performance::Performance;
 use std::alloc::Global;
-use tpol_base::{Blob, Digest32, ExactClone, NoMemory};
+use tpol_base::{Blob, ExactClone, NoMemory};
 use tpol_choose::{Block, blocks, choose};
 use tpol_digest::path_at;
 use tpol_driver::{Plan, Tickets};
-use tpol_hash::Hasher;
 use tpol_lines::{block_line, chosen_line, labels, nobranch_line};
 use tpol_name::Sight;
-use tpol_prepare::Scenario;
+use tpol_prepare::{Scenario, Way};
 use tpol_steps::FilledDocument;
 use tpol_tree::{Approvals, Path};
 
 impl Performance {
-    /// A run of the policy of this name begins. The call fails only where memory ran out.
+    /// A run of the policy of this name begins, as the runs of the scene are driven. The call fails only where memory
+    /// ran out.
     #[tactic(auto, unfolding(crate::specs::Begin::run_begun))]
     pub fn begin(
         &mut self,
@@ -42,6 +43,27 @@ impl Performance {
         requires scenario { IsScenarioOf self.old.setup scenario.now }
         requires locality { run.locality ≤ 4 }
         ensures told { OnOk result (self.new ≡ run_begun scenario.now policy.now run self.old) }
+        ensures past { OnOk result (self.new.past ≡ self.old.past) }
+        ensures setup { OnOk result (self.new.setup ≡ self.old.setup) }
+    {
+        match scenario.manner.way() {
+            Way::Sighted => self.begin_in_sight(alloc, scenario, policy, run),
+            Way::Blind => self.begin_blindly(alloc, scenario, policy, run),
+        }
+    }
+
+    // The same, with what the machine shows now.
+    #[tactic(auto, unfolding(crate::specs::Begin::begun_in_sight))]
+    fn begin_in_sight(
+        &mut self,
+        alloc: Global,
+        scenario: &Scenario,
+        policy: &str,
+        run: NewRun,
+    ) -> Result<(), NoMemory>
+        requires scenario { IsScenarioOf self.old.setup scenario.now }
+        requires locality { run.locality ≤ 4 }
+        ensures told { OnOk result (self.new ≡ begun_in_sight scenario.now policy.now run self.old) }
         ensures past { OnOk result (self.new.past ≡ self.old.past) }
         ensures setup { OnOk result (self.new.setup ≡ self.old.setup) }
     {
@@ -58,7 +80,7 @@ impl Performance {
         }
     }
 
-    // The same, with what the machine shows now.
+    // The same, with this view.
     #[tactic(auto, unfolding(tpol_prepare::specs::Scenario::paths_named))]
     fn begin_seen(
         &mut self,
@@ -165,7 +187,8 @@ impl Performance {
         }
     }
 
-    fn print_chosen(
+    // The line of the path at this position, on which the run goes.
+    pub fn print_chosen(
         &mut self,
         alloc: Global,
         number: u16,
@@ -215,7 +238,8 @@ impl Performance {
         self.print_blocks(alloc, approvals, sight, document, run)
     }
 
-    fn begin_nowhere(&mut self, alloc: Global, number: u16) -> Result<(), NoMemory>
+    // The run begins on no path: it is over at once.
+    pub fn begin_nowhere(&mut self, alloc: Global, number: u16) -> Result<(), NoMemory>
         ensures told { OnOk result (self.new ≡ with_line (nobranch_line number) (with_new_run number None self.old)) }
         ensures past { OnOk result (self.new.past ≡ self.old.past) }
         ensures setup { OnOk result (self.new.setup ≡ self.old.setup) }
@@ -337,15 +361,4 @@ fn plan_along(alloc: Global, scenario: &Scenario, path: Path, run: NewRun) -> Re
             Err(NoMemory)
         }
     }
-}
-
-// The seed of a run's nonces.
-fn run_seed(seed: &Digest32, number: u16) -> Digest32
-    ensures { result ≡ run_seed seed.now number }
-{
-    let mut hasher = Hasher::new();
-    hasher.put(&seed.bytes);
-    hasher.put("CALL".as_bytes());
-    hasher.put(&u32::from(number).to_be_bytes());
-    hasher.done()
 }

@@ -12,12 +12,16 @@
 #![tactic(auto)]
 
 mod begin;
+mod begin_blind;
+mod blind_end;
 mod commands_told;
 mod new_run;
 mod openings;
+mod paths;
 mod perform;
 mod performance;
 mod script;
+mod tries;
 mod turns;
 
 pub use new_run::NewRun;

@@ -3,7 +3,8 @@
 ghost use Rattle.std.specs.Prelude.{◌≡◌, ◌+◌, ◌^◌, ◌<◌, ◌≤◌, All, IfOk, IfSome, OnOk, length};
 ghost use Rattle.tpm_engine.specs.Views.{time_of};
 ghost use Rattle.tpol_name.specs.Setups.{IsSetup};
-ghost use Rattle.tpol_perform.specs.Begin.{new_run, run_begun};
+ghost use Rattle.tpol_perform.specs.Begin.{run_begun};
+ghost use Rattle.tpol_perform.specs.NewRuns.{new_run};
 ghost use Rattle.tpol_perform.specs.Performance.{start_of};
 ghost use Rattle.tpol_perform.specs.Script.{all_happened, happened, performed, turn_told};
 ghost use Rattle.tpol_prepare.specs.Scenario.{CanHappen, IsScenarioOf};
@@ -95,7 +96,7 @@ impl Performance {
         requires early { time_of self.old.setup self.old.past + 2 ^ 32 ≤ 2 ^ 63 }
         ensures told { OnOk result (self.new ≡ happened scenario.now event.now self.old) }
         ensures setup { OnOk result (self.new.setup ≡ self.old.setup) }
-        ensures few { OnOk result (length self.new.past ≤ length self.old.past + 2000) }
+        ensures few { OnOk result (length self.new.past ≤ length self.old.past + 65700) }
         ensures early { OnOk result (time_of self.new.setup self.new.past ≤ time_of self.old.setup self.old.past + 2 ^ 32) }
     {
         match event {
@@ -179,7 +180,7 @@ impl Performance {
         requires few { length self.old.past < 2 ^ 30 }
         ensures told { OnOk result (self.new ≡ turn_told scenario.now run times self.old) }
         ensures setup { OnOk result (self.new.setup ≡ self.old.setup) }
-        ensures few { OnOk result (length self.new.past ≤ length self.old.past + 2000) }
+        ensures few { OnOk result (length self.new.past ≤ length self.old.past + 65700) }
         ensures timeless { OnOk result (time_of self.new.setup self.new.past ≡ time_of self.old.setup self.old.past) }
     {
         match times {

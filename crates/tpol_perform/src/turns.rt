@@ -1,22 +1,21 @@
 //! The turns of runs.
 
-ghost use Rattle.std.specs.Prelude.{◌≡◌, ◌+◌, ◌^◌, ◌<◌, ◌≤◌, Some, OnOk, length};
+ghost use Rattle.std.specs.Prelude.{◌≡◌, ◌+◌, ◌^◌, ◌<◌, ◌≤◌, All, Some, OnOk, length};
 ghost use Rattle.tpm_engine.specs.Views.{time_of};
 ghost use Rattle.tpol_lines.specs.Runs.{over_line};
 ghost use Rattle.tpol_perform.specs.Performance.{with_line};
 ghost use Rattle.tpol_perform.specs.Turns.{most_turns, replied, sent, turned, turned_on, turned_times, turned_to_end, with_end};
-ghost use Rattle.tpol_prepare.specs.Scenario.{IsScenarioOf};
+ghost use Rattle.tpol_prepare.specs.Scenario.{IsScenarioOf, IsWalkable};
 
 use crate::performance::Performance;
 use std::alloc::Global;
 use tpol_base::NoMemory;
-use tpol_driver::End;
-use tpol_lines::{end_line, over_line};
+use tpol_lines::over_line;
 use tpol_prepare::Scenario;
-use tpol_runs::Sent;
+use tpol_runs::{Ended, Sent};
 
-/// The most commands of a run behind its first: two for each of 512 moves, the goal and two more.
-const MOST_TURNS: u32 = 1027;
+/// The most commands of a run behind its first: on each of 64 paths two for each of 512 moves, the goal, and one more.
+const MOST_TURNS: u32 = 65664;
 
 impl Performance {
     /// A run has so many turns. The call fails only where memory ran out.
@@ -50,9 +49,9 @@ impl Performance {
         run: u16,
     ) -> Result<(), NoMemory>
         requires scenario { IsScenarioOf self.old.setup scenario.now }
-        requires few { length self.old.past + 2000 < 2 ^ 31 }
+        requires few { length self.old.past + 65700 < 2 ^ 31 }
         ensures told { OnOk result (self.new ≡ turned_to_end scenario.now run self.old) }
-        ensures few { OnOk result (length self.new.past ≤ length self.old.past + 2000) }
+        ensures few { OnOk result (length self.new.past ≤ length self.old.past + 65700) }
         ensures setup { OnOk result (self.new.setup ≡ self.old.setup) }
         ensures timeless { OnOk result (time_of self.new.setup self.new.past ≡ time_of self.old.setup self.old.past) }
     {
@@ -130,32 +129,46 @@ impl Performance {
             command.locality,
             command.buffer.as_slice(),
         )?;
-        self.reply(alloc, run, reply.as_slice())
+        self.reply(alloc, scenario, run, reply.as_slice())
     }
 
     // A run hears a reply; where it comes to its end, that is told.
     #[tactic(auto, unfolding(crate::specs::Turns::replied))]
-    fn reply(&mut self, alloc: Global, run: u16, reply: &[u8]) -> Result<(), NoMemory>
-        ensures told { OnOk result (self.new ≡ replied run reply.now self.old) }
+    fn reply(
+        &mut self,
+        alloc: Global,
+        scenario: &Scenario,
+        run: u16,
+        reply: &[u8],
+    ) -> Result<(), NoMemory>
+        requires begun { All (λ document. IsWalkable scenario.now.approvals document.closed) scenario.now.begun }
+        ensures told { OnOk result (self.new ≡ replied scenario.now run reply.now self.old) }
         ensures past { OnOk result (self.new.past ≡ self.old.past) }
         ensures setup { OnOk result (self.new.setup ≡ self.old.setup) }
     {
         let end = self.runs.take(alloc, run, reply)?;
-        let printed = self.print_end(alloc, run, &end);
-        drop(end);
-        printed
+        self.print_end(alloc, scenario, run, end)
     }
 
-    fn print_end(&mut self, alloc: Global, run: u16, end: &Option<End>) -> Result<(), NoMemory>
-        ensures told { OnOk result (self.new ≡ with_end run end.now self.old) }
+    fn print_end(
+        &mut self,
+        alloc: Global,
+        scenario: &Scenario,
+        run: u16,
+        end: Option<Ended>,
+    ) -> Result<(), NoMemory>
+        requires begun { All (λ document. IsWalkable scenario.now.approvals document.closed) scenario.now.begun }
+        ensures told { OnOk result (self.new ≡ with_end scenario.now run end self.old) }
         ensures past { OnOk result (self.new.past ≡ self.old.past) }
         ensures setup { OnOk result (self.new.setup ≡ self.old.setup) }
     {
         match end {
             None => Ok(()),
-            Some(end) => {
-                let line = end_line(alloc, run, end)?;
-                self.print(alloc, line.as_str())
+            Some(Ended::Sighted(end)) => self.print_end_line(alloc, run, end),
+            Some(Ended::Blind(policy, end)) => {
+                let printed = self.print_blind_end(alloc, scenario, run, policy.as_str(), end);
+                drop(policy);
+                printed
             }
         }
     }
@@ -171,7 +184,7 @@ impl Performance {
 #[tactic(auto, unfolding(crate::specs::Turns::most_turns))]
 fn most_turns() -> u32
     ensures told { result ≡ most_turns }
-    ensures few { result ≤ 1999 }
+    ensures few { result ≤ 65699 }
 {
     MOST_TURNS
 }

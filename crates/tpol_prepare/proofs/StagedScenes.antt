@@ -14,13 +14,17 @@ use Rattle.tpol_store.specs.Stores.{NamedPolicy}
 use Rattle.tpol_prepare.specs.declared.manner.Manner.{Manner}
 use Rattle.tpol_prepare.specs.declared.prepared.PreparedScene.{PreparedScene}
 use Rattle.tpol_prepare.specs.declared.scenario.StagedScene.{StagedScene}
+use Rattle.tpol_prepare.specs.declared.manner.Way.{Way}
+use Rattle.tpol_prepare.specs.Begins.{begins_step}
 use Rattle.tpol_prepare.specs.Entities.{IsReadyEntity}
+use Rattle.tpol_prepare.specs.Manner.{way_of}
 use Rattle.tpol_prepare.specs.Prepared.{erased_prepared, prepared_step}
-use Rattle.tpol_prepare.specs.Scenario.{CanHappen, IsScenarioOf, erased_staged, limited_step, scenario_with, staged_by, staged_from, staged_with}
+use Rattle.tpol_prepare.specs.Scenario.{CanHappen, IsScenarioOf, erased_staged, limited_step, scenario_with, staged_by, staged_from, staged_step, staged_with}
 use Rattle.tpol_prepare.specs.Staged.{IsScriptOf, IsStaged}
 use Rattle.tpol_steps.specs.declared.halt.Halt.{Halt}
 use Rattle.tpol_steps.specs.declared.halt.Halt.TheVariants.{Refused, ReadFailed, ShelfFailed, NoMemory}
 use Rattle.tpol_steps.specs.Filled.{IsReadyDocument}
+use Rattle.tpol_steps.specs.SceneStep.{scene_of_bytes}
 use Rattle.tpol_steps.specs.Steps.{Answers, Halts, Step, ◌>>=◌}
 use Rattle.tpol_steps.specs.StoreStep.{store_step}
 use Rattle.tpol_prepare.proofs.EntitiesKept.{prepared_keeps}
@@ -56,7 +60,7 @@ script_kept store scene result e is = script_over scene.setup result.setup scene
 -- a scene whose policies are filled and within the limits is staged, whichever memory they lie in
 pub staged_as : (manner : Manner) (store : List NamedPolicy) (scene : Scene) (prepared : PreparedScene) (approvals : List ApprovedDoc)
     → prepared_step store scene ≡ Ok (erased_prepared prepared)
-    → limited_step (erased_prepared prepared) (approved_documents store (Some prepared.sight)) ≡ Ok tt
+    → limited_step (way_of manner) (erased_prepared prepared) (approved_documents store (Some prepared.sight)) ≡ Ok tt
     → map erased_document approvals ≡ approved_documents store (Some prepared.sight)
     → staged_with manner scene store ≡ Ok (erased_staged (scenario_with manner scene prepared approvals))
 unfolding staged_with staged_by
@@ -72,11 +76,11 @@ halts_then NoMemory step next h = tt
 -- and one whose policies are not within the limits is refused
 pub staged_halts : (manner : Manner) (store : List NamedPolicy) (scene : Scene) (prepared : PreparedScene) (halt : Halt)
     → prepared_step store scene ≡ Ok (erased_prepared prepared)
-    → Halts halt (limited_step (erased_prepared prepared) (approved_documents store (Some prepared.sight)))
+    → Halts halt (limited_step (way_of manner) (erased_prepared prepared) (approved_documents store (Some prepared.sight)))
     → Halts halt (staged_with manner scene store)
 unfolding staged_with staged_by
 staged_halts manner store scene prepared halt fills refused =
-    rw fills (halts_then halt (limited_step (erased_prepared prepared) (approved_documents store (Some prepared.sight))) _ refused)
+    rw fills (halts_then halt (limited_step (way_of manner) (erased_prepared prepared) (approved_documents store (Some prepared.sight))) _ refused)
 
 -- with the policies of the shelf, if its documents are known
 pub on_shelf : {A : Type 0} (manner : Manner) (scene : Scene) (view : A → StagedScene) (all : Option (List Document)) (store : List NamedPolicy) (result : Result A Halt)
@@ -84,6 +88,17 @@ pub on_shelf : {A : Type 0} (manner : Manner) (scene : Scene) (view : A → Stag
     → IfSome all (λ documents. Answers view (staged_from manner scene documents) result)
 on_shelf manner scene view None store result loads answers = tt
 on_shelf manner scene view (Some documents) store result loads answers = rw loads answers
+
+-- of a scene that begins no more runs than may be driven so
+pub staged_few : {A : Type 0} (manner : Manner) (input : List ℕ) (scene : Scene) (way : Way) (script : List ScriptEvent) (view : A → StagedScene) (all : Option (List Document)) (result : Result A Halt)
+    → scene_of_bytes input ≡ Ok scene → way ≡ way_of manner → script ≡ scene.script → begins_step way script ≡ Ok tt
+    → IfSome all (λ documents. Answers view (staged_from manner scene documents) result)
+    → IfSome all (λ documents. Answers view (staged_step manner input documents) result)
+unfolding staged_step
+staged_few manner input scene way script view None result reads driven same few answers = tt
+staged_few manner input scene way script view (Some documents) result reads driven same few answers =
+    let allowed : begins_step (way_of manner) scene.script ≡ Ok tt = subst (λ (w : Way). begins_step w scene.script ≡ Ok tt) driven (subst (λ (s : List ScriptEvent). begins_step way s ≡ Ok tt) same few) in
+    rw (reads, allowed) answers
 
 -- ---- all of it
 

@@ -78,9 +78,9 @@ through_entity : (P : Closed → Type 0) (found : Option CompiledEntity) (closed
 through_entity P None closed h e = absurd cc
 through_entity P (Some entity) closed h e = let same : entity.document.closed ≡ closed = cc in subst P same h
 
-through_document : (approvals : List ApprovedDoc) (found : Option FilledDocument) (document : FilledDocument) → IfSome found (λ d. IsWalkable approvals d.closed) → found ≡ Some document → IsWalkable approvals document.closed
-through_document approvals None document h e = absurd cc
-through_document approvals (Some d) document h e = let same : d ≡ document = cc in subst (λ (x : FilledDocument). IsWalkable approvals x.closed) same h
+through_document : (P : FilledDocument → Type 0) (found : Option FilledDocument) (document : FilledDocument) → IfSome found P → found ≡ Some document → P document
+through_document P None document h e = absurd cc
+through_document P (Some d) document h e = let same : d ≡ document = cc in subst P same h
 
 -- the policy of an entity has what all of them have
 pub policy_has : (P : Closed → Type 0) (entities : List CompiledEntity) (handle : ℕ) (closed : Closed) → All (λ e. P e.document.closed) entities → policy_of_entity entities handle ≡ Some closed → P closed
@@ -92,7 +92,10 @@ policy_has P entities handle closed all e =
 pub policy_walkable : (approvals : List ApprovedDoc) (entities : List CompiledEntity) (handle : ℕ) (closed : Closed) → All (λ e. IsWalkable approvals e.document.closed) entities → policy_of_entity entities handle ≡ Some closed → IsWalkable approvals closed
 policy_walkable approvals = policy_has (IsWalkable approvals)
 
+-- a document that is begun has what all of them have
+pub document_has : (P : FilledDocument → Type 0) (begun : List FilledDocument) (name : List ℕ) (document : FilledDocument) → All P begun → find (is_document name) begun ≡ Some document → P document
+document_has P begun name document all e =
+    through_document P (find (is_document name) begun) document (found_has P (is_document name) begun (recursion_from_All P begun all)) e
+
 pub document_walkable : (approvals : List ApprovedDoc) (begun : List FilledDocument) (name : List ℕ) (document : FilledDocument) → All (λ d. IsWalkable approvals d.closed) begun → find (is_document name) begun ≡ Some document → IsWalkable approvals document.closed
-document_walkable approvals begun name document all e =
-    through_document approvals (find (is_document name) begun) document
-    (found_has (λ (x : FilledDocument). IsWalkable approvals x.closed) (is_document name) begun (recursion_from_All (λ (x : FilledDocument). IsWalkable approvals x.closed) begun all)) e
+document_walkable approvals = document_has (λ document. IsWalkable approvals document.closed)

@@ -1,3 +1,4 @@
+pub mod Begins
 pub mod Entities
 pub mod FilledDocuments
 pub mod Manner

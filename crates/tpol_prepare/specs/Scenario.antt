@@ -1,5 +1,5 @@
 -- Scenes that can be carried out: their policies are filled, and the paths of each policy are within the limits.
-use Rattle.std.specs.Prelude.{◌≡◌, ℕ, ◌==◌, ◌≤◌, ⊤, List, [], All, IfSome, find, map, reverse, Bool, Option, Some, None, Ok}
+use Rattle.std.specs.Prelude.{◌≡◌, ℕ, ◌==◌, ◌≤◌, ⊤, List, [], All, IfSome, find, length, map, reverse, Bool, Option, Some, None, Ok}
 use Rattle.std.specs.Option.{option_map, unwrap_or}
 use Rattle.std.specs.Str.{bytes_eq}
 use Rattle.tpm_nv.specs.Indices.{index_of}
@@ -20,14 +20,18 @@ use Rattle.tpol_store.specs.Approvals.{approved_documents}
 use Rattle.tpol_store.specs.Stores.{NamedPolicy}
 use Rattle.tpol_prepare.specs.declared.entities.CompiledEntity.{CompiledEntity}
 use Rattle.tpol_prepare.specs.declared.manner.Manner.{Manner}
+use Rattle.tpol_prepare.specs.declared.manner.Way.{Way}
+use Rattle.tpol_prepare.specs.declared.manner.Way.TheVariants.{Blind, Sighted}
 use Rattle.tpol_prepare.specs.declared.prepared.PreparedScene.{PreparedScene}
 use Rattle.tpol_prepare.specs.declared.scenario.Scenario.{Scenario}
 use Rattle.tpol_prepare.specs.declared.scenario.StagedScene.{StagedScene}
+use Rattle.tpol_prepare.specs.Begins.{begins_step}
 use Rattle.tpol_prepare.specs.Entities.{erased_entity}
+use Rattle.tpol_prepare.specs.Manner.{way_of}
 use Rattle.tpol_prepare.specs.Prepared.{prepared_step}
 use Rattle.tpol_steps.specs.declared.filled.FilledDocument.{FilledDocument}
 use Rattle.tpol_steps.specs.Filled.{erased_filled}
-use Rattle.tpol_steps.specs.Limits.{limits_step}
+use Rattle.tpol_steps.specs.Limits.{limits_step, tried_limits_step}
 use Rattle.tpol_steps.specs.SceneStep.{scene_of_bytes}
 use Rattle.tpol_steps.specs.Steps.{Step, ◌>>=◌}
 use Rattle.tpol_steps.specs.StoreStep.{store_step}
@@ -86,14 +90,19 @@ scenario_with manner scene prepared approvals = record {
   script = scene.script;
 }
 
+-- the paths of policies that a script begins are within the limits, by how its runs are driven
+abbrev pub begun_limits : Way → List ApprovedDoc → List FilledDocument → Step (Unit {0})
+begun_limits Sighted approvals begun = limits_step approvals begun
+begun_limits Blind approvals begun = tried_limits_step approvals begun
+
 -- the paths of the policies of its entities, and then of those that its script begins, are within the limits
-unfoldable pub limited_step : PreparedScene → List ApprovedDoc → Step (Unit {0})
-limited_step prepared approvals =
-    limits_step approvals (map entity_document prepared.entities) >>= λ entities_are. limits_step approvals prepared.begun
+unfoldable pub limited_step : Way → PreparedScene → List ApprovedDoc → Step (Unit {0})
+limited_step way prepared approvals =
+    limits_step approvals (map entity_document prepared.entities) >>= λ entities_are. begun_limits way approvals prepared.begun
 
 unfoldable pub staged_by : Manner → Scene → PreparedScene → List ApprovedDoc → Step StagedScene
 staged_by manner scene prepared approvals =
-    limited_step prepared approvals >>= λ within. Ok (scenario_with manner scene prepared approvals)
+    limited_step (way_of manner) prepared approvals >>= λ within. Ok (scenario_with manner scene prepared approvals)
 
 -- the scene with the policies of a store
 unfoldable pub staged_with : Manner → Scene → List NamedPolicy → Step StagedScene
@@ -109,6 +118,7 @@ staged_from manner scene all = store_step all >>= λ store. staged_with manner s
 unfoldable pub staged_step : Manner → List ℕ → List Document → Step StagedScene
 staged_step manner input all = do
   scene ← scene_of_bytes input
+  few ← begins_step (way_of manner) scene.script
   store ← store_step all
   staged_with manner scene store
 
@@ -119,6 +129,10 @@ pub record IsWalkable (approvals : List ApprovedDoc) (closed : Closed) : Type 0 
   pub branches : HaveBranchCounts closed approvals
   pub well_formed : IsWellFormed closed approvals
   pub within : AreWithinLimits (paths_of closed approvals)
+
+-- it has at most 64 paths
+abbrev pub HasFewPaths : List ApprovedDoc → FilledDocument → Type 0
+HasFewPaths approvals document = length (paths_of document.closed approvals) ≤ 64
 
 -- the entity of a handle, if there is one, has this digest as its authPolicy
 abbrev pub HasPolicyAt : Setup → ℕ → Digest32 → Type 0
@@ -131,11 +145,12 @@ abbrev pub HavePolicies : Setup → List CompiledEntity → Type 0
 HavePolicies setup entities =
     (handle : ℕ) → IfSome (policy_of_entity entities handle) (λ closed. HasPolicyAt setup handle (policy_digest closed))
 
--- a scenario of a machine that starts from this setup: the paths of all its policies can be walked, and entities
--- have the digests of theirs
+-- a scenario of a machine that starts from this setup: the paths of all its policies can be walked, those that blind
+-- runs try are at most 64, and entities have the digests of their policies
 pub record IsScenarioOf (setup : Setup) (scenario : Scenario) : Type 0 where
   pub entities : All (λ entity. IsWalkable scenario.approvals entity.document.closed) scenario.entities
   pub begun : All (λ document. IsWalkable scenario.approvals document.closed) scenario.begun
+  pub few : way_of scenario.manner ≡ Blind → All (HasFewPaths scenario.approvals) scenario.begun
   pub policies : HavePolicies setup scenario.entities
 
 -- an event that can happen: its locality is one of five, and its turns are at most 2,000

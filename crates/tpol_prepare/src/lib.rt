@@ -9,6 +9,7 @@
 //! the first fault in the order of these definitions.
 #![tactic(auto)]
 
+mod begins;
 mod documents;
 mod entities;
 mod manner;
@@ -17,7 +18,7 @@ mod references;
 mod scenario;
 
 pub use entities::{CompiledEntity, CompiledSetup};
-pub use manner::Manner;
+pub use manner::{Manner, Way};
 pub use prepared::{PreparedScene, opening_of, sight_of_scene};
 pub use references::Reference;
 pub use scenario::{Scenario, StagedScene, stage};

@@ -1,16 +1,25 @@
 // How a scene is carried out.
 
 ghost use Rattle.std.specs.Prelude.{◌≡◌};
-ghost use Rattle.tpol_prepare.specs.Manner.{certifies, explains};
+ghost use Rattle.tpol_prepare.specs.Manner.{certifies, explains, way_of};
+
+/// How the runs of a script are driven.
+#[derive(Clone, Copy)]
+pub enum Way {
+    /// A run begins on the first path of its policy that its client can go on what the machine shows then.
+    Sighted,
+    /// A run tries the paths of its policy on the machine, one after another, without seeing what it shows.
+    Blind,
+}
 
 /// How a scene is carried out, and what is told of it: the commands that carry one out differ in this alone.
 #[derive(Clone, Copy)]
 pub enum Manner {
     /// `run`: its events are told.
-    Run,
+    Run(Way),
     /// `explain`: so is by which path of its policy an entity was opened.
-    Explain,
-    /// `explain --cert`: so is the certificate of that path.
+    Explain(Way),
+    /// `explain --cert`: so is the certificate of that path. Its runs see the machine.
     Certify,
 }
 
@@ -20,8 +29,8 @@ impl Manner {
         ensures { result ≡ explains self }
     {
         match self {
-            Manner::Run => false,
-            Manner::Explain => true,
+            Manner::Run(_) => false,
+            Manner::Explain(_) => true,
             Manner::Certify => true,
         }
     }
@@ -31,9 +40,20 @@ impl Manner {
         ensures { result ≡ certifies self }
     {
         match self {
-            Manner::Run => false,
-            Manner::Explain => false,
+            Manner::Run(_) => false,
+            Manner::Explain(_) => false,
             Manner::Certify => true,
+        }
+    }
+
+    /// How runs are driven.
+    pub fn way(self) -> Way
+        ensures { result ≡ way_of self }
+    {
+        match self {
+            Manner::Run(way) => way,
+            Manner::Explain(way) => way,
+            Manner::Certify => Way::Sighted,
         }
     }
 }

@@ -10,24 +10,29 @@ ghost use Rattle.tpol_store.specs.Stores.{IsReadable, policies_of, stored};
 ghost use Rattle.tpol_fill.specs.Forms.{IsFilledApproval};
 ghost use Rattle.tpol_prepare.specs.Entities.{IsReadyEntity, erased_entity};
 ghost use Rattle.tpol_prepare.specs.Prepared.{erased_prepared};
-ghost use Rattle.tpol_prepare.specs.declared.manner.Manner.{Manner as AnyManner};
-ghost use Rattle.tpol_prepare.specs.Scenario.{CanHappen, IsScenarioOf, IsWalkable, entity_document, erased_staged, grants_of, is_client, is_document, is_entity, limited_step, policy_of_entity, scenario_with, staged_from, staged_of, staged_step, staged_with};
+ghost use Rattle.tpol_prepare.specs.declared.manner.Way.TheVariants.{Blind};
+ghost use Rattle.tpol_prepare.specs.Scenario.{CanHappen, HasFewPaths, IsScenarioOf, IsWalkable, begun_limits, entity_document, erased_staged, grants_of, is_client, is_document, is_entity, limited_step, policy_of_entity, scenario_with, staged_from, staged_of, staged_step, staged_with};
 ghost use Rattle.tpol_prepare.specs.Staged.{IsStaged};
-ghost use Rattle.tpol_steps.specs.Filled.{IsReadyDocument};
+ghost use Rattle.tpol_steps.specs.Filled.{IsReadyDocument, erased_filled};
+ghost use Rattle.tpol_digest.specs.Limits.{AreWithinLimits};
+ghost use Rattle.tpol_digest.specs.Paths.{paths_of};
 ghost use Rattle.tpol_steps.specs.Limits.{limits_step};
 ghost use Rattle.tpol_steps.specs.SceneStep.{scene_of_bytes};
 ghost use Rattle.tpol_steps.specs.Steps.{Answers, AsksShelf, IsInside};
 ghost use Rattle.tpol_tree.specs.ClosedErased.{erased_document};
 
+use crate::begins::check_begins;
 use crate::entities::CompiledEntity;
-use crate::manner::Manner;
+use crate::manner::{Manner, Way};
 use crate::prepared::{PreparedScene, prepare};
 use std::alloc::Global;
 use tpol_base::{Digest32, ExactClone, NoMemory, Sequence, Shelf};
 use tpol_goal::Grants;
 use tpol_name::{Directory, Setup, directory};
 use tpol_scene::{Clients, Scene, Script};
-use tpol_steps::{FilledDocument, Halt, check_documents, check_limits, load_store, scene_of_bytes};
+use tpol_steps::{
+    FilledDocument, Halt, check_documents, check_limits, check_tried, load_store, scene_of_bytes,
+};
 use tpol_store::Store;
 use tpol_tree::{Approvals, Closed};
 
@@ -56,8 +61,8 @@ pub struct StagedScene {
 /// Reads the scene in the source, and looks up, fills and checks the policies that it names. It is carried out in this
 /// manner.
 ///
-/// `Refused` tells the first refusal: of the scene, of the shelf's documents, of a name without a policy, of a policy
-/// that is not filled, or of one that is not within the limits. `ShelfFailed` comes only where the shelf failed, and
+/// `Refused` tells the first refusal: of the scene, of a ninth blind run, of the shelf's documents, of a name without a
+/// policy, of a policy that is not filled, or of one that is not within the limits. `ShelfFailed` comes only where the shelf failed, and
 /// `NoMemory` where memory ran out. The shelf is asked only once the scene was read.
 #[tactic(auto, unfolding(crate::specs::Scenario::staged_step))]
 pub fn stage<H: Shelf>(
@@ -76,7 +81,13 @@ pub fn stage<H: Shelf>(
     ensures few { IfOk result (λ staged. length staged.script ≤ 4096) }
 {
     let scene = scene_of_bytes(alloc, input)?;
-    stage_scene(alloc, manner, scene, shelf)
+    match check_begins(alloc, manner.way(), scene.script.as_slice()) {
+        Ok(()) => stage_scene(alloc, manner, scene, shelf),
+        Err(halt) => {
+            drop(scene);
+            Err(halt)
+        }
+    }
 }
 
 // The same of a scene, with the policies of the shelf.
@@ -96,7 +107,7 @@ fn stage_scene<H: Shelf>(
     ensures staged { IfOk result IsStaged }
     ensures few { IfOk result (λ staged. length staged.script ≤ 4096) }
 {
-    match policies_on_shelf(alloc, &scene, shelf) {
+    match policies_on_shelf(alloc, manner, &scene, shelf) {
         Ok(policies) => Ok(staged(manner, scene, policies)),
         Err(halt) => {
             drop(scene);
@@ -111,38 +122,43 @@ type ScenePolicies = (PreparedScene, (Approvals, Directory));
 // The policies of a scene, looked up on the shelf.
 fn policies_on_shelf<H: Shelf>(
     alloc: Global,
+    manner: Manner,
     scene: &Scene,
     shelf: &mut H,
 ) -> Result<ScenePolicies, Halt>
     requires setup { IsSetup scene.now.setup }
     requires clients { HasClients scene.now }
     requires script { HasScript scene.now }
-    ensures answer { (manner : AnyManner) → IfSome (H.documents shelf.old) (λ all.
+    ensures answer { IfSome (H.documents shelf.old) (λ all.
         Answers (staged_of manner scene.now) (staged_from manner scene.now all) result) }
     ensures keeps { H.documents shelf.new ≡ H.documents shelf.old }
     ensures asks { AsksShelf true ⊤ shelf.old shelf.new (H.faults shelf.old) (H.faults shelf.new) result }
     ensures directory { IfOk result (λ found. found.1.1 ≡ directory_of found.0.setup) }
-    ensures staged { (manner : AnyManner) → IfOk result (λ found. IsStaged (scenario_with manner scene.now found.0 found.1.0)) }
+    ensures staged { IfOk result (λ found. IsStaged (scenario_with manner scene.now found.0 found.1.0)) }
 {
     let store = load_store(alloc, shelf)?;
-    policies_of_scene(alloc, &store, scene)
+    policies_of_scene(alloc, manner, &store, scene)
 }
 
 // The policies of a scene, looked up in a store.
 #[tactic(auto, unfolding(crate::specs::Scenario::staged_with, crate::specs::Scenario::staged_by))]
-fn policies_of_scene(alloc: Global, store: &Store, scene: &Scene) -> Result<ScenePolicies, Halt>
+fn policies_of_scene(
+    alloc: Global,
+    manner: Manner,
+    store: &Store,
+    scene: &Scene,
+) -> Result<ScenePolicies, Halt>
     requires readable { All IsReadable (stored store.now) }
     requires setup { IsSetup scene.now.setup }
     requires clients { HasClients scene.now }
     requires script { HasScript scene.now }
-    ensures answer { (manner : AnyManner) →
-        Answers (staged_of manner scene.now) (staged_with manner scene.now (policies_of store.now)) result }
+    ensures answer { Answers (staged_of manner scene.now) (staged_with manner scene.now (policies_of store.now)) result }
     ensures inside { IsInside result }
     ensures directory { IfOk result (λ found. found.1.1 ≡ directory_of found.0.setup) }
-    ensures staged { (manner : AnyManner) → IfOk result (λ found. IsStaged (scenario_with manner scene.now found.0 found.1.0)) }
+    ensures staged { IfOk result (λ found. IsStaged (scenario_with manner scene.now found.0 found.1.0)) }
 {
     let prepared = prepare(alloc, store, scene)?;
-    match approve_scene(alloc, store, &prepared) {
+    match approve_scene(alloc, manner.way(), store, &prepared) {
         Ok(approved) => Ok((prepared, approved)),
         Err(halt) => {
             drop(prepared);
@@ -154,13 +170,14 @@ fn policies_of_scene(alloc: Global, store: &Store, scene: &Scene) -> Result<Scen
 // What is approved to the policies of a scene, all of which are within the limits, and the directory of the machine.
 fn approve_scene(
     alloc: Global,
+    way: Way,
     store: &Store,
     prepared: &PreparedScene,
 ) -> Result<(Approvals, Directory), Halt>
     requires readable { All IsReadable (stored store.now) }
     requires entities { All IsReadyEntity prepared.now.entities }
     requires begun { All IsReadyDocument prepared.now.begun }
-    ensures answer { Answers (λ _. tt) (limited_step (erased_prepared prepared.now)
+    ensures answer { Answers (λ _. tt) (limited_step way (erased_prepared prepared.now)
         (approved_documents (policies_of store.now) (Some prepared.now.sight))) result }
     ensures inside { IsInside result }
     ensures approvals { IfOk result (λ found. map erased_document found.0
@@ -169,9 +186,10 @@ fn approve_scene(
     ensures directory { IfOk result (λ found. found.1 ≡ directory_of prepared.now.setup) }
     ensures entities { IfOk result (λ found. All (λ entity. IsWalkable found.0 entity.document.closed) prepared.now.entities) }
     ensures begun { IfOk result (λ found. All (λ document. IsWalkable found.0 document.closed) prepared.now.begun) }
+    ensures few { way ≡ Blind → IfOk result (λ found. All (HasFewPaths found.0) prepared.now.begun) }
 {
     let approvals = store.approvals(alloc, Some(&prepared.sight))?;
-    let directory = check_scene(alloc, prepared, &approvals)?;
+    let directory = check_scene(alloc, way, prepared, &approvals)?;
     Ok((approvals, directory))
 }
 
@@ -180,21 +198,42 @@ fn approve_scene(
 #[tactic(auto, using(crate::proofs::Walkable::all_walkable), unfolding(crate::specs::Scenario::limited_step))]
 fn check_scene(
     alloc: Global,
+    way: Way,
     prepared: &PreparedScene,
     approvals: &Approvals,
 ) -> Result<Directory, Halt>
     requires entities { All IsReadyEntity prepared.now.entities }
     requires begun { All IsReadyDocument prepared.now.begun }
     requires approvals { All IsFilledApproval approvals.now }
-    ensures answer { Answers (λ _. tt) (limited_step (erased_prepared prepared.now) (map erased_document approvals.now)) result }
+    ensures answer { Answers (λ _. tt) (limited_step way (erased_prepared prepared.now) (map erased_document approvals.now)) result }
     ensures inside { IsInside result }
     ensures directory { IfOk result (λ directory. directory ≡ directory_of prepared.now.setup) }
     ensures entities { IfOk result (λ _. All (λ entity. IsWalkable approvals.now entity.document.closed) prepared.now.entities) }
     ensures begun { IfOk result (λ _. All (λ document. IsWalkable approvals.now document.closed) prepared.now.begun) }
+    ensures few { way ≡ Blind → IfOk result (λ _. All (HasFewPaths approvals.now) prepared.now.begun) }
 {
     check_entities(alloc, prepared.entities.as_slice(), approvals)?;
-    check_documents(alloc, prepared.begun.as_slice(), approvals)?;
+    check_begun(alloc, way, prepared.begun.as_slice(), approvals)?;
     Ok(directory(alloc, &prepared.setup)?)
+}
+
+// The same of the policies that a script begins, by how its runs are driven.
+fn check_begun(
+    alloc: Global,
+    way: Way,
+    begun: &[FilledDocument],
+    approvals: &Approvals,
+) -> Result<(), Halt>
+    ensures answer { Answers (λ _. tt)
+        (begun_limits way (map erased_document approvals.now) (map erased_filled begun.now)) result }
+    ensures inside { IsInside result }
+    ensures within { IfOk result (λ _. All (λ document. AreWithinLimits (paths_of document.closed approvals.now)) begun.now) }
+    ensures few { way ≡ Blind → IfOk result (λ _. All (HasFewPaths approvals.now) begun.now) }
+{
+    match way {
+        Way::Sighted => check_documents(alloc, begun, approvals),
+        Way::Blind => check_tried(alloc, begun, approvals),
+    }
 }
 
 // The same of the policies of entities.

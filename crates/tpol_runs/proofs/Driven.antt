@@ -1,41 +1,139 @@
--- A run is where the driver stands after its replies.
-use Rattle.std.proofs.Common.{◌≡◌, ℕ, true, List, [], ◌∷◌, Some, None, refl, ap, ◌∙◌}
+-- A run is where its driver stands after its replies.
+use Rattle.std.proofs.Common.{◌≡◌, ℕ, true, List, [], ◌∷◌, Option, Some, None, refl, ap, sym, ◌∙◌}
+use Rattle.std.proofs.lemmas.Option.{none-some}
 use Rattle.std.specs.List.{fold}
-use Rattle.tpol_driver.specs.Driving.{Standing, Starting, Moving, Closing, Over, hears, sends}
+use Rattle.tpol_driver.specs.declared.blind_plan.BlindPlan.{BlindPlan}
+use Rattle.tpol_driver.specs.declared.plan.Plan.{Plan}
+use Rattle.tpol_driver.specs.Blind as blind
+use Rattle.tpol_driver.specs.Blind.{BlindStanding, blind_hears}
+use Rattle.tpol_driver.specs.BlindStates.{is_blind_over}
+use Rattle.tpol_driver.specs.Driving.{Standing, Starting, Moving, Closing, Over, hears}
 use Rattle.tpol_driver.specs.States.{is_over}
-use Rattle.tpol_runs.specs.Courses.{after_replies, goes_on, heard_by, next_of, sent_in, stands_at, underway_at}
-use Rattle.tpol_runs.specs.Underway.{Underway}
+use Rattle.tpol_runs.specs.declared.ended.Ended.{Ended}
+use Rattle.tpol_runs.specs.Courses.{after_replies, command_of, end_of, end_told, goes_on, goes_or_ends, heard_by, heard_of, next_of, sent_in, stands_at, underway_at}
+use Rattle.tpol_runs.specs.Underway.{Blind, Driver, Sighted, Underway}
+use Rattle.tpol_wire.specs.declared.command.Command.{Command}
 
--- where it stood before makes no difference
-abbrev pub at_standing : Underway → Standing → Underway
-at_standing run standing =
-    record { client = run.client; locality = run.locality; most_commands = run.most_commands; driving = record { plan = run.driving.plan; standing = standing } }
+-- where its driver stood before makes no difference
+abbrev pub with_driver : Underway → Driver → Underway
+with_driver run driver = record { client = run.client; locality = run.locality; driver = driver }
 
-pub stands_from : (run : Underway) (before standing : Standing) → stands_at (at_standing run before) standing ≡ stands_at run standing
-stands_from run before Starting = refl
-stands_from run before (Moving session sent ticket done) = refl
-stands_from run before (Closing session end) = refl
-stands_from run before (Over end) = refl
+pub stands_from : (run : Underway) (before driver : Driver) → stands_at (with_driver run before) driver ≡ stands_at run driver
+stands_from run before driver = either_from (end_of driver)
+  where
+    either_from : (ended : Option Ended) → goes_or_ends (with_driver run before) driver ended ≡ goes_or_ends run driver ended
+    either_from None = refl
+    either_from (Some ended) = refl
 
-step : (run : Underway) (standing : Standing) (reply : List ℕ) → goes_on (heard_by (underway_at run standing) reply) ≡ underway_at run (hears run.driving.plan standing reply)
-step run Starting reply = ap (λ after. goes_on (Some after)) (stands_from run Starting (hears run.driving.plan Starting reply))
-step run (Moving session sent ticket done) reply = ap (λ after. goes_on (Some after)) (stands_from run (Moving session sent ticket done) (hears run.driving.plan (Moving session sent ticket done) reply))
-step run (Closing session end) reply = ap (λ after. goes_on (Some after)) (stands_from run (Closing session end) (hears run.driving.plan (Closing session end) reply))
-step run (Over end) reply = refl
+-- what a reply makes of a run that is not over
+pub record Steps (run : Underway) (driver : Driver) (reply : List ℕ) : Type 0 where
+  pub goes : goes_on (heard_by (underway_at run driver) reply) ≡ underway_at run (heard_of driver reply)
+  pub ends : end_told (heard_by (underway_at run driver) reply) ≡ end_of (heard_of driver reply)
 
-pub driven : (run : Underway) (standing : Standing) (replies : List (List ℕ)) → after_replies (underway_at run standing) replies ≡ underway_at run (fold (hears run.driving.plan) standing replies)
-driven run standing [] = refl
-driven run standing (reply ∷ rest) =
-    ap (λ now. after_replies now rest) (step run standing reply) ∙ driven run (hears run.driving.plan standing reply) rest
+end_of_stand : (run : Underway) (driver : Driver) (ended : Option Ended) → end_told (Some (goes_or_ends run driver ended)) ≡ ended
+end_of_stand run driver None = refl
+end_of_stand run driver (Some ended) = refl
 
-pub sends_next : (run : Underway) (standing : Standing) → next_of (underway_at run standing) ≡ sent_in run (sends run.driving.plan standing)
-sends_next run Starting = refl
-sends_next run (Moving session sent ticket done) = refl
-sends_next run (Closing session end) = refl
-sends_next run (Over end) = refl
+steps_on : (run : Underway) (driver : Driver) (reply : List ℕ) → underway_at run driver ≡ Some (with_driver run driver) → Steps run driver reply
+steps_on run driver reply on =
+    let next = heard_of driver reply in
+    record {
+      goes = ap (λ now. goes_on (heard_by now reply)) on ∙ ap (λ after. goes_on (Some after)) (stands_from run driver next);
+      ends = ap (λ now. end_told (heard_by now reply)) on ∙ end_of_stand (with_driver run driver) next (end_of next);
+    }
 
-pub over_is_none : (run : Underway) (standing : Standing) → is_over standing ≡ true → underway_at run standing ≡ None
-over_is_none run Starting over = absurd cc
-over_is_none run (Moving session sent ticket done) over = absurd cc
-over_is_none run (Closing session end) over = absurd cc
-over_is_none run (Over end) over = refl
+-- where a driver is not at its end, its run goes on, and where it is, it hears nothing
+pub data Stands (run : Underway) (driver : Driver) : Type 0 where
+  Goes : underway_at run driver ≡ Some (with_driver run driver) → Stands run driver
+  IsOver : underway_at run driver ≡ None → command_of driver ≡ None → ((reply : List ℕ) → underway_at run (heard_of driver reply) ≡ None) → Stands run driver
+
+on_path_stands : (run : Underway) (plan : Plan) (standing : Standing) → Stands run (Sighted (record { plan = plan; standing = standing }))
+on_path_stands run plan Starting = Goes refl
+on_path_stands run plan (Moving session sent ticket done) = Goes refl
+on_path_stands run plan (Closing session end) = Goes refl
+on_path_stands run plan (Over end) = IsOver refl refl (λ reply. refl)
+
+blindly_stands : (run : Underway) (policy : List ℕ) (plan : BlindPlan) (standing : BlindStanding) → Stands run (Blind policy (record { plan = plan; standing = standing }))
+blindly_stands run policy plan blind.Starting = Goes refl
+blindly_stands run policy plan (blind.Trying session sent place ticket done tries) = Goes refl
+blindly_stands run policy plan (blind.Again session sent place tries) = Goes refl
+blindly_stands run policy plan (blind.Closing session end) = Goes refl
+blindly_stands run policy plan (blind.Over end) = IsOver refl refl (λ reply. refl)
+
+stands : (run : Underway) (driver : Driver) → Stands run driver
+stands run (Sighted driven) = on_path_stands run driven.plan driven.standing
+stands run (Blind policy driving) = blindly_stands run policy driving.plan driving.standing
+
+step_by : (run : Underway) (driver : Driver) (reply : List ℕ) → Stands run driver → goes_on (heard_by (underway_at run driver) reply) ≡ underway_at run (heard_of driver reply)
+step_by run driver reply (Goes on) = (steps_on run driver reply on).goes
+step_by run driver reply (IsOver over silent stays) = ap (λ now. goes_on (heard_by now reply)) over ∙ sym (stays reply)
+
+step : (run : Underway) (driver : Driver) (reply : List ℕ) → goes_on (heard_by (underway_at run driver) reply) ≡ underway_at run (heard_of driver reply)
+step run driver reply = step_by run driver reply (stands run driver)
+
+-- the same, as the table has the run then
+pub goes_step : (run : Underway) (driver : Driver) (reply : List ℕ) → goes_on (heard_by (underway_at run driver) reply) ≡ underway_at (with_driver run (heard_of driver reply)) (heard_of driver reply)
+goes_step run driver reply =
+    step run driver reply ∙ sym (ap (λ after. goes_on (Some after)) (stands_from run (heard_of driver reply) (heard_of driver reply)))
+
+ends_by : (run : Underway) (driver : Driver) (command : Command) (reply : List ℕ) → command_of driver ≡ Some command → Stands run driver → end_told (heard_by (underway_at run driver) reply) ≡ end_of (heard_of driver reply)
+ends_by run driver command reply is (Goes on) = (steps_on run driver reply on).ends
+ends_by run driver command reply is (IsOver over silent stays) = absurd (none-some command (sym silent ∙ is))
+
+-- its end is told where the reply leads to it
+pub ends_step : (run : Underway) (driver : Driver) (command : Command) (reply : List ℕ) → command_of driver ≡ Some command → end_told (heard_by (underway_at run driver) reply) ≡ end_of (heard_of driver reply)
+ends_step run driver command reply is = ends_by run driver command reply is (stands run driver)
+
+sends_by : (run : Underway) (driver : Driver) → Stands run driver → next_of (underway_at run driver) ≡ sent_in run (command_of driver)
+sends_by run driver (Goes on) = ap next_of on ∙ same (command_of driver)
+  where
+    same : (command : Option Command) → sent_in (with_driver run driver) command ≡ sent_in run command
+    same None = refl
+    same (Some command) = refl
+sends_by run driver (IsOver over silent stays) = ap next_of over ∙ sym (ap (sent_in run) silent)
+
+-- what it sends
+pub sends_step : (run : Underway) (driver : Driver) → next_of (underway_at run driver) ≡ sent_in run (command_of driver)
+sends_step run driver = sends_by run driver (stands run driver)
+
+driven : (run : Underway) (driver : Driver) (replies : List (List ℕ)) → after_replies (underway_at run driver) replies ≡ underway_at run (fold heard_of driver replies)
+driven run driver [] = refl
+driven run driver (reply ∷ rest) =
+    ap (λ now. after_replies now rest) (step run driver reply) ∙ driven run (heard_of driver reply) rest
+
+-- ---- on one path
+
+on_path : (plan : Plan) (standing : Standing) (replies : List (List ℕ)) → fold heard_of (Sighted (record { plan = plan; standing = standing })) replies ≡ Sighted (record { plan = plan; standing = fold (hears plan) standing replies })
+on_path plan at [] = refl
+on_path plan at (reply ∷ rest) = on_path plan (hears plan at reply) rest
+
+pub driven_on_path : (run : Underway) (plan : Plan) (standing : Standing) (replies : List (List ℕ))
+    → after_replies (underway_at run (Sighted (record { plan = plan; standing = standing }))) replies
+    ≡ underway_at run (Sighted (record { plan = plan; standing = fold (hears plan) standing replies }))
+driven_on_path run plan standing replies =
+    driven run (Sighted (record { plan = plan; standing = standing })) replies ∙ ap (underway_at run) (on_path plan standing replies)
+
+pub over_is_none : (run : Underway) (plan : Plan) (standing : Standing) → is_over standing ≡ true → underway_at run (Sighted (record { plan = plan; standing = standing })) ≡ None
+over_is_none run plan Starting over = absurd cc
+over_is_none run plan (Moving session sent ticket done) over = absurd cc
+over_is_none run plan (Closing session end) over = absurd cc
+over_is_none run plan (Over end) over = refl
+
+-- ---- blindly
+
+blindly : (policy : List ℕ) (plan : BlindPlan) (standing : BlindStanding) (replies : List (List ℕ)) → fold heard_of (Blind policy (record { plan = plan; standing = standing })) replies ≡ Blind policy (record { plan = plan; standing = fold (blind_hears plan) standing replies })
+blindly policy plan at [] = refl
+blindly policy plan at (reply ∷ rest) = blindly policy plan (blind_hears plan at reply) rest
+
+pub driven_blindly : (run : Underway) (policy : List ℕ) (plan : BlindPlan) (standing : BlindStanding) (replies : List (List ℕ))
+    → after_replies (underway_at run (Blind policy (record { plan = plan; standing = standing }))) replies
+    ≡ underway_at run (Blind policy (record { plan = plan; standing = fold (blind_hears plan) standing replies }))
+driven_blindly run policy plan standing replies =
+    driven run (Blind policy (record { plan = plan; standing = standing })) replies ∙ ap (underway_at run) (blindly policy plan standing replies)
+
+pub blind_over_is_none : (run : Underway) (policy : List ℕ) (plan : BlindPlan) (standing : BlindStanding) → is_blind_over standing ≡ true → underway_at run (Blind policy (record { plan = plan; standing = standing })) ≡ None
+blind_over_is_none run policy plan blind.Starting over = absurd cc
+blind_over_is_none run policy plan (blind.Trying session sent place ticket done tries) over = absurd cc
+blind_over_is_none run policy plan (blind.Again session sent place tries) over = absurd cc
+blind_over_is_none run policy plan (blind.Closing session end) over = absurd cc
+blind_over_is_none run policy plan (blind.Over end) over = refl

@@ -1,3 +1,3 @@
-mod Driven
+pub mod Driven
 mod Outcomes
 mod Table

@@ -1,3 +1,4 @@
+pub mod Behind
 pub mod Courses
 pub mod Runs
 pub mod State

@@ -1,16 +1,21 @@
 -- A run that is under way.
-use Rattle.std.specs.Prelude.{ℕ}
+use Rattle.std.specs.Prelude.{ℕ, List}
 use Rattle.tpol_driver.specs.declared.plan.Plan.{Plan}
+use Rattle.tpol_driver.specs.Blind.{BlindDriving}
 use Rattle.tpol_driver.specs.Driving.{Standing}
 
--- what a driver is to do, and where it stands
+-- what a driver on one path is to do, and where it stands
 pub record Driven : Type 0 where
   pub plan : Plan
   pub standing : Standing
 
--- the client that sends its commands, from which locality, how many they are at most, and the driver
+-- a run's driver: one on a path that was chosen, or a blind one on the paths of the policy of this name
+pub data Driver : Type 0 where
+  Sighted : Driven → Driver
+  Blind : List ℕ → BlindDriving → Driver
+
+-- the client that sends its commands, from which locality, and the driver
 pub record Underway : Type 0 where
   pub client : ℕ
   pub locality : ℕ
-  pub most_commands : ℕ
-  pub driving : Driven
+  pub driver : Driver

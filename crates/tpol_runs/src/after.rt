@@ -1,11 +1,11 @@
 //! What a reply makes of a run.
 
+use crate::ended::Ended;
 use crate::run::Run;
-use tpol_driver::End;
 
 /// What a reply makes of a run: it goes on, or it is over.
 #[derive(Drop)]
 pub enum After {
     Goes(Run),
-    Ends(End),
+    Ends(Ended),
 }

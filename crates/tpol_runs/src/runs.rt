@@ -2,18 +2,19 @@
 
 ghost use Rattle.std.specs.Prelude.{◌≡◌, ◌<◌, ◌≤◌, ◌∷◌, ◌++◌, [], None, Some, length, position, IfOk, IfSome, OnOk, OnErr, ℕ};
 ghost use Rattle.std.specs.Option.{option_copied};
-ghost use Rattle.tpol_runs.specs.Courses.{begun, end_told, goes_on, heard_by, most_of, next_of, run_after};
+ghost use Rattle.tpol_runs.specs.Courses.{begun, begun_blind, end_told, goes_on, heard_by, next_of, run_after};
 ghost use Rattle.tpol_runs.specs.Runs.{has_number, run_at, with_run};
 
 use crate::after::After;
+use crate::ended::Ended;
 use crate::numbered::Numbered;
 use crate::run::Run;
 use crate::sent::Sent;
 use std::alloc::Global;
 use std::marker::Model;
 use std::mem::replace;
-use tpol_base::NoMemory;
-use tpol_driver::{End, Plan};
+use tpol_base::{NoMemory, Text};
+use tpol_driver::{BlindStart, Plan};
 
 /// The runs of a script by their numbers. Contracts see the list of the runs that were begun, in order; a run
 /// that is over has no state any more.
@@ -60,6 +61,25 @@ impl Runs {
         Ok(())
     }
 
+    /// Begins a blind run on the paths of the policy of this name, whose commands this client sends from this
+    /// locality. After `NoMemory` the runs are as before.
+    pub fn begin_blind(
+        &mut self,
+        number: u16,
+        client: u32,
+        locality: u8,
+        policy: Text,
+        start: BlindStart,
+    ) -> Result<(), NoMemory>
+        requires locality { locality ≤ 4 }
+        ensures ok { OnOk result (self.new ≡ self.old ++ record { number = number; run = Some (begun_blind client locality policy start.plan) } ∷ []) }
+        ensures err { OnErr result (self.new ≡ self.old) }
+    {
+        let run = Some(Run::blind(client, locality, policy, start));
+        self.runs.push(Numbered { number, run })?;
+        Ok(())
+    }
+
     /// Begins a run that has no path to go: it is over at once. After `NoMemory` the runs are as before.
     pub fn begin_without_path(&mut self, number: u16) -> Result<(), NoMemory>
         ensures ok { OnOk result (self.new ≡ self.old ++ record { number = number; run = None } ∷ []) }
@@ -67,16 +87,6 @@ impl Runs {
     {
         self.runs.push(Numbered { number, run: None })?;
         Ok(())
-    }
-
-    /// How many commands the run of this number has at most in all; 0 where it is over.
-    pub fn most_commands(&self, number: u16) -> u32
-        ensures { result ≡ most_of (run_at self.now number) }
-    {
-        match self.find(number) {
-            Some(run) => run.most_commands(),
-            None => 0,
-        }
     }
 
     /// The next command of the run of this number; `None` where it is over. It fails only where memory ran out.
@@ -98,7 +108,7 @@ impl Runs {
         alloc: Global,
         number: u16,
         reply: &[u8],
-    ) -> Result<Option<End>, NoMemory>
+    ) -> Result<Option<Ended>, NoMemory>
         ensures told { IfOk result (λ told. told ≡ end_told (heard_by (run_at self.old number) reply.now)) }
         ensures runs { OnOk result (self.new ≡ with_run self.old number (goes_on (heard_by (run_at self.old number) reply.now))) }
         ensures err { OnErr result (self.new ≡ self.old) }
@@ -142,14 +152,14 @@ impl Runs {
 }
 
 // Hands a reply to a run: the run, where it goes on, and its end, where it is over now.
-fn hand(run: Run, alloc: Global, reply: &[u8]) -> (Option<Run>, Result<Option<End>, NoMemory>)
+fn hand(run: Run, alloc: Global, reply: &[u8]) -> (Option<Run>, Result<Option<Ended>, NoMemory>)
     ensures told { IfOk result.1 (λ told. told ≡ end_told (Some (run_after run reply.now))) }
     ensures run { OnOk result.1 (result.0 ≡ goes_on (Some (run_after run reply.now))) }
     ensures back { OnErr result.1 (result.0 ≡ Some run) }
 {
     match run.take(alloc, reply) {
         Ok(After::Goes(run)) => (Some(run), Ok(None)),
-        Ok(After::Ends(end)) => (None, Ok(Some(end))),
+        Ok(After::Ends(ended)) => (None, Ok(Some(ended))),
         Err((run, no_memory)) => (Some(run), Err(no_memory)),
     }
 }

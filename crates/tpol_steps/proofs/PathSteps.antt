@@ -1,14 +1,14 @@
 -- The limits of a policy's paths, by their number and their lengths, whichever memory the policy lies in.
 use Rattle.std.proofs.Common.{◌≡◌, ℕ, ◌<◌, ◌≤◌, List, map, true, false, length, nat_lt, Option, Ok, Err, ap, subst, ◌∙◌, arith}
 use Rattle.std.proofs.lemmas.Bool.Decides.{nat_tests}
-use Rattle.std.specs.Prelude.{All, codes}
+use Rattle.std.specs.Prelude.{All, codes, min}
 use Rattle.std.specs.List.{list_any}
 use Rattle.tpol_digest.specs.Limits.{AreWithinLimits}
 use Rattle.tpol_digest.specs.Paths.{paths_of}
 use Rattle.tpol_digest.proofs.Erasures.{paths_ignore_boxes}
 use Rattle.tpol_tree.specs.ClosedErased.{erased, erased_document}
 use Rattle.tpol_steps.proofs.LimitTests.{none_too_long}
-use Rattle.tpol_steps.specs.Limits.{is_too_long, limit_step, within_limits}
+use Rattle.tpol_steps.specs.Limits.{few_to_try, is_too_long, limit_step, within_limits}
 use Rattle.tpol_steps.specs.Refusals.{path_limit}
 use Rattle.tpol_tree.specs.declared.closed.Closed.{Closed}
 use Rattle.tpol_tree.specs.declared.path.ApprovedDoc.{ApprovedDoc}
@@ -40,3 +40,22 @@ short_enough paths short =
 pub within : (document : Option (List ℕ)) (closed : Closed) (approvals : List ApprovedDoc) → AreWithinLimits (paths_of closed approvals) → limit_step document (erased closed) (map erased_document approvals) ≡ Ok tt
 within document closed approvals h =
     limit_as_it_lies document closed approvals ∙ rw (few (paths_of closed approvals) h.few, short_enough (paths_of closed approvals) h.short)
+
+-- ---- policies whose paths a blind run tries
+
+try_as_it_lies : (document : Option (List ℕ)) (closed : Closed) (approvals : List ApprovedDoc) → few_to_try document (paths_of (erased closed) (map erased_document approvals)) ≡ few_to_try document (paths_of closed approvals)
+try_as_it_lies document closed approvals = ap (few_to_try document) (paths_ignore_boxes closed approvals)
+
+many_to_try : (paths : List Path) (count : ℕ) → count ≡ min (length paths) 65537 → 64 < count → nat_lt 64 (length paths) ≡ true
+many_to_try paths count counted h = grind (arith, nat_tests)
+
+some_to_try : (paths : List Path) (count : ℕ) → count ≡ min (length paths) 65537 → count ≤ 64 → nat_lt 64 (length paths) ≡ false
+some_to_try paths count counted h = grind (arith, nat_tests)
+
+pub too_many_to_try : (document : Option (List ℕ)) (closed : Closed) (approvals : List ApprovedDoc) (count : ℕ) → count ≡ min (length (paths_of closed approvals)) 65537 → 64 < count
+    → few_to_try document (paths_of (erased closed) (map erased_document approvals)) ≡ Err (path_limit (codes "TooManyPaths") document)
+too_many_to_try document closed approvals count counted h = try_as_it_lies document closed approvals ∙ rw (many_to_try (paths_of closed approvals) count counted h)
+
+pub few_enough : (document : Option (List ℕ)) (closed : Closed) (approvals : List ApprovedDoc) (count : ℕ) → count ≡ min (length (paths_of closed approvals)) 65537 → count ≤ 64
+    → few_to_try document (paths_of (erased closed) (map erased_document approvals)) ≡ Ok tt
+few_enough document closed approvals count counted h = try_as_it_lies document closed approvals ∙ rw (some_to_try (paths_of closed approvals) count counted h)

@@ -28,3 +28,21 @@ unfoldable pub limits_step : List ApprovedDoc → List FilledDocument → Step (
 limits_step approvals [] = Ok tt
 limits_step approvals (document ∷ rest) =
     limit_step (Some document.name) document.closed approvals >>= λ within. limits_step approvals rest
+
+-- ---- policies whose paths a blind run tries
+
+-- it tries at most 64 paths
+abbrev pub few_to_try : Option (List ℕ) → List Path → Step (Unit {0})
+few_to_try document paths =
+    if nat_lt 64 (length paths) then Err (path_limit (codes "TooManyPaths") document) else Ok tt
+
+-- a policy has at most 64 paths, and is within the limits besides
+unfoldable pub tried_limit_step : Option (List ℕ) → Closed → List ApprovedDoc → Step (Unit {0})
+tried_limit_step document closed approvals =
+    few_to_try document (paths_of closed approvals) >>= λ few. limit_step document closed approvals
+
+-- the same of each of these documents
+unfoldable pub tried_limits_step : List ApprovedDoc → List FilledDocument → Step (Unit {0})
+tried_limits_step approvals [] = Ok tt
+tried_limits_step approvals (document ∷ rest) =
+    tried_limit_step (Some document.name) document.closed approvals >>= λ within. tried_limits_step approvals rest

@@ -7,6 +7,7 @@ use Rattle.tpol_top.specs.Numbers.{number_of_word}
 use Rattle.tpol_top.specs.declared.request.Request.{Request}
 use Rattle.tpol_top.specs.declared.request.Request.TheVariants.{Compile, Paths, Lint, Canon, Import, Check, Perform, Generate}
 use Rattle.tpol_prepare.specs.declared.manner.Manner.TheVariants as manners
+use Rattle.tpol_prepare.specs.declared.manner.Way.TheVariants.{Blind, Sighted}
 
 -- the command of one word
 abbrev pub one_word_request : List ℕ → Option Request
@@ -15,8 +16,8 @@ one_word_request word =
     else (if bytes_eq word (codes "paths") then Some (Paths None)
     else (if bytes_eq word (codes "lint") then Some (Lint None)
     else (if bytes_eq word (codes "canon") then Some Canon
-    else (if bytes_eq word (codes "run") then Some (Perform manners.Run)
-    else (if bytes_eq word (codes "explain") then Some (Perform manners.Explain) else None)))))
+    else (if bytes_eq word (codes "run") then Some (Perform (manners.Run Sighted))
+    else (if bytes_eq word (codes "explain") then Some (Perform (manners.Explain Sighted)) else None)))))
 
 -- the name of a policy or of a scene, where it is one
 abbrev pub policy_stem : List ℕ → Option (List ℕ)
@@ -33,14 +34,21 @@ request_with_name word (Some name) =
 abbrev pub name_request : List ℕ → List ℕ → Option Request
 name_request word name = request_with_name word (policy_stem name)
 
+-- the command `run` with one more word
+abbrev pub run_request : List ℕ → Option Request
+run_request option = if bytes_eq option (codes "--blind") then Some (Perform (manners.Run Blind)) else None
+
 -- the command `explain` with one more word
 abbrev pub explain_request : List ℕ → Option Request
-explain_request option = if bytes_eq option (codes "--cert") then Some (Perform manners.Certify) else None
+explain_request option =
+    if bytes_eq option (codes "--cert") then Some (Perform manners.Certify)
+    else (if bytes_eq option (codes "--blind") then Some (Perform (manners.Explain Blind)) else None)
 
--- the command of two words; what stands behind `explain` is no name
+-- the command of two words; what stands behind `run` and `explain` is no name
 abbrev pub two_word_request : List ℕ → List ℕ → Option Request
 two_word_request word second =
-    if bytes_eq word (codes "explain") then explain_request second else name_request word second
+    if bytes_eq word (codes "run") then run_request second
+    else (if bytes_eq word (codes "explain") then explain_request second else name_request word second)
 
 -- the command of a word with this scene
 abbrev pub request_with_scene : List ℕ → Option (List ℕ) → Option Request

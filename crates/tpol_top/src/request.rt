@@ -1,11 +1,11 @@
 ghost use Rattle.std.specs.Prelude.{◌≡◌, map, IfOk};
 ghost use Rattle.std.specs.String.{string_bytes};
-ghost use Rattle.tpol_top.specs.Words.{check_request, explain_request, four_word_request, generation, request_of, name_request, one_word_request, policy_stem, scene_request, three_word_request, two_word_request};
+ghost use Rattle.tpol_top.specs.Words.{check_request, explain_request, four_word_request, generation, request_of, name_request, one_word_request, policy_stem, run_request, scene_request, three_word_request, two_word_request};
 
 use crate::numbers::number_of_word;
 use std::alloc::Global;
 use tpol_base::{NoMemory, Text, is_policy_name, without_folder};
-use tpol_prepare::Manner;
+use tpol_prepare::{Manner, Way};
 
 /// What the words ask for.
 #[derive(Drop)]
@@ -24,7 +24,8 @@ pub enum Request {
     /// `check NAME`, `check NAME --scene SCENE`: whether the source certifies a path of the shelf's policy of this name,
     /// filled with a scene of the shelf.
     Check { name: Text, scene: Option<Text> },
-    /// `run`, `explain`, `explain --cert`: carries out the scene in the source, in this manner.
+    /// `run`, `run --blind`, `explain`, `explain --blind`, `explain --cert`: carries out the scene in the source, in this
+    /// manner.
     Perform { manner: Manner },
     /// `gen N M`: a run of a policy of N ORs (1 to 12), whose branches stand in an order by the bits of M.
     Generate { ors: u8, order: u32 },
@@ -69,12 +70,12 @@ fn one_word_request(word: &str) -> Option<Request>
     }
     if word == "run" {
         return Some(Request::Perform {
-            manner: Manner::Run,
+            manner: Manner::Run(Way::Sighted),
         });
     }
     if word == "explain" {
         return Some(Request::Perform {
-            manner: Manner::Explain,
+            manner: Manner::Explain(Way::Sighted),
         });
     }
     None
@@ -83,23 +84,43 @@ fn one_word_request(word: &str) -> Option<Request>
 fn two_word_request(alloc: Global, word: &str, second: &str) -> Result<Option<Request>, NoMemory>
     ensures { IfOk result (λ request. request ≡ two_word_request word.now second.now) }
 {
+    if word == "run" {
+        return Ok(run_request(second));
+    }
     if word == "explain" {
         return Ok(explain_request(second));
     }
     name_request(alloc, word, second)
 }
 
-// What `explain` tells besides. The option is taken as it is: it is the name of a policy too.
-fn explain_request(option: &str) -> Option<Request>
-    ensures { result ≡ explain_request option.now }
+// How `run` drives. The option is taken as it is: it is the name of a policy too.
+fn run_request(option: &str) -> Option<Request>
+    ensures { result ≡ run_request option.now }
 {
-    if option == "--cert" {
+    if option == "--blind" {
         Some(Request::Perform {
-            manner: Manner::Certify,
+            manner: Manner::Run(Way::Blind),
         })
     } else {
         None
     }
+}
+
+// How `explain` drives, or what it tells besides; at most one of the two.
+fn explain_request(option: &str) -> Option<Request>
+    ensures { result ≡ explain_request option.now }
+{
+    if option == "--cert" {
+        return Some(Request::Perform {
+            manner: Manner::Certify,
+        });
+    }
+    if option == "--blind" {
+        return Some(Request::Perform {
+            manner: Manner::Explain(Way::Blind),
+        });
+    }
+    None
 }
 
 fn name_request(alloc: Global, word: &str, name: &str) -> Result<Option<Request>, NoMemory>

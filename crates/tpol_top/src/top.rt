@@ -101,7 +101,8 @@ pub fn policy_main<S: Source, K: Sink, H: Shelf>(
 
     // The report of a scene that `run` or `explain` carries out tells it, also where the sink failed and a first part of
     // the report was written. Every command of its journal that asks for a policy session was authorized exactly where
-    // the clause above says, and served exactly where it says. A run begins on the first path that nothing blocks, and
+    // the clause above says, and served exactly where it says. A run that is not blind begins on the first path that
+    // nothing blocks, and
     // where only its own turns follow, one for each command of the path, it is served exactly where it begins on one,
     // with what its goal gives; else it is printed what blocks each path.
     ensures scene_told { IfPerform (request_of (map string_bytes words.now.items)) (λ manner.
