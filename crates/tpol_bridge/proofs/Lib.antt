@@ -1,4 +1,5 @@
 pub mod Filled
 pub mod Kept
 pub mod NoRequest
+pub mod Positions
 pub mod ReadFirst

@@ -5,6 +5,7 @@ use Rattle.serde_json.specs.Data.{Data}
 use Rattle.tpol_base.specs.declared.document.Document.{Document}
 use Rattle.tpol_bridge.specs.Digests.{digests_step, told_with}
 use Rattle.tpol_bridge.specs.Exports.{Exported, export_step}
+use Rattle.tpol_bridge.specs.Steps.{stepped_with, steps_step}
 use Rattle.tpol_json.specs.Document.{document_of}
 use Rattle.tpol_steps.specs.declared.answer.Answer.{Answer}
 use Rattle.tpol_steps.specs.declared.halt.Halt.{Halt}
@@ -21,3 +22,8 @@ pub told_after : (documents : Option (List Document)) (scene : Option (List ℕ)
 unfolding digests_step
 told_after None scene input export result is_read answers = tt
 told_after (Some all) scene input export result is_read answers = rw is_read answers
+
+pub stepped_after : (position : ℕ) (documents : Option (List Document)) (scene : Option (List ℕ)) (input : List ℕ) (export : Exported) (result : Result Answer Halt) → export_step input ≡ Ok export → IfSome documents (λ all. Answers (λ answer. answer) (stepped_with position scene export.policy all) result) → IfSome documents (λ all. Answers (λ answer. answer) (steps_step position scene input all) result)
+unfolding steps_step
+stepped_after position None scene input export result is_read answers = tt
+stepped_after position (Some all) scene input export result is_read answers = rw is_read answers

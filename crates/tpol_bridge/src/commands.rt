@@ -3,6 +3,7 @@
 use crate::adopt::adopt;
 use crate::digests::digests;
 use crate::request::{Request, request_of_words};
+use crate::steps::steps;
 use std::alloc::Global;
 use tpol_base::{NoMemory, Shelf};
 use tpol_front::Command;
@@ -36,6 +37,7 @@ impl Command for Request {
         match self {
             Request::Adopt => adopt(alloc, input),
             Request::Digests { scene } => digests(alloc, scene, input, shelf),
+            Request::Steps { position, scene } => steps(alloc, *position, scene, input, shelf),
         }
     }
 }

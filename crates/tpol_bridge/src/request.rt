@@ -1,7 +1,8 @@
 ghost use Rattle.std.specs.Prelude.{◌≡◌, map, IfOk};
 ghost use Rattle.std.specs.String.{string_bytes};
-ghost use Rattle.tpol_bridge.specs.Words.{digests_request, one_word_request, request_of, scene_stem, three_word_request};
+ghost use Rattle.tpol_bridge.specs.Words.{digests_request, four_word_request, one_word_request, request_of, scene_stem, steps_request, steps_scene_request, three_word_request, two_word_request};
 
+use crate::numbers::number_of_word;
 use std::alloc::Global;
 use tpol_base::{NoMemory, Text, is_policy_name, without_folder};
 
@@ -12,6 +13,9 @@ pub enum Request {
     Adopt,
     /// `digests`, `digests --scene NAME`: the digest after each of its elements, filled with a scene of the shelf.
     Digests { scene: Option<Text> },
+    /// `steps P`, `steps P --scene NAME`: the policy commands of the path at a position, from 1, with the digest after
+    /// each; documents of the shelf are approved.
+    Steps { position: u32, scene: Option<Text> },
 }
 
 /// The command that the words are, or `None` where they are none. It fails only where memory ran out.
@@ -20,12 +24,19 @@ pub fn request_of_words(alloc: Global, words: &Vec<String>) -> Result<Option<Req
 {
     match words.as_slice() {
         [word] => Ok(one_word_request(word.as_str())),
+        [word, position] => Ok(two_word_request(word.as_str(), position.as_str())),
         [word, option, name] => {
             three_word_request(alloc, word.as_str(), option.as_str(), name.as_str())
         }
+        [word, position, option, name] => four_word_request(
+            alloc,
+            word.as_str(),
+            position.as_str(),
+            option.as_str(),
+            name.as_str(),
+        ),
         [] => Ok(None),
-        [_, _] => Ok(None),
-        [_, _, _, _, ..] => Ok(None),
+        [_, _, _, _, _, ..] => Ok(None),
     }
 }
 
@@ -65,4 +76,51 @@ fn digests_request(alloc: Global, name: &str) -> Result<Option<Request>, NoMemor
         return Ok(Some(Request::Digests { scene }));
     }
     Ok(None)
+}
+
+fn two_word_request(word: &str, position: &str) -> Option<Request>
+    ensures { result ≡ two_word_request word.now position.now }
+{
+    if word == "steps" {
+        return steps_request(None, number_of_word(position));
+    }
+    None
+}
+
+fn four_word_request(
+    alloc: Global,
+    word: &str,
+    position: &str,
+    option: &str,
+    name: &str,
+) -> Result<Option<Request>, NoMemory>
+    ensures { IfOk result (λ request. request ≡ four_word_request word.now position.now option.now name.now) }
+{
+    if word == "steps" && option == "--scene" {
+        return steps_scene_request(alloc, name, number_of_word(position));
+    }
+    Ok(None)
+}
+
+// The command `steps` with a scene.
+fn steps_scene_request(
+    alloc: Global,
+    name: &str,
+    position: Option<u32>,
+) -> Result<Option<Request>, NoMemory>
+    ensures { IfOk result (λ request. request ≡ steps_scene_request (scene_stem name.now) position) }
+{
+    let stem = without_folder(name);
+    if is_policy_name(stem) {
+        let scene = Some(Text::from_str(alloc, stem)?);
+        return Ok(steps_request(scene, position));
+    }
+    Ok(None)
+}
+
+// The command `steps` of the path of a number.
+fn steps_request(scene: Option<Text>, position: Option<u32>) -> Option<Request>
+    ensures { result ≡ steps_request scene position }
+{
+    position.map(|position| Request::Steps { position, scene })
 }
