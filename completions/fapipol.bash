@@ -10,7 +10,7 @@ _fapipol() {
         2:explain) all='--blind --cert' ;;
         2:import | 2:check) all=$(_fapipol_names json) ;;
         3:--scene | 4:--scene) all=$(_fapipol_names scene) ;;
-        3:*) [ "${COMP_WORDS[1]}" != check ] || all=--scene ;;
+        3:*) case ${COMP_WORDS[1]} in check | steps) all=--scene ;; esac ;;
     esac
     mapfile -t COMPREPLY < <(compgen -W "$all" -- "$word")
 }
