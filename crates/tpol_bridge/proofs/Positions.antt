@@ -2,9 +2,8 @@
 use Rattle.std.proofs.Common.{◌≡◌, ℕ, zero, suc, ◌≤◌, ◌<◌, ◌-◌, ◌⊎◌, inl, inr, List, map, length, Option, Some, None, refl, ap, ◌∙◌, arith}
 use Rattle.std.proofs.lemmas.Option.{slice_get_past}
 use Rattle.std.specs.List.{slice_get}
-use Rattle.tpol_bridge.specs.Steps.{found_step, path_answer, path_at}
+use Rattle.tpol_bridge.specs.Steps.{found_step, path_at}
 use Rattle.tpol_digest.proofs.Erasures.{paths_ignore_boxes}
-use Rattle.tpol_digest.specs.Digest.{policy_digest}
 use Rattle.tpol_digest.specs.Paths.{paths_of}
 use Rattle.tpol_steps.proofs.FilledErased.{policy_digest_erased}
 use Rattle.tpol_tree.specs.ClosedErased.{erased, erased_document}

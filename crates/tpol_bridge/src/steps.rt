@@ -131,12 +131,7 @@ fn no_such_path(alloc: Global) -> Result<Answer, NoMemory>
 }
 
 // The line of a path, those of its policy commands, and the policy's digest.
-fn tell_path(
-    alloc: Global,
-    closed: &Closed,
-    position: u32,
-    path: &Path,
-) -> Result<Answer, NoMemory>
+fn tell_path(alloc: Global, closed: &Closed, position: u32, path: &Path) -> Result<Answer, NoMemory>
     ensures { IfOk result (λ answer. answer ≡ path_answer closed.now position path.now) }
 {
     let mut lines = Lines::new(alloc);

@@ -16,7 +16,7 @@ use tpol_front::{Status, run_program};
 
 /// Does all that the program for FAPI's exports does: takes the words behind the program's name, reads the export from
 /// `source`, prints the report to `out`, one write a line, and answers the status. A scene that a command names is on
-/// the shelf, and so are the policies that the scene names.
+/// the shelf, and so are the policies that the scene names and those that are approved.
 ///
 /// `left`, `contents` and `documents` are what source, sink and shelf tell that they hold. Each count of
 /// faults is that object's own, and rises at each of its faults.
@@ -51,8 +51,9 @@ pub fn bridge_main<S: Source, K: Sink, H: Shelf>(
         → IfSome (S.left source.old) (λ held. S.left source.new ≡ Some (drop most_read held)) }
     ensures read_at_most { LosesAtMost most_read (S.left source.old) (S.left source.new) }
 
-    // Words that are no command leave the source alone; a command that names no scene leaves the shelf alone. The
-    // shelf is asked only once what was read is an export that says a policy.
+    // Words that are no command leave the source alone; a command that names no scene and does not ask which
+    // policies are approved leaves the shelf alone. The shelf is asked only once what was read is an export that
+    // says a policy.
     ensures unread { reads_source (map string_bytes words.now.items) ≡ false → source.new ≡ source.old }
     ensures untouched { uses_shelf (map string_bytes words.now.items) ≡ false → shelf.new ≡ shelf.old }
     ensures asked { IfSome (S.left source.old) (λ held.

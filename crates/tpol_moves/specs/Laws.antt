@@ -20,5 +20,5 @@ abbrev pub LastStepsHavePolicyDigest : Type 0
 LastStepsHavePolicyDigest =
     (policy : Closed) (documents : List ApprovedDoc) →
     All (λ path. (before : List Move) (act : Move) → path.moves ≡ before ++ act ∷ []
-        → slice_get (step_lines [] path.moves) (length before)
-        ≡ Some (line_of (step_line (length before + 1) act (policy_digest policy)))) (paths_of policy documents)
+    → slice_get (step_lines [] path.moves) (length before)
+    ≡ Some (line_of (step_line (length before + 1) act (policy_digest policy)))) (paths_of policy documents)
