@@ -41,7 +41,7 @@ use Rattle.tpol_tree.specs.declared.path.Path.{Path}
 use Rattle.tpol_tree.specs.Bounds.{HasClosedBounds}
 use Rattle.tpol_laws.specs.Acts.{Run}
 use Rattle.tpol_laws.specs.Runs.{IsBegun}
-use Rattle.tpol_laws.specs.Told.{AreBlocksOf, BeginsNowhere, BeginsOn, RunOf, before_begin, begins, behind_begin, chosen_for, paths_for, sight_at_begin}
+use Rattle.tpol_laws.specs.Told.{AreBlocksOf, BeginsNowhere, BeginsOn, IsSighted, RunOf, before_begin, begins, behind_begin, chosen_for, paths_for, sight_at_begin}
 use Rattle.tpol_laws.proofs.Finds.{all-at, find-each}
 use Rattle.tpol_laws.proofs.Followed.{any, allows-any}
 use Rattle.tpol_laws.proofs.Prints.{IsBehind, IsOther, Spares, all-spare, found-begun}
@@ -254,7 +254,7 @@ module _ (staged : StagedScene) (run : RunOf staged.script) (is : IsStaged stage
         among = stands-in.begins.among;
       }
 
-  sighted-is : way_of staged.scenario.manner ≢ ways.Blind → behind_begin staged run ≡ begun_in_sight staged.scenario run.policy (begins staged run) (before_begin staged run)
+  sighted-is : IsSighted staged → behind_begin staged run ≡ begun_in_sight staged.scenario run.policy (begins staged run) (before_begin staged run)
   unfolding run_begun
   sighted-is sees = by (way_of staged.scenario.manner) sees
     where
@@ -266,7 +266,7 @@ module _ (staged : StagedScene) (run : RunOf staged.script) (is : IsStaged stage
   unfolding begun_in_sight begun_on
   seen-is = refl
 
-  pub begun-is : way_of staged.scenario.manner ≢ ways.Blind → (chosen : Option ℕ) → chosen_for staged run ≡ chosen → behind_begin staged run ≡ begun_at staged.scenario (sight_at_begin staged run) (paths_for staged run) (begins staged run) chosen (before_begin staged run)
+  pub begun-is : IsSighted staged → (chosen : Option ℕ) → chosen_for staged run ≡ chosen → behind_begin staged run ≡ begun_at staged.scenario (sight_at_begin staged run) (paths_for staged run) (begins staged run) chosen (before_begin staged run)
   begun-is sees chosen e = sighted-is sees ∙ seen-is ∙ ap (λ o. begun_at staged.scenario (sight_at_begin staged run) (paths_for staged run) (begins staged run) o (before_begin staged run)) e
 
   -- on a path
@@ -275,14 +275,15 @@ module _ (staged : StagedScene) (run : RunOf staged.script) (is : IsStaged stage
       with_line (chosen_line run.number position path.steps)
       (with_new_run run.number (Some (begun_underway run.client run.locality (plan_along staged.scenario path (begins staged run)))) (before_begin staged run))
 
-  pub begun-along-is : way_of staged.scenario.manner ≢ ways.Blind → (position : ℕ) (path : Path) → chosen_for staged run ≡ Some position → slice_get (paths_for staged run) (position - 1) ≡ Some path → behind_begin staged run ≡ along-state position path
+  pub begun-along-is : IsSighted staged → (position : ℕ) (path : Path) → chosen_for staged run ≡ Some position → slice_get (paths_for staged run) (position - 1) ≡ Some path → behind_begin staged run ≡ along-state position path
   begun-along-is sees position path chosen at =
       begun-is sees (Some position) chosen ∙ ap (λ o. begun_along staged.scenario position (begins staged run) o (before_begin staged run)) at
 
-  pub begins-on : way_of staged.scenario.manner ≢ ways.Blind → (position : ℕ) → chosen_for staged run ≡ Some position → BeginsOn staged run position
+  pub begins-on : IsSighted staged → (position : ℕ) → chosen_for staged run ≡ Some position → BeginsOn staged run position
   begins-on sees position chosen =
       let found = open-path (paths_for staged run) (sight_at_begin staged run) (begins staged run).grants run.goal run.locality position chosen in
       record {
+        sees = sees;
         chosen = chosen;
         path = found.path;
         listed = found.at;
@@ -322,7 +323,7 @@ module _ (staged : StagedScene) (run : RunOf staged.script) (is : IsStaged stage
       (block-told position path rest p (first_block path (sight_at_begin staged run) (begins staged run).grants run.goal run.locality) refl none
       (λ q later. blocks-told (position + 1) rest q later))
 
-  pub begins-nowhere : way_of staged.scenario.manner ≢ ways.Blind → chosen_for staged run ≡ None → BeginsNowhere staged run
+  pub begins-nowhere : IsSighted staged → chosen_for staged run ≡ None → BeginsNowhere staged run
   unfolding begun_nowhere chosen_path
   begins-nowhere sees chosen =
       let p = with_line (nobranch_line run.number) (with_new_run run.number None (before_begin staged run)) in

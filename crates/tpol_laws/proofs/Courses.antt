@@ -1,5 +1,5 @@
 -- The run of a script is where its course is, whatever others do between.
-use Rattle.std.proofs.Common.{◌≡◌, ◌≢◌, ℕ, Bool, true, false, true≢false, if◌then◌else◌, List, [], ◌∷◌, ◌++◌, map, replicate, refl, ap, sym, subst, ◌∙◌, append_assoc}
+use Rattle.std.proofs.Common.{◌≡◌, ℕ, Bool, true, false, true≢false, if◌then◌else◌, List, [], ◌∷◌, ◌++◌, map, replicate, refl, ap, sym, subst, ◌∙◌, append_assoc}
 use Rattle.std.specs.List.{AllByRecursion}
 use Rattle.std.specs.Prelude.{Contains}
 use Rattle.std.proofs.lemmas.Bool.{eqb-true}
@@ -9,10 +9,8 @@ use Rattle.tpol_driver.specs.Driving.{Drive, Ends, Sends, sends}
 use Rattle.tpol_lines.specs.Lines.{line_of}
 use Rattle.tpol_lines.specs.Runs.{end_line}
 use Rattle.tpol_perform.specs.Performance.{PerformanceState}
-use Rattle.tpol_perform.specs.Script.{all_happened, happened, turn_told}
-use Rattle.tpol_prepare.specs.declared.manner.Way.TheVariants.{Blind}
+use Rattle.tpol_perform.specs.Script.{all_happened, happened}
 use Rattle.tpol_prepare.specs.declared.scenario.Scenario.{Scenario}
-use Rattle.tpol_prepare.specs.Manner.{way_of}
 use Rattle.tpol_prepare.specs.declared.scenario.StagedScene.{StagedScene}
 use Rattle.tpol_prepare.specs.Staged.{IsStaged}
 use Rattle.tpol_runs.specs.declared.ended.Ended.TheVariants as ended
@@ -43,13 +41,17 @@ module _ (run : Run) where
   calls-past [] course = refl
   calls-past (call ∷ calls) course = calls-past calls (record { past = event_by run.setup course.past call ∷ course.past; standing = course.standing })
 
+-- the run, where its course is, by its driver
+abbrev FollowsAt : Run → ℕ → PerformanceState → PerformanceState → Course → Type 0
+FollowsAt run number first p course = Follows (seat_of run) number first p (sighted_at run course)
+
 module _ (run : Run) (number : ℕ) (scenario : Scenario) (first : PerformanceState) where
   -- ---- events of others
 
-  calls-follow : (p q : PerformanceState) (course : Course) → Follows (seat_of run) number first p (sighted_at run course) → Spares any number p q → Goes p q → Follows (seat_of run) number first q (sighted_at run (after_acts run (map Other (calls_between p q)) course))
+  calls-follow : (p q : PerformanceState) (course : Course) → FollowsAt run number first p course → Spares any number p q → Goes p q → FollowsAt run number first q (after_acts run (map Other (calls_between p q)) course)
   calls-follow p q course is spares goes =
-      subst (λ calls. Follows (seat_of run) number first q (sighted_at run (after_acts run (map Other calls) course))) (sym (made p q goes))
-      (subst (λ c. Follows (seat_of run) number first q (sighted_at run c)) (sym (calls-past run goes.calls course))
+      subst (λ calls. FollowsAt run number first q (after_acts run (map Other calls) course)) (sym (made p q goes))
+      (subst (FollowsAt run number first q) (sym (calls-past run goes.calls course))
       (record {
         setup = spares.setup ∙ is.setup;
         past = goes.past ∙ (λ i. journal_after (is.setup i) goes.calls (is.past i));
@@ -69,33 +71,34 @@ module _ (run : Run) (number : ℕ) (scenario : Scenario) (first : PerformanceSt
 
   -- ---- its own turns
 
-  own-follow : (event : ScriptEvent) → is_turn_of number event ≡ true → (p : PerformanceState) (course : Course) → Follows (seat_of run) number first p (sighted_at run course)
-      → Follows (seat_of run) number first (happened scenario event p) (sighted_at run (after_acts run (replicate (turns_given number event) OwnTurn) course))
+  own-follow : (event : ScriptEvent) → is_turn_of number event ≡ true → (p : PerformanceState) (course : Course) → FollowsAt run number first p course
+      → FollowsAt run number first (happened scenario event p) (after_acts run (replicate (turns_given number event) OwnTurn) course)
   own-follow (Command client locality buffer) turn p course is = absurd (true≢false (sym turn))
   own-follow (Begin other client locality policy place goal) turn p course is = absurd (true≢false (sym turn))
   own-follow (Turn other times) turn p course is =
       let given : turns_given number (Turn other times) ≡ times_given times = ap (λ b. if b then times_given times else 0) turn in
       let same : other ≡ number = eqb-true other number turn in
-      subst (λ n. Follows (seat_of run) number first (happened scenario (Turn other times) p) (sighted_at run (after_acts run (replicate n OwnTurn) course))) (sym given)
-      (subst (λ k. Follows (seat_of run) number first (happened scenario (Turn k times) p) (sighted_at run (after_acts run (replicate (times_given times) OwnTurn) course))) (sym same) (subst (Follows (seat_of run) number first (turn_told scenario number times p)) (sighted-turns run (times_given times) course) (told-follows (seat_of run) number scenario first times p (sighted_at run course) is)))
+      subst (λ n. FollowsAt run number first (happened scenario (Turn other times) p) (after_acts run (replicate n OwnTurn) course)) (sym given)
+      (subst (λ k. FollowsAt run number first (happened scenario (Turn k times) p) (after_acts run (replicate (times_given times) OwnTurn) course)) (sym same) (subst (Follows (seat_of run) number first (happened scenario (Turn number times) p)) (sighted-turns run (times_given times) course)
+      (told-follows (seat_of run) number scenario first times p (sighted_at run course) is)))
   own-follow (Time ms) turn p course is = absurd (true≢false (sym turn))
   own-follow (Presence on) turn p course is = absurd (true≢false (sym turn))
   own-follow Reset turn p course is = absurd (true≢false (sym turn))
 
   -- ---- all events
 
-  event-by : (b : Bool) (event : ScriptEvent) → is_turn_of number event ≡ b → IsBehind number event → (p : PerformanceState) (course : Course) → Follows (seat_of run) number first p (sighted_at run course)
-      → Follows (seat_of run) number first (happened scenario event p) (sighted_at run (after_acts run (if b then replicate (turns_given number event) OwnTurn else map Other (calls_between p (happened scenario event p))) course))
+  event-by : (b : Bool) (event : ScriptEvent) → is_turn_of number event ≡ b → IsBehind number event → (p : PerformanceState) (course : Course) → FollowsAt run number first p course
+      → FollowsAt run number first (happened scenario event p) (after_acts run (if b then replicate (turns_given number event) OwnTurn else map Other (calls_between p (happened scenario event p))) course)
   event-by true event turn behind p course is = own-follow event turn p course is
   event-by false event turn behind p course is =
       calls-follow p (happened scenario event p) course is (happened-spares any number (allows-any number) scenario event (other-of event behind turn) p) (goes-happened scenario event p)
 
-  pub events-follow : (own : List ScriptEvent) → AllByRecursion (IsBehind number) own → (p : PerformanceState) (course : Course) → Follows (seat_of run) number first p (sighted_at run course)
-      → Follows (seat_of run) number first (all_happened scenario own p) (sighted_at run (after_acts run (acts_of scenario number own p) course))
+  pub events-follow : (own : List ScriptEvent) → AllByRecursion (IsBehind number) own → (p : PerformanceState) (course : Course) → FollowsAt run number first p course
+      → FollowsAt run number first (all_happened scenario own p) (after_acts run (acts_of scenario number own p) course)
   unfolding all_happened acts_of after_acts
   events-follow [] behind p course is = is
   events-follow (event ∷ rest) behind p course is =
-      subst (λ c. Follows (seat_of run) number first (all_happened scenario rest (happened scenario event p)) (sighted_at run c)) (sym (acts-both run (acts_of_event scenario number event p) (acts_of scenario number rest (happened scenario event p)) course))
+      subst (FollowsAt run number first (all_happened scenario rest (happened scenario event p))) (sym (acts-both run (acts_of_event scenario number event p) (acts_of scenario number rest (happened scenario event p)) course))
       (events-follow rest behind.1 (happened scenario event p) (after_acts run (acts_of_event scenario number event p) course)
       (event-by (is_turn_of number event) event refl behind.0 p course is))
 
@@ -105,20 +108,17 @@ sent-same : (run : Run) (driver : Driver) (drive : Drive) → sent_in (underway_
 sent-same run driver (Sends command) = refl
 sent-same run driver (Ends end) = refl
 
-pub has-course : (staged : StagedScene) (run : RunOf staged.script) → IsStaged staged → way_of staged.scenario.manner ≢ Blind → (position : ℕ) (on : BeginsOn staged run position) → HasCourse staged run on.path
-has-course staged run is sees position on =
+pub has-course : (staged : StagedScene) (run : RunOf staged.script) → IsStaged staged → (position : ℕ) (on : BeginsOn staged run position) → HasCourse staged run on.path
+has-course staged run is position on =
     let among = run_along staged run on.path in
-    let same = begun-along-is staged run is sees position on.path on.chosen on.listed in
+    let same = begun-along-is staged run is on.sees position on.path on.chosen on.listed in
     let behind = front (IsBehind run.number) run.own run.after (stands-in staged run is).behind in
-    let at = sighted_at among (course_of staged run on.path) in
-    let follows : Follows (seat_of among) run.number (behind_begin staged run) (behind_own staged run) at =
-    events-follow among run.number staged.scenario (behind_begin staged run) run.own behind (behind_begin staged run) (begun (before_begin staged run).past)
+    let follows = events-follow among run.number staged.scenario (behind_begin staged run) run.own behind (behind_begin staged run) (begun (before_begin staged run).past)
     (follows-begin staged run is position on.path on.chosen same) in
     record {
       past = follows.past;
-      next = sends-now (seat_of among) run.number staged.scenario (behind_begin staged run) (behind_own staged run) at follows
-          ∙ sent-same among at.driver (sends among.plan (course_of staged run on.path).standing);
+      next = sends-now (seat_of among) run.number staged.scenario (behind_begin staged run) (behind_own staged run) (sighted_at among (course_of staged run on.path)) follows
+          ∙ sent-same among (sighted_at among (course_of staged run on.path)).driver (sends among.plan (course_of staged run on.path).standing);
       ended = λ end over. subst (λ lines. Contains lines (line_of (end_line run.number end))) (sym follows.lines)
-          (Contains-append_right (behind_begin staged run).lines follows.added (line_of (end_line run.number end))
-          (follows.told (ended.Sighted end) (ap (λ s. end_of (Sighted (record { plan = among.plan; standing = s }))) over)));
+          (Contains-append_right (behind_begin staged run).lines follows.added (line_of (end_line run.number end)) (follows.told (ended.Sighted end) (ap (λ s. end_of (Sighted (record { plan = among.plan; standing = s }))) over)));
     }

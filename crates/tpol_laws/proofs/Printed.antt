@@ -1,5 +1,5 @@
 -- The lines of a scene that is staged tell it.
-use Rattle.std.proofs.Common.{◌≡◌, ◌≢◌, ◌∙◌, ◌-◌, ℕ, slice_get, List, ◌++◌, Ok, Some, None, ap, sym, subst}
+use Rattle.std.proofs.Common.{◌≡◌, ◌∙◌, ◌-◌, ℕ, slice_get, List, ◌++◌, Ok, Some, None, ap, sym, subst}
 use Rattle.std.specs.Prelude.{Option, find, length}
 use Rattle.std.proofs.Math.Seq.{take-length}
 use Rattle.tpm_engine.specs.declared.event.Event.{Event}
@@ -13,9 +13,7 @@ use Rattle.tpol_digest.proofs.Meeting.{paths_of_meet}
 use Rattle.tpol_perform.specs.Performance.{PerformanceState}
 use Rattle.tpol_perform.specs.Script.{performed}
 use Rattle.tpol_prepare.specs.declared.manner.Manner.{Manner}
-use Rattle.tpol_prepare.specs.declared.manner.Way.TheVariants.{Blind}
 use Rattle.tpol_prepare.specs.declared.scenario.StagedScene.{StagedScene}
-use Rattle.tpol_prepare.specs.Manner.{way_of}
 use Rattle.tpol_prepare.specs.Scenario.{is_document, paths_in, paths_named, staged_step}
 use Rattle.tpol_prepare.specs.Staged.{IsStaged}
 use Rattle.tpol_steps.specs.declared.filled.FilledDocument.{FilledDocument}
@@ -47,7 +45,7 @@ runs-told staged is run =
       begins_on = λ sees position chosen. begins-on staged run is sees position chosen;
       begins_nowhere = λ sees chosen. begins-nowhere staged run is sees chosen;
       exactly = λ sees alone turns. served-exactly staged run is sees alone turns;
-      served_with = λ sees alone turns position on. served-with staged run is sees alone turns position on;
+      served_with = λ alone turns position on. served-with staged run is alone turns position on;
     }
 
 -- of a scene that bytes and the documents of a shelf give
@@ -85,13 +83,13 @@ module _ (staged : StagedScene) (run : RunOf staged.script) (is : IsStaged stage
       (paths_of_meet document.closed staged.scenario.approvals)
       (subst (λ (o : Option FilledDocument). slice_get (paths_in staged.scenario.approvals o) (position - 1) ≡ Some on.path) found on.listed)
 
-  pub script-digest : way_of staged.scenario.manner ≢ Blind → (session : ℕ) (document : FilledDocument) → find (is_document run.policy) staged.scenario.begun ≡ Some document
+  pub script-digest : (session : ℕ) (document : FilledDocument) → find (is_document run.policy) staged.scenario.begun ≡ Some document
       → AreOthersApart (run_along staged run on.path) (acts_for staged run) (course_at_begin staged run)
       → AreSecretsOnWritten (run_along staged run on.path) (acts_for staged run) (course_at_begin staged run)
       → place_of (course_of staged run on.path).standing ≡ Some (session, length on.path.moves)
       → digest_of_moves (moves_of_facts (facts_of staged.setup (behind_own staged run).past session)) ≡ policy_digest document.closed
-  script-digest sees session document found apart asks stands =
-      ap (λ (past : List Event). digest_of_moves (moves_of_facts (facts_of staged.setup past session))) (has-course staged run is sees position on).past
+  script-digest session document found apart asks stands =
+      ap (λ (past : List Event). digest_of_moves (moves_of_facts (facts_of staged.setup past session))) (has-course staged run is position on).past
       ∙ path-digest (run_along staged run on.path) (before_begin staged run).past (acts_for staged run) session (length on.path.moves) script-run apart asks stands
       ∙ ap digest_of_moves (take-length on.path.moves)
       ∙ meets document found

@@ -1,5 +1,5 @@
 -- What the report tells of a run of the script: that it is served exactly where it begins on a path.
-use Rattle.std.proofs.Common.{◌≡◌, ◌≢◌, ◌≤◌, ◌↔◌, ℕ, zero, suc, if◌then◌else◌, List, [], ◌∷◌, ◌++◌, All, Option, Some, None, length, replicate, refl, ap, sym, subst, ◌∙◌, append_assoc, append-nil, arith}
+use Rattle.std.proofs.Common.{◌≡◌, ◌≤◌, ◌↔◌, ℕ, zero, suc, if◌then◌else◌, List, [], ◌∷◌, ◌++◌, All, Option, Some, None, length, replicate, refl, ap, sym, subst, ◌∙◌, append_assoc, append-nil, arith}
 use Rattle.std.specs.List.{AllByRecursion}
 use Rattle.std.specs.Prelude.{Contains, find}
 use Rattle.std.proofs.lemmas.Bool.{eq-eqb}
@@ -16,8 +16,6 @@ use Rattle.tpol_perform.specs.Script.{all_happened, happened, performed, turn_to
 use Rattle.tpol_perform.specs.Turns.{turned, turned_by, turned_times, turned_to_end, turned_to_end_by}
 use Rattle.tpol_prepare.specs.declared.scenario.Scenario.{Scenario}
 use Rattle.tpol_prepare.specs.declared.scenario.StagedScene.{StagedScene}
-use Rattle.tpol_prepare.specs.declared.manner.Way.TheVariants as ways
-use Rattle.tpol_prepare.specs.Manner.{way_of}
 use Rattle.tpol_prepare.specs.Staged.{IsStaged}
 use Rattle.tpol_runs.specs.declared.ended.Ended.{Ended}
 use Rattle.tpol_runs.specs.declared.ended.Ended.TheVariants as ended
@@ -32,7 +30,7 @@ use Rattle.tpm_engine.specs.Views.{world_at}
 use Rattle.tpol_laws.specs.Acts.{Turn as OwnTurn, after_acts, begun}
 use Rattle.tpol_laws.specs.GoalBytes.{goal_bytes}
 use Rattle.tpol_laws.specs.PathCommands.{commands_along}
-use Rattle.tpol_laws.specs.Told.{BeginsNowhere, BeginsOn, HasTurns, IsAlone, IsServedOn, IsToldServed, RunOf, before_begin, begins, behind_begin, behind_own, bytes_for, chosen_for, paths_for, sight_at_begin, turns_for, turns_given, with_over}
+use Rattle.tpol_laws.specs.Told.{BeginsNowhere, BeginsOn, HasTurns, IsAlone, IsServedOn, IsSighted, IsToldServed, RunOf, before_begin, begins, behind_begin, behind_own, bytes_for, chosen_for, paths_for, sight_at_begin, turns_for, turns_given, with_over}
 use Rattle.tpol_laws.proofs.Begun.{along-state, begins-nowhere, begins-on, begun-along-is, begun-is, begun-run-is, front, none-before, run-along, setup-before, stands-in}
 use Rattle.tpol_laws.proofs.Followed.{Follows, allows-any, any, entry_at, own-follow, seat_of, sighted-turns, sighted_at}
 use Rattle.tpol_laws.proofs.Prints.{IsBehind, all-behind, all-spare, blocks-spare, found-begun}
@@ -97,12 +95,12 @@ module _ (staged : StagedScene) (run : RunOf staged.script) (is : IsStaged stage
   over-none : (path : Path) (at : Standing) (bytes : List ℕ) → at ≡ Over (Served bytes) → run_in (Some (entry_at (seat_of (run-along staged run is path)) run.number (Sighted (record { plan = (run-along staged run is path).plan; standing = at })))) ≡ None
   over-none path at bytes over = ap (λ s. run_in (Some (entry_at (seat_of (run-along staged run is path)) run.number (Sighted (record { plan = (run-along staged run is path).plan; standing = s }))))) over
 
-  pub served-on : way_of staged.scenario.manner ≢ ways.Blind → IsAlone staged.scenario run.number run.own (behind_begin staged run) → (position : ℕ) (on : BeginsOn staged run position)
+  pub served-on : IsAlone staged.scenario run.number run.own (behind_begin staged run) → (position : ℕ) (on : BeginsOn staged run position)
       → commands_along on.path ≤ turns_for run.number run.own → IsServedOn staged run position on.path
-  served-on sees alone position on enough =
+  served-on alone position on enough =
       let among = run-along staged run is on.path in
       let past = (before_begin staged run).past in
-      let same = begun-along-is staged run is sees position on.path on.chosen on.listed in
+      let same = begun-along-is staged run is on.sees position on.path on.chosen on.listed in
       let behind = front (IsBehind run.number) run.own run.after (stands-in staged run is).behind in
       let at = after_acts among (replicate (turns_for run.number run.own) OwnTurn) (begun past) in
       let follows : Follows (seat_of among) run.number (behind_begin staged run) (behind_own staged run) (sighted_at among at) =
@@ -146,7 +144,7 @@ module _ (staged : StagedScene) (run : RunOf staged.script) (is : IsStaged stage
       let spares = all-spare (IsUnserved run.number) run.number (allows-unserved run.number (stands-in staged run is).begins.greatest) staged.scenario run.before (stands-in staged run is).others (start_of staged.setup) in
       subst (All (IsUnserved run.number)) (sym spares.lines) spares.each
 
-  none-at-begin : way_of staged.scenario.manner ≢ ways.Blind → chosen_for staged run ≡ None → All (IsUnserved run.number) (behind_begin staged run).lines
+  none-at-begin : IsSighted staged → chosen_for staged run ≡ None → All (IsUnserved run.number) (behind_begin staged run).lines
   unfolding begun_nowhere
   none-at-begin sees chosen =
       let allows = allows-unserved run.number (stands-in staged run is).begins.greatest in
@@ -157,7 +155,7 @@ module _ (staged : StagedScene) (run : RunOf staged.script) (is : IsStaged stage
       (All-append (IsUnserved run.number) (before_begin staged run).lines (line_of (nobranch_line run.number) ∷ []) none-told
       (All-cons (IsUnserved run.number) (line_of (nobranch_line run.number)) [] (allows.nobranch run.number) (All-nil (IsUnserved run.number)))) spares.each)
 
-  never-told : way_of staged.scenario.manner ≢ ways.Blind → chosen_for staged run ≡ None → IsToldServed run.number (performed staged).lines → ⊥
+  never-told : IsSighted staged → chosen_for staged run ≡ None → IsToldServed run.number (performed staged).lines → ⊥
   never-told sees chosen told =
       let allows = allows-unserved run.number (stands-in staged run is).begins.greatest in
       let nowhere = begins-nowhere staged run is sees chosen in
@@ -170,20 +168,20 @@ module _ (staged : StagedScene) (run : RunOf staged.script) (is : IsStaged stage
 
   -- ---- exactly
 
-  on-path : way_of staged.scenario.manner ≢ ways.Blind → IsToldServed run.number (performed staged).lines → (chosen : Option ℕ) → chosen_for staged run ≡ chosen → (position : ℕ) × BeginsOn staged run position
+  on-path : IsSighted staged → IsToldServed run.number (performed staged).lines → (chosen : Option ℕ) → chosen_for staged run ≡ chosen → (position : ℕ) × BeginsOn staged run position
   on-path sees told None chosen = absurd (never-told sees chosen told)
   on-path sees told (Some position) chosen = (position, begins-on staged run is sees position chosen)
 
-  pub served-exactly : way_of staged.scenario.manner ≢ ways.Blind → IsAlone staged.scenario run.number run.own (behind_begin staged run) → HasTurns staged run
+  pub served-exactly : IsSighted staged → IsAlone staged.scenario run.number run.own (behind_begin staged run) → HasTurns staged run
       → IsToldServed run.number (performed staged).lines ↔ ((position : ℕ) × BeginsOn staged run position)
   served-exactly sees alone turns = (
     λ told. on-path sees told (chosen_for staged run) refl,
-    λ on. (bytes_for staged run, served-told on.0 on.1.path (served-on sees alone on.0 on.1 (turns on.0 on.1))),
+    λ on. (bytes_for staged run, served-told on.0 on.1.path (served-on alone on.0 on.1 (turns on.0 on.1))),
   )
 
-  pub served-with : way_of staged.scenario.manner ≢ ways.Blind → IsAlone staged.scenario run.number run.own (behind_begin staged run) → HasTurns staged run → (position : ℕ) → BeginsOn staged run position
+  pub served-with : IsAlone staged.scenario run.number run.own (behind_begin staged run) → HasTurns staged run → (position : ℕ) → BeginsOn staged run position
       → Contains (performed staged).lines (line_of (end_line run.number (Served (bytes_for staged run))))
-  served-with sees alone turns position on = served-told position on.path (served-on sees alone position on (turns position on))
+  served-with alone turns position on = served-told position on.path (served-on alone position on (turns position on))
 
   -- ---- turns to its end
 

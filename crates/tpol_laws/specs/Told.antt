@@ -1,5 +1,5 @@
 -- Runs of a scene's script, and what the report tells of them.
-use Rattle.std.specs.Prelude.{◌≡◌, ◌≤◌, ◌⊎◌, ◌+◌, ◌-◌, ⊤, ℕ, ◌==◌, Bool, true, false, List, [], ◌∷◌, ◌++◌, Contains, slice_get, Option, Some, None, replicate, if◌then◌else◌}
+use Rattle.std.specs.Prelude.{◌≡◌, ◌≢◌, ◌≤◌, ◌⊎◌, ◌+◌, ◌-◌, ⊤, ℕ, ◌==◌, Bool, true, false, List, [], ◌∷◌, ◌++◌, Contains, slice_get, Option, Some, None, replicate, if◌then◌else◌}
 use Rattle.tpol_choose.specs.declared.block.Block.{Block}
 use Rattle.tpol_choose.specs.Blocks.{chosen_path, first_block}
 use Rattle.tpol_driver.specs.declared.end.End.TheVariants.{Served}
@@ -13,8 +13,10 @@ use Rattle.tpol_perform.specs.declared.new_run.NewRun.{NewRun}
 use Rattle.tpol_perform.specs.NewRuns.{new_run}
 use Rattle.tpol_perform.specs.Performance.{PerformanceState, start_of}
 use Rattle.tpol_perform.specs.Script.{all_happened, happened}
+use Rattle.tpol_prepare.specs.declared.manner.Way.TheVariants.{Blind}
 use Rattle.tpol_prepare.specs.declared.scenario.Scenario.{Scenario}
 use Rattle.tpol_prepare.specs.declared.scenario.StagedScene.{StagedScene}
+use Rattle.tpol_prepare.specs.Manner.{way_of}
 use Rattle.tpol_prepare.specs.Scenario.{paths_named}
 use Rattle.tpol_runs.specs.Runs.{run_at}
 use Rattle.tpol_scene.specs.declared.script.ScriptEvent.{ScriptEvent}
@@ -26,6 +28,10 @@ use Rattle.tpol_laws.specs.GoalBytes.{goal_bytes}
 use Rattle.tpol_laws.specs.PathCommands.{commands_along}
 
 -- ---- a run of the script of a scene
+
+-- its runs see the machine
+abbrev pub IsSighted : StagedScene → Type 0
+IsSighted staged = way_of staged.scenario.manner ≢ Blind
 
 -- the events before the run's begin, its begin, some events behind that, and the others
 pub record RunOf (script : List ScriptEvent) : Type 0 where
@@ -105,8 +111,10 @@ AreBlocksOf sight run position (path ∷ rest) lines =
     (block : Block) × (later : List (List ℕ)) × (first_block path sight run.grants run.goal run.locality ≡ Some block)
     × (lines ≡ line_of (block_line position path.steps block) ∷ later) × AreBlocksOf sight run (position + 1) rest later
 
--- The run begins on the path at this position, which is the first that nothing blocks: its line is printed.
+-- The run sees the machine, and begins on the path at this position, which is the first that nothing blocks: its line
+-- is printed.
 pub record BeginsOn (staged : StagedScene) (run : RunOf staged.script) (position : ℕ) : Type 0 where
+  pub sees : IsSighted staged
   pub chosen : chosen_for staged run ≡ Some position
   pub path : Path
   pub listed : slice_get (paths_for staged run) (position - 1) ≡ Some path

@@ -55,14 +55,12 @@ ghost use Rattle.tpol_laws.specs.PathCommands.{commands_along};
 ghost use Rattle.tpol_laws.specs.Replies.{IsNoReply, IsRefusal};
 ghost use Rattle.tpol_laws.specs.ReplyCodes.{IsSuccessReply};
 ghost use Rattle.tpol_laws.specs.Runs.{IsBegun, IsRun};
-ghost use Rattle.tpol_laws.specs.Told.{BeginsNowhere, BeginsOn, HasTurns, IsAlone, IsServedOn, IsToldServed, RunOf, behind_begin, behind_own, bytes_for, chosen_for, turns_for, with_over};
+ghost use Rattle.tpol_laws.specs.Told.{BeginsNowhere, BeginsOn, HasTurns, IsAlone, IsServedOn, IsSighted, IsToldServed, RunOf, behind_begin, behind_own, bytes_for, chosen_for, turns_for, with_over};
 ghost use Rattle.tpol_perform.specs.Performance.{PerformanceState};
 ghost use Rattle.tpol_perform.specs.Script.{performed, turn_told};
 ghost use Rattle.tpol_prepare.specs.declared.manner.Manner.{Manner as MannerOf};
 ghost use Rattle.tpol_prepare.specs.declared.scenario.Scenario.{Scenario};
 ghost use Rattle.tpol_prepare.specs.declared.scenario.StagedScene.{StagedScene};
-ghost use Rattle.tpol_prepare.specs.declared.manner.Way.TheVariants.{Blind};
-ghost use Rattle.tpol_prepare.specs.Manner.{way_of};
 ghost use Rattle.tpol_prepare.specs.Scenario.{erased_staged, is_document, staged_step};
 ghost use Rattle.tpol_prepare.specs.Staged.{IsStaged};
 ghost use Rattle.tpol_runs.specs.Runs.{run_at};
@@ -192,33 +190,30 @@ pub fn scenes_are_staged()
         → staged_step manner input all ≡ Ok staged → IsStaged staged }
 {}
 
-/// What the report of a scene tells of a run of its script, for each scene that is staged and whose runs are not blind.
-/// The run begins on the first path of its policy that nothing blocks, whose line is printed, or on none: then what blocks each path is printed, in
-/// their order. Where only the run's own turns make events behind its begin, and there is one for each command of its
-/// path, the report tells that the run is served, with what its goal gives on the machine as it was at the begin,
-/// exactly where it begins on a path; turns to its end are enough. A run that begins on none is over, and its turns
-/// print that. A scene without the places in memory of its documents' parts is carried out with the same lines.
+/// What the report of a scene tells of a run of its script, for each scene that is staged and whose runs see the
+/// machine (`IsSighted`: all but those of `--blind`). The run begins on the first path of its policy that nothing
+/// blocks, whose line is printed, or on none: then what blocks each path is printed, in their order. Where only the
+/// run's own turns make events behind its begin, and there is one for each command of its path, the report tells that
+/// the run is served, with what its goal gives on the machine as it was at the begin, exactly where it begins on a
+/// path; turns to its end are enough. A run that begins on none is over, and its turns print that. A scene without the
+/// places in memory of its documents' parts is carried out with the same lines.
 pub fn runs_are_served_as_told()
     ensures begins_on { (staged : StagedScene) (run : RunOf staged.script) (position : ℕ)
-        → IsStaged staged → way_of staged.scenario.manner ≢ Blind
-        → chosen_for staged run ≡ Some position → BeginsOn staged run position }
+        → IsStaged staged → IsSighted staged → chosen_for staged run ≡ Some position → BeginsOn staged run position }
     ensures begins_nowhere { (staged : StagedScene) (run : RunOf staged.script)
-        → IsStaged staged → way_of staged.scenario.manner ≢ Blind
-        → chosen_for staged run ≡ None → BeginsNowhere staged run }
+        → IsStaged staged → IsSighted staged → chosen_for staged run ≡ None → BeginsNowhere staged run }
     ensures served_on { (staged : StagedScene) (run : RunOf staged.script) (position : ℕ)
-        → IsStaged staged → way_of staged.scenario.manner ≢ Blind
-        → IsAlone staged.scenario run.number run.own (behind_begin staged run)
+        → IsStaged staged → IsAlone staged.scenario run.number run.own (behind_begin staged run)
         → (on : BeginsOn staged run position) → commands_along on.path ≤ turns_for run.number run.own
         → IsServedOn staged run position on.path }
     ensures to_end { (staged : StagedScene) (run : RunOf staged.script) (before after : List ScriptEvent)
         → IsStaged staged → run.own ≡ before ++ events.Turn run.number None ∷ after → HasTurns staged run }
     ensures exactly { (staged : StagedScene) (run : RunOf staged.script)
-        → IsStaged staged → way_of staged.scenario.manner ≢ Blind
+        → IsStaged staged → IsSighted staged
         → IsAlone staged.scenario run.number run.own (behind_begin staged run) → HasTurns staged run
         → IsToldServed run.number (performed staged).lines ↔ ((position : ℕ) × BeginsOn staged run position) }
     ensures served_with { (staged : StagedScene) (run : RunOf staged.script) (position : ℕ)
-        → IsStaged staged → way_of staged.scenario.manner ≢ Blind
-        → IsAlone staged.scenario run.number run.own (behind_begin staged run) → HasTurns staged run
+        → IsStaged staged → IsAlone staged.scenario run.number run.own (behind_begin staged run) → HasTurns staged run
         → BeginsOn staged run position
         → Contains (performed staged).lines (line_of (end_line run.number (Served (bytes_for staged run)))) }
     ensures stays_over { (staged : StagedScene) (run : RunOf staged.script)
@@ -246,22 +241,21 @@ pub fn gen_has_all_ways()
         → length (paths_of (filled (generated_policy ors order) None) []) ≡ 2 ^ ors }
 {}
 
-/// A run of a script that begins on a path, and not blindly, is a run as the other laws speak of it (`IsBegun`, `IsRun`), and is where
-/// its course is behind all events that follow its begin, whatever they are (`HasCourse`): the course's acts are the
-/// run's own turns and the calls of all others, in the order of the script. So where these leave its session alone
-/// (`AreOthersApart`), and each index on which one of its PolicySecret commands is executed is written at that moment
-/// (`AreSecretsOnWritten`), its session has before its goal the digest of the policy that the script names.
+/// A run of a script that sees the machine and begins on a path is a run as the other laws speak of it (`IsBegun`,
+/// `IsRun`), and is where its course is behind all events that follow its begin, whatever they are (`HasCourse`): the
+/// course's acts are the run's own turns and the calls of all others, in the order of the script. So where these leave
+/// its session alone (`AreOthersApart`), and each index on which one of its PolicySecret commands is executed is
+/// written at that moment (`AreSecretsOnWritten`), its session has before its goal the digest of the policy that the
+/// script names.
 pub fn runs_of_scripts_have_courses()
     ensures begun { (staged : StagedScene) (run : RunOf staged.script) (position : ℕ)
         → IsStaged staged → (on : BeginsOn staged run position) → IsBegun (run_along staged run on.path) }
     ensures complete { (staged : StagedScene) (run : RunOf staged.script) (position : ℕ)
         → IsStaged staged → (on : BeginsOn staged run position) → IsRun (run_along staged run on.path) }
     ensures course { (staged : StagedScene) (run : RunOf staged.script) (position : ℕ)
-        → IsStaged staged → way_of staged.scenario.manner ≢ Blind
-        → (on : BeginsOn staged run position) → HasCourse staged run on.path }
+        → IsStaged staged → (on : BeginsOn staged run position) → HasCourse staged run on.path }
     ensures digest { (staged : StagedScene) (run : RunOf staged.script) (position session : ℕ) (document : FilledDocument)
-        → IsStaged staged → way_of staged.scenario.manner ≢ Blind
-        → (on : BeginsOn staged run position) → find (is_document run.policy) staged.scenario.begun ≡ Some document
+        → IsStaged staged → (on : BeginsOn staged run position) → find (is_document run.policy) staged.scenario.begun ≡ Some document
         → AreOthersApart (run_along staged run on.path) (acts_for staged run) (course_at_begin staged run)
         → AreSecretsOnWritten (run_along staged run on.path) (acts_for staged run) (course_at_begin staged run)
         → place_of (course_of staged run on.path).standing ≡ Some (session, length on.path.moves)

@@ -6,7 +6,7 @@ pub returns : goal.returns
 returns c = record {
   begun = λ staged run position is on. script-begun staged run is position on;
   complete = λ staged run position is on. script-run staged run is position on;
-  course = λ staged run position is sees on. has-course staged run is sees position on;
-  digest = λ staged run position session document is sees on found apart asks stands.
-      script-digest staged run is position on sees session document found apart asks stands;
+  course = λ staged run position is on. has-course staged run is position on;
+  digest = λ staged run position session document is on found apart asks stands.
+      script-digest staged run is position on session document found apart asks stands;
 }
