@@ -182,7 +182,7 @@ nothing-granted : IsGrants no_grants
 unfolding IsDistinct
 nothing-granted = record { secret_handles = tt; key_handles = tt; secrets = All-nil _; keys = All-nil _ }
 
-grants-at : (clients : List (ℕ × Grants)) (number : ℕ) → All (λ client. IsGrants client.1) clients → IsGrants (grants_of clients number)
+pub grants-at : (clients : List (ℕ × Grants)) (number : ℕ) → All (λ client. IsGrants client.1) clients → IsGrants (grants_of clients number)
 grants-at clients number all = by (find (is_client number) clients) refl
   where
     by : (o : Option (ℕ × Grants)) → find (is_client number) clients ≡ o → IsGrants (unwrap_or (option_map (λ client. client.1) o) no_grants)

@@ -105,7 +105,7 @@ chance-within run turns first end over most chance = by (nat_lt chance.before tu
 
 -- ---- path after path
 
-none-of : (o : Option Block) → is_none o ≡ true → o ≡ None
+pub none-of : (o : Option Block) → is_none o ≡ true → o ≡ None
 none-of None h = refl
 none-of (Some block) h = absurd (false≢true h)
 

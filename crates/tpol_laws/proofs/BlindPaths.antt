@@ -26,7 +26,7 @@ rest-at paths place path rest is = sym (drop-drop 1 place paths) ∙ ap (drop 1)
 
 -- ---- the next that is tried
 
-next-here : (test : Path → Bool) (place : ℕ) (path : Path) (rest : List Path) → test path ≡ true → option_map (λ (index : ℕ). place + index) (position test (path ∷ rest)) ≡ Some place
+pub next-here : (test : Path → Bool) (place : ℕ) (path : Path) (rest : List Path) → test path ≡ true → option_map (λ (index : ℕ). place + index) (position test (path ∷ rest)) ≡ Some place
 next-here test place path rest passes =
     let same : place + 0 ≡ place = omega arith in
     let front : nat_lt 0 (length (path ∷ rest)) ≡ true = grind (arith, nat_tests) in
@@ -34,7 +34,7 @@ next-here test place path rest passes =
     ∙ ap (λ (b : Bool). option_map (λ (index : ℕ). place + index) (cond b (Some 0) None)) front
     ∙ ap (λ (n : ℕ). Some n) same
 
-next-later : (test : Path → Bool) (place : ℕ) (path : Path) (rest : List Path) → test path ≡ false
+pub next-later : (test : Path → Bool) (place : ℕ) (path : Path) (rest : List Path) → test path ≡ false
     → option_map (λ (index : ℕ). place + index) (position test (path ∷ rest)) ≡ option_map (λ (index : ℕ). place + 1 + index) (position test rest)
 next-later test place path rest fails =
     ap (λ (b : Bool). option_map (λ (index : ℕ). place + index) (cond (nat_lt (cond (not b) (1 + position_or_len test rest) 0) (length (path ∷ rest))) (Some (cond (not b) (1 + position_or_len test rest) 0)) None)) fails

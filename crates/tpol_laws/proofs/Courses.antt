@@ -22,7 +22,7 @@ use Rattle.tpol_laws.specs.Acts.{Act, Course, Other, Run, Turn as OwnTurn, after
 use Rattle.tpol_laws.specs.Courses.{HasCourse, acts_of, acts_of_event, calls_between, course_of, run_along, sent_as}
 use Rattle.tpol_laws.specs.Told.{BeginsOn, RunOf, before_begin, behind_begin, behind_own, is_turn_of, times_given, turns_given}
 use Rattle.tpol_laws.proofs.Begun.{begun-along-is, front, stands-in}
-use Rattle.tpol_laws.proofs.Followed.{Follows, allows-any, any, last_end, seat_of, sends-now, sighted-turns, sighted_at, tells-more, told-follows, underway_from}
+use Rattle.tpol_laws.proofs.Followed.{Follows, allows-any, any, seat_of, sends-now, sighted-turns, sighted_at, tells-more, told-follows, underway_from}
 use Rattle.tpol_laws.proofs.Goes.{Goes, goes-happened, made}
 use Rattle.tpol_laws.proofs.Prints.{IsBehind, IsOther, Spares, happened-spares}
 use Rattle.tpol_laws.proofs.Told.{follows-begin}
@@ -42,23 +42,23 @@ module _ (run : Run) where
   calls-past (call ∷ calls) course = calls-past calls (record { past = event_by run.setup course.past call ∷ course.past; standing = course.standing })
 
 -- the run, where its course is, by its driver
-abbrev FollowsAt : Run → ℕ → PerformanceState → PerformanceState → Course → Type 0
-FollowsAt run number first p course = Follows (seat_of run) number first p (sighted_at run course)
+abbrev FollowsAt : Run → ℕ → Scenario → PerformanceState → PerformanceState → Course → Type 0
+FollowsAt run number scenario first p course = Follows (seat_of run) number scenario first p (sighted_at run course)
 
 module _ (run : Run) (number : ℕ) (scenario : Scenario) (first : PerformanceState) where
   -- ---- events of others
 
-  calls-follow : (p q : PerformanceState) (course : Course) → FollowsAt run number first p course → Spares any number p q → Goes p q → FollowsAt run number first q (after_acts run (map Other (calls_between p q)) course)
+  calls-follow : (p q : PerformanceState) (course : Course) → FollowsAt run number scenario first p course → Spares any number p q → Goes p q → FollowsAt run number scenario first q (after_acts run (map Other (calls_between p q)) course)
   calls-follow p q course is spares goes =
-      subst (λ calls. FollowsAt run number first q (after_acts run (map Other calls) course)) (sym (made p q goes))
-      (subst (FollowsAt run number first q) (sym (calls-past run goes.calls course))
+      subst (λ calls. FollowsAt run number scenario first q (after_acts run (map Other calls) course)) (sym (made p q goes))
+      (subst (FollowsAt run number scenario first q) (sym (calls-past run goes.calls course))
       (record {
         setup = spares.setup ∙ is.setup;
         past = goes.past ∙ (λ i. journal_after (is.setup i) goes.calls (is.past i));
         found = spares.found ∙ is.found;
         added = is.added ++ spares.added;
         lines = spares.lines ∙ ap (λ l. l ++ spares.added) is.lines ∙ append_assoc first.lines is.added spares.added;
-        told = λ end over. tells-more number is.added spares.added (last_end end) (is.told end over);
+        told = λ end over. tells-more scenario number is.added spares.added end (is.told end over);
       }))
 
   other-of : (event : ScriptEvent) → IsBehind number event → is_turn_of number event ≡ false → IsOther number event
@@ -71,15 +71,15 @@ module _ (run : Run) (number : ℕ) (scenario : Scenario) (first : PerformanceSt
 
   -- ---- its own turns
 
-  own-follow : (event : ScriptEvent) → is_turn_of number event ≡ true → (p : PerformanceState) (course : Course) → FollowsAt run number first p course
-      → FollowsAt run number first (happened scenario event p) (after_acts run (replicate (turns_given number event) OwnTurn) course)
+  own-follow : (event : ScriptEvent) → is_turn_of number event ≡ true → (p : PerformanceState) (course : Course) → FollowsAt run number scenario first p course
+      → FollowsAt run number scenario first (happened scenario event p) (after_acts run (replicate (turns_given number event) OwnTurn) course)
   own-follow (Command client locality buffer) turn p course is = absurd (true≢false (sym turn))
   own-follow (Begin other client locality policy place goal) turn p course is = absurd (true≢false (sym turn))
   own-follow (Turn other times) turn p course is =
       let given : turns_given number (Turn other times) ≡ times_given times = ap (λ b. if b then times_given times else 0) turn in
       let same : other ≡ number = eqb-true other number turn in
-      subst (λ n. FollowsAt run number first (happened scenario (Turn other times) p) (after_acts run (replicate n OwnTurn) course)) (sym given)
-      (subst (λ k. FollowsAt run number first (happened scenario (Turn k times) p) (after_acts run (replicate (times_given times) OwnTurn) course)) (sym same) (subst (Follows (seat_of run) number first (happened scenario (Turn number times) p)) (sighted-turns run (times_given times) course)
+      subst (λ n. FollowsAt run number scenario first (happened scenario (Turn other times) p) (after_acts run (replicate n OwnTurn) course)) (sym given)
+      (subst (λ k. FollowsAt run number scenario first (happened scenario (Turn k times) p) (after_acts run (replicate (times_given times) OwnTurn) course)) (sym same) (subst (Follows (seat_of run) number scenario first (happened scenario (Turn number times) p)) (sighted-turns run (times_given times) course)
       (told-follows (seat_of run) number scenario first times p (sighted_at run course) is)))
   own-follow (Time ms) turn p course is = absurd (true≢false (sym turn))
   own-follow (Presence on) turn p course is = absurd (true≢false (sym turn))
@@ -87,18 +87,18 @@ module _ (run : Run) (number : ℕ) (scenario : Scenario) (first : PerformanceSt
 
   -- ---- all events
 
-  event-by : (b : Bool) (event : ScriptEvent) → is_turn_of number event ≡ b → IsBehind number event → (p : PerformanceState) (course : Course) → FollowsAt run number first p course
-      → FollowsAt run number first (happened scenario event p) (after_acts run (if b then replicate (turns_given number event) OwnTurn else map Other (calls_between p (happened scenario event p))) course)
+  event-by : (b : Bool) (event : ScriptEvent) → is_turn_of number event ≡ b → IsBehind number event → (p : PerformanceState) (course : Course) → FollowsAt run number scenario first p course
+      → FollowsAt run number scenario first (happened scenario event p) (after_acts run (if b then replicate (turns_given number event) OwnTurn else map Other (calls_between p (happened scenario event p))) course)
   event-by true event turn behind p course is = own-follow event turn p course is
   event-by false event turn behind p course is =
       calls-follow p (happened scenario event p) course is (happened-spares any number (allows-any number) scenario event (other-of event behind turn) p) (goes-happened scenario event p)
 
-  pub events-follow : (own : List ScriptEvent) → AllByRecursion (IsBehind number) own → (p : PerformanceState) (course : Course) → FollowsAt run number first p course
-      → FollowsAt run number first (all_happened scenario own p) (after_acts run (acts_of scenario number own p) course)
+  pub events-follow : (own : List ScriptEvent) → AllByRecursion (IsBehind number) own → (p : PerformanceState) (course : Course) → FollowsAt run number scenario first p course
+      → FollowsAt run number scenario first (all_happened scenario own p) (after_acts run (acts_of scenario number own p) course)
   unfolding all_happened acts_of after_acts
   events-follow [] behind p course is = is
   events-follow (event ∷ rest) behind p course is =
-      subst (FollowsAt run number first (all_happened scenario rest (happened scenario event p))) (sym (acts-both run (acts_of_event scenario number event p) (acts_of scenario number rest (happened scenario event p)) course))
+      subst (FollowsAt run number scenario first (all_happened scenario rest (happened scenario event p))) (sym (acts-both run (acts_of_event scenario number event p) (acts_of scenario number rest (happened scenario event p)) course))
       (events-follow rest behind.1 (happened scenario event p) (after_acts run (acts_of_event scenario number event p) course)
       (event-by (is_turn_of number event) event refl behind.0 p course is))
 

@@ -9,9 +9,11 @@ use Rattle.tpol_driver.specs.declared.blind_end.BlindEnd.{BlindEnd}
 use Rattle.tpol_driver.specs.declared.blind_end.BlindEnd.TheVariants as blind_ends
 use Rattle.tpol_driver.specs.declared.end.End.{End}
 use Rattle.tpol_driver.specs.declared.end.End.TheVariants as ends
+use Rattle.tpol_driver.specs.Blind as blind
+use Rattle.tpol_driver.specs.Blind.{BlindDrive, blind_sends}
 use Rattle.tpol_driver.specs.Driving.{Drive, Ends, Sends, sends}
 use Rattle.tpol_lines.specs.Lines.{line_of}
-use Rattle.tpol_lines.specs.Runs.{end_line, over_line}
+use Rattle.tpol_lines.specs.Runs.{chosen_line, end_line, over_line}
 use Rattle.tpol_name.specs.declared.setup.Setup.{Setup}
 use Rattle.tpol_perform.specs.Blind.{with_blind_end, with_path}
 use Rattle.tpol_perform.specs.Performance.{PerformanceState, with_line}
@@ -26,17 +28,19 @@ use Rattle.tpol_laws.specs.Told.{IsAlone, is_turn_of, times_given, turns_for, tu
 use Rattle.tpol_runs.specs.declared.ended.Ended.{Ended}
 use Rattle.tpol_runs.specs.declared.ended.Ended.TheVariants as ended
 use Rattle.tpol_runs.specs.declared.numbered.Numbered.{Numbered}
-use Rattle.tpol_runs.specs.Courses.{command_in, command_of, end_of, end_told, goes_on, heard_by, heard_of, next_of, sent_in, underway_at}
+use Rattle.tpol_runs.specs.Courses.{blind_command_in, command_in, command_of, end_of, end_told, goes_on, heard_by, heard_of, next_of, sent_in, underway_at}
 use Rattle.tpol_runs.specs.Runs.{has_number, run_at, run_in, with_run}
-use Rattle.tpol_runs.specs.Underway.{Driver, Sighted, Underway}
+use Rattle.tpol_runs.specs.Underway.{Blind, Driver, Sighted, Underway}
 use Rattle.tpol_runs.proofs.Driven.{ends_step, goes_step, sends_step}
 use Rattle.tpol_wire.specs.declared.command.Command.{Command as WireCommand}
 use Rattle.tpol_wire.specs.Commands.{spelling}
+use Rattle.tpol_tree.specs.declared.path.Path.{Path}
 use Rattle.tpm_engine.specs.declared.event.Event.{Event}
 use Rattle.tpm_engine.specs.Events.{Answered, event_of}
 use Rattle.tpm_engine.specs.Legal.{answer_to}
 use Rattle.tpol_laws.specs.Acts.{Course, Run, Turn as OwnTurn, after_act, after_acts, turned as turned_in}
-use Rattle.tpol_laws.proofs.Prints.{Allows, IsBehind, IsOther, Prints, Spares, command-printed, found-there, happened-spares, nobranch-printed, path-printed, prints-none}
+use Rattle.tpol_laws.specs.BlindRuns.{BlindCourse, BlindRun, after_blind_turn, blind_turned, blind_turns}
+use Rattle.tpol_laws.proofs.Prints.{Allows, IsBehind, IsOther, Prints, Spares, command-printed, found-there, happened-spares, nobranch-printed}
 
 -- ---- a run by its driver
 
@@ -90,32 +94,70 @@ hears-reply seat driver command reply is = record {
 
 -- ---- what its end prints
 
--- the end that the last line tells; where no path was served blindly the lines of the paths stand last
-abbrev pub last_end : Ended → Option End
-last_end (ended.Sighted end) = Some end
-last_end (ended.Blind policy (blind_ends.Served position bytes)) = Some (ends.Served bytes)
-last_end (ended.Blind policy (blind_ends.NoBranch tries)) = None
-last_end (ended.Blind policy (blind_ends.Denied at rc)) = Some (ends.Denied at rc)
-last_end (ended.Blind policy (blind_ends.BadReply at)) = Some (ends.BadReply at)
+-- lines have that of this path at this position, and right behind it that the run is served with these bytes
+pub record TellsServed (number position : ℕ) (bytes : List ℕ) (path : Path) (lines : List (List ℕ)) : Type 0 where
+  pub before : List (List ℕ)
+  pub after : List (List ℕ)
+  pub are : lines ≡ before ++ line_of (chosen_line number position path.steps) ∷ (line_of (end_line number (ends.Served bytes)) ∷ after)
 
-abbrev pub TellsEnd : ℕ → List (List ℕ) → Ended → Type 0
-TellsEnd number lines end = IfSome (last_end end) (λ e. Contains lines (line_of (end_line number e)))
+-- the lines that tell the end of a blind run on these paths; of those where no path was served nothing is said
+abbrev pub TellsBlindEnd : List Path → ℕ → List (List ℕ) → BlindEnd → Type 0
+TellsBlindEnd paths number lines (blind_ends.Served position bytes) = IfSome (slice_get paths (position - 1)) (λ path. TellsServed number position bytes path lines)
+TellsBlindEnd paths number lines (blind_ends.NoBranch tries) = ⊤
+TellsBlindEnd paths number lines (blind_ends.Denied at rc) = Contains lines (line_of (end_line number (ends.Denied at rc)))
+TellsBlindEnd paths number lines (blind_ends.BadReply at) = Contains lines (line_of (end_line number (ends.BadReply at)))
 
-pub tells-more : (number : ℕ) (lines more : List (List ℕ)) (end : Option End) → IfSome end (λ e. Contains lines (line_of (end_line number e))) → IfSome end (λ e. Contains (lines ++ more) (line_of (end_line number e)))
-tells-more number lines more None tells = tt
-tells-more number lines more (Some end) tells = Contains-append_left lines more (line_of (end_line number end)) tells
+abbrev pub TellsEnd : Scenario → ℕ → List (List ℕ) → Ended → Type 0
+TellsEnd scenario number lines (ended.Sighted end) = Contains lines (line_of (end_line number end))
+TellsEnd scenario number lines (ended.Blind policy end) = TellsBlindEnd (paths_named scenario policy) number lines end
+
+module _ (scenario : Scenario) (number : ℕ) (front lines : List (List ℕ)) where
+  -- lines more behind them, or before them
+  served-more : (position : ℕ) (bytes : List ℕ) (path : Option Path) → IfSome path (λ p. TellsServed number position bytes p front) → IfSome path (λ p. TellsServed number position bytes p (front ++ lines))
+  served-more position bytes None tells = tt
+  served-more position bytes (Some path) tells =
+      let served = line_of (end_line number (ends.Served bytes)) in
+      record {
+        before = tells.before;
+        after = tells.after ++ lines;
+        are = ap (λ l. l ++ lines) tells.are ∙ append_assoc tells.before (line_of (chosen_line number position path.steps) ∷ (served ∷ tells.after)) lines;
+      }
+
+  served-behind : (position : ℕ) (bytes : List ℕ) (path : Option Path) → IfSome path (λ p. TellsServed number position bytes p lines) → IfSome path (λ p. TellsServed number position bytes p (front ++ lines))
+  served-behind position bytes None tells = tt
+  served-behind position bytes (Some path) tells =
+      let served = line_of (end_line number (ends.Served bytes)) in
+      record {
+        before = front ++ tells.before;
+        after = tells.after;
+        are = ap (λ l. front ++ l) tells.are ∙ sym (append_assoc front tells.before (line_of (chosen_line number position path.steps) ∷ (served ∷ tells.after)));
+      }
+
+  pub tells-more : (end : Ended) → TellsEnd scenario number front end → TellsEnd scenario number (front ++ lines) end
+  tells-more (ended.Sighted end) tells = Contains-append_left front lines (line_of (end_line number end)) tells
+  tells-more (ended.Blind policy (blind_ends.Served position bytes)) tells = served-more position bytes (slice_get (paths_named scenario policy) (position - 1)) tells
+  tells-more (ended.Blind policy (blind_ends.NoBranch tries)) tells = tt
+  tells-more (ended.Blind policy (blind_ends.Denied at rc)) tells = Contains-append_left front lines (line_of (end_line number (ends.Denied at rc))) tells
+  tells-more (ended.Blind policy (blind_ends.BadReply at)) tells = Contains-append_left front lines (line_of (end_line number (ends.BadReply at))) tells
+
+  tells-behind : (end : Ended) → TellsEnd scenario number lines end → TellsEnd scenario number (front ++ lines) end
+  tells-behind (ended.Sighted end) tells = Contains-append_right front lines (line_of (end_line number end)) tells
+  tells-behind (ended.Blind policy (blind_ends.Served position bytes)) tells = served-behind position bytes (slice_get (paths_named scenario policy) (position - 1)) tells
+  tells-behind (ended.Blind policy (blind_ends.NoBranch tries)) tells = tt
+  tells-behind (ended.Blind policy (blind_ends.Denied at rc)) tells = Contains-append_right front lines (line_of (end_line number (ends.Denied at rc))) tells
+  tells-behind (ended.Blind policy (blind_ends.BadReply at)) tells = Contains-append_right front lines (line_of (end_line number (ends.BadReply at))) tells
 
 -- ---- the run in the performance
 
 -- The machine is where the run is, the table has the run with its driver, and its end is told. Since the state `first`,
 -- lines were only added.
-pub record Follows (seat : Seat) (number : ℕ) (first p : PerformanceState) (run : Driving) : Type 0 where
+pub record Follows (seat : Seat) (number : ℕ) (scenario : Scenario) (first p : PerformanceState) (run : Driving) : Type 0 where
   pub setup : p.setup ≡ seat.setup
   pub past : p.past ≡ run.past
   pub found : find (has_number number) p.runs ≡ Some (entry_at seat number run.driver)
   pub added : List (List ℕ)
   pub lines : p.lines ≡ first.lines ++ added
-  pub told : (end : Ended) → end_of run.driver ≡ Some end → TellsEnd number added end
+  pub told : (end : Ended) → end_of run.driver ≡ Some end → TellsEnd scenario number added end
 
 -- any line may be printed
 abbrev pub any : List ℕ → Type 0
@@ -140,56 +182,59 @@ allows-any number = record {
 
 module _ (seat : Seat) (number : ℕ) (scenario : Scenario) (first : PerformanceState) where
   -- one line more
-  line-follows : (p : PerformanceState) (run : Driving) (text : List ℕ) → Follows seat number first p run → Follows seat number first (with_line text p) run
+  line-follows : (p : PerformanceState) (run : Driving) (text : List ℕ) → Follows seat number scenario first p run → Follows seat number scenario first (with_line text p) run
   line-follows p run text is = record {
     setup = is.setup;
     past = is.past;
     found = is.found;
     added = is.added ++ line_of text ∷ [];
     lines = ap (λ l. l ++ line_of text ∷ []) is.lines ∙ append_assoc first.lines is.added (line_of text ∷ []);
-    told = λ end over. tells-more number is.added (line_of text ∷ []) (last_end end) (is.told end over);
+    told = λ end over. tells-more scenario number is.added (line_of text ∷ []) end (is.told end over);
   }
 
   -- from p to q the lines of this end were added
   record TellsLast (end : Ended) (p q : PerformanceState) : Type 0 where
     prints : Prints any p q
-    tells : TellsEnd number prints.added end
+    tells : TellsEnd scenario number prints.added end
 
-  -- lines, and behind them that of the end
-  tells-line : (end : Ended) (e : End) (p q : PerformanceState) → last_end end ≡ Some e → Prints any p q → TellsLast end p (with_line (end_line number e) q)
-  tells-line end e p q last prints =
-      let line = line_of (end_line number e) in
+  -- the one line of an end
+  tells-line : (end : Ended) (e : End) (p : PerformanceState) → ((lines : List (List ℕ)) → Contains lines (line_of (end_line number e)) → TellsEnd scenario number lines end) → TellsLast end p (with_line (end_line number e) p)
+  tells-line end e p tells = record {
+    prints = record { setup = refl; past = refl; runs = refl; added = line_of (end_line number e) ∷ []; lines = refl; each = λ i d within. tt };
+    tells = tells (line_of (end_line number e) ∷ []) (Contains-push [] (line_of (end_line number e)));
+  }
+
+  -- that of the path that was served, and behind it that of the end
+  served-tells : (policy : List ℕ) (position : ℕ) (bytes : List ℕ) (p : PerformanceState) (path : Option Path) → slice_get (paths_named scenario policy) (position - 1) ≡ path
+      → TellsLast (ended.Blind policy (blind_ends.Served position bytes)) p (with_line (end_line number (ends.Served bytes)) (with_path number position path p))
+  served-tells policy position bytes p None is = record {
+    prints = record { setup = refl; past = refl; runs = refl; added = line_of (end_line number (ends.Served bytes)) ∷ []; lines = refl; each = λ i d within. tt };
+    tells = subst (λ (o : Option Path). IfSome o (λ q. TellsServed number position bytes q (line_of (end_line number (ends.Served bytes)) ∷ []))) (sym is) tt;
+  }
+  served-tells policy position bytes p (Some path) is =
+      let chosen = line_of (chosen_line number position path.steps) in
+      let served = line_of (end_line number (ends.Served bytes)) in
       record {
-        prints = record {
-          setup = prints.setup;
-          past = prints.past;
-          runs = prints.runs;
-          added = prints.added ++ line ∷ [];
-          lines = ap (λ l. l ++ line ∷ []) prints.lines ∙ append_assoc p.lines prints.added (line ∷ []);
-          each = λ i d within. tt;
-        };
-        tells = subst (λ o. IfSome o (λ x. Contains (prints.added ++ line ∷ []) (line_of (end_line number x)))) (sym last) (Contains-push prints.added line);
+        prints = record { setup = refl; past = refl; runs = refl; added = chosen ∷ (served ∷ []); lines = append_assoc p.lines (chosen ∷ []) (served ∷ []); each = λ i d within. tt };
+        tells = subst (λ (o : Option Path). IfSome o (λ q. TellsServed number position bytes q (chosen ∷ (served ∷ [])))) (sym is) (record { before = []; after = []; are = refl });
       }
 
   blind-tells : (policy : List ℕ) (end : BlindEnd) (p : PerformanceState) → TellsLast (ended.Blind policy end) p (with_blind_end number (paths_named scenario policy) end p)
   unfolding with_blind_end
-  blind-tells policy (blind_ends.Served position bytes) p =
-      let path = slice_get (paths_named scenario policy) (position - 1) in
-      tells-line (ended.Blind policy (blind_ends.Served position bytes)) (ends.Served bytes) p (with_path number position path p) refl
-      (path-printed any number (allows-any number) number position path p)
+  blind-tells policy (blind_ends.Served position bytes) p = served-tells policy position bytes p (slice_get (paths_named scenario policy) (position - 1)) refl
   blind-tells policy (blind_ends.NoBranch tries) p =
       record { prints = nobranch-printed any number (allows-any number) number (paths_named scenario policy) tries p; tells = tt }
-  blind-tells policy (blind_ends.Denied at rc) p = tells-line (ended.Blind policy (blind_ends.Denied at rc)) (ends.Denied at rc) p p refl (prints-none any p)
-  blind-tells policy (blind_ends.BadReply at) p = tells-line (ended.Blind policy (blind_ends.BadReply at)) (ends.BadReply at) p p refl (prints-none any p)
+  blind-tells policy (blind_ends.Denied at rc) p = tells-line (ended.Blind policy (blind_ends.Denied at rc)) (ends.Denied at rc) p (λ lines told. told)
+  blind-tells policy (blind_ends.BadReply at) p = tells-line (ended.Blind policy (blind_ends.BadReply at)) (ends.BadReply at) p (λ lines told. told)
 
   end-tells : (end : Ended) (p : PerformanceState) → TellsLast end p (with_end scenario number (Some end) p)
-  end-tells (ended.Sighted end) p = tells-line (ended.Sighted end) end p p refl (prints-none any p)
+  end-tells (ended.Sighted end) p = tells-line (ended.Sighted end) end p (λ lines told. told)
   end-tells (ended.Blind policy end) p = blind-tells policy end p
 
   -- the end of the run is told where it came to it
   end-follows : (end : Option Ended) (p : PerformanceState) (past : List Event) (now : Driver) (added : List (List ℕ))
       → p.setup ≡ seat.setup → p.past ≡ past → find (has_number number) p.runs ≡ Some (entry_at seat number now) → p.lines ≡ first.lines ++ added → end ≡ end_of now
-      → Follows seat number first (with_end scenario number end p) (record { past = past; driver = now })
+      → Follows seat number scenario first (with_end scenario number end p) (record { past = past; driver = now })
   end-follows None p past now added setup same found lines is = record {
     setup = setup;
     past = same;
@@ -207,19 +252,15 @@ module _ (seat : Seat) (number : ℕ) (scenario : Scenario) (first : Performance
         added = added ++ last.prints.added;
         lines = last.prints.lines ∙ ap (λ l. l ++ last.prints.added) lines ∙ append_assoc first.lines added last.prints.added;
         told = λ e over.
-            subst (λ x. TellsEnd number (added ++ last.prints.added) x) (same_Some end e (is ∙ over)) (tells-behind added last.prints.added (last_end end) last.tells);
+            subst (λ x. TellsEnd scenario number (added ++ last.prints.added) x) (same_Some end e (is ∙ over)) (tells-behind scenario number added last.prints.added end last.tells);
       }
-    where
-      tells-behind : (before lines : List (List ℕ)) (e : Option End) → IfSome e (λ x. Contains lines (line_of (end_line number x))) → IfSome e (λ x. Contains (before ++ lines) (line_of (end_line number x)))
-      tells-behind before lines None tells = tt
-      tells-behind before lines (Some e) tells = Contains-append_right before lines (line_of (end_line number e)) tells
 
   -- ---- one turn
 
   -- where the performance is literally where the run is
   sent-from : (past : List Event) (driver : Driver) (runs : List Numbered) (lines added : List (List ℕ)) (command : WireCommand) → command_of driver ≡ Some command
       → find (has_number number) runs ≡ Some (entry_at seat number driver) → lines ≡ first.lines ++ added
-      → Follows seat number first (sent scenario number (record { client = seat.client; locality = seat.locality; buffer = spelling command }) (record { setup = seat.setup; past = past; runs = runs; lines = lines }))
+      → Follows seat number scenario first (sent scenario number (record { client = seat.client; locality = seat.locality; buffer = spelling command }) (record { setup = seat.setup; past = past; runs = runs; lines = lines }))
       (driven_by seat (record { past = past; driver = driver }) (Some command))
   unfolding sent replied
   sent-from past driver runs lines added command next found grown =
@@ -239,33 +280,33 @@ module _ (seat : Seat) (number : ℕ) (scenario : Scenario) (first : Performance
       (is.lines ∙ ap (λ l. l ++ is.added) grown ∙ append_assoc first.lines added is.added)
       (ap end_told now ∙ heard.ends)
 
-  sent-follows : (p : PerformanceState) (run : Driving) (command : WireCommand) → command_of run.driver ≡ Some command → Follows seat number first p run
-      → Follows seat number first (sent scenario number (record { client = seat.client; locality = seat.locality; buffer = spelling command }) p) (driven_by seat run (Some command))
+  sent-follows : (p : PerformanceState) (run : Driving) (command : WireCommand) → command_of run.driver ≡ Some command → Follows seat number scenario first p run
+      → Follows seat number scenario first (sent scenario number (record { client = seat.client; locality = seat.locality; buffer = spelling command }) p) (driven_by seat run (Some command))
   sent-follows p run command next is =
       let at : record { setup = seat.setup; past = run.past; runs = p.runs; lines = p.lines } ≡ p =
       λ i. record { setup = sym is.setup i; past = sym is.past i; runs = p.runs; lines = p.lines } in
-      subst (λ (q : PerformanceState). Follows seat number first (sent scenario number (record { client = seat.client; locality = seat.locality; buffer = spelling command }) q)
+      subst (λ (q : PerformanceState). Follows seat number scenario first (sent scenario number (record { client = seat.client; locality = seat.locality; buffer = spelling command }) q)
       (driven_by seat run (Some command))) at
       (sent-from run.past run.driver p.runs p.lines is.added command next is.found is.lines)
 
   -- what is sent now
-  pub sends-now : (p : PerformanceState) (run : Driving) → Follows seat number first p run → sent_now number p ≡ sent_in (underway_from seat run.driver) (command_of run.driver)
+  pub sends-now : (p : PerformanceState) (run : Driving) → Follows seat number scenario first p run → sent_now number p ≡ sent_in (underway_from seat run.driver) (command_of run.driver)
   sends-now p run is = ap (λ f. next_of (run_in f)) is.found ∙ sends_step (underway_from seat run.driver) run.driver
 
-  by-follows : (next : Option WireCommand) (p : PerformanceState) (run : Driving) → command_of run.driver ≡ next → Follows seat number first p run
-      → Follows seat number first (turned_by scenario number (sent_in (underway_from seat run.driver) next) p) (driven_by seat run next)
+  by-follows : (next : Option WireCommand) (p : PerformanceState) (run : Driving) → command_of run.driver ≡ next → Follows seat number scenario first p run
+      → Follows seat number scenario first (turned_by scenario number (sent_in (underway_from seat run.driver) next) p) (driven_by seat run next)
   by-follows (Some command) p run next is = sent-follows p run command next is
   by-follows None p run next is = line-follows p run (over_line number) is
 
-  turn-follows : (p : PerformanceState) (run : Driving) → Follows seat number first p run → Follows seat number first (turned scenario number p) (driven_once seat run)
+  turn-follows : (p : PerformanceState) (run : Driving) → Follows seat number scenario first p run → Follows seat number scenario first (turned scenario number p) (driven_once seat run)
   unfolding turned
   turn-follows p run is =
-      subst (λ next. Follows seat number first (turned_by scenario number next p) (driven_once seat run)) (sym (sends-now p run is))
+      subst (λ next. Follows seat number scenario first (turned_by scenario number next p) (driven_once seat run)) (sym (sends-now p run is))
       (by-follows (command_of run.driver) p run refl is)
 
   -- ---- turns
 
-  times-follow : (n : ℕ) (p : PerformanceState) (run : Driving) → Follows seat number first p run → Follows seat number first (turned_times scenario number n p) (driven_times seat n run)
+  times-follow : (n : ℕ) (p : PerformanceState) (run : Driving) → Follows seat number scenario first p run → Follows seat number scenario first (turned_times scenario number n p) (driven_times seat n run)
   unfolding turned_times
   times-follow zero p run is = is
   times-follow (suc n) p run is = times-follow n (turned scenario number p) (driven_once seat run) (turn-follows p run is)
@@ -275,52 +316,52 @@ module _ (seat : Seat) (number : ℕ) (scenario : Scenario) (first : Performance
   stays zero run over = refl
   stays (suc n) run over = ap (driven_times seat n) (ap (driven_by seat run) over) ∙ stays n run over
 
-  and-follows : (n : ℕ) (next : Option WireCommand) (p : PerformanceState) (run : Driving) → command_of run.driver ≡ next → Follows seat number first p run
-      → ((q : PerformanceState) (later : Driving) → Follows seat number first q later → Follows seat number first (turned_on scenario number n q) (driven_times seat n later))
-      → Follows seat number first (turned_and (turned_on scenario number n) scenario number (sent_in (underway_from seat run.driver) next) p) (driven_times seat n (driven_by seat run next))
+  and-follows : (n : ℕ) (next : Option WireCommand) (p : PerformanceState) (run : Driving) → command_of run.driver ≡ next → Follows seat number scenario first p run
+      → ((q : PerformanceState) (later : Driving) → Follows seat number scenario first q later → Follows seat number scenario first (turned_on scenario number n q) (driven_times seat n later))
+      → Follows seat number scenario first (turned_and (turned_on scenario number n) scenario number (sent_in (underway_from seat run.driver) next) p) (driven_times seat n (driven_by seat run next))
   and-follows n (Some command) p run next is later =
       later (sent scenario number (record { client = seat.client; locality = seat.locality; buffer = spelling command }) p) (driven_by seat run (Some command)) (sent-follows p run command next is)
-  and-follows n None p run next is later = subst (Follows seat number first p) (sym (stays n run next)) is
+  and-follows n None p run next is later = subst (Follows seat number scenario first p) (sym (stays n run next)) is
 
-  on-follow : (n : ℕ) (p : PerformanceState) (run : Driving) → Follows seat number first p run → Follows seat number first (turned_on scenario number n p) (driven_times seat n run)
+  on-follow : (n : ℕ) (p : PerformanceState) (run : Driving) → Follows seat number scenario first p run → Follows seat number scenario first (turned_on scenario number n p) (driven_times seat n run)
   unfolding turned_on
   on-follow zero p run is = is
   on-follow (suc n) p run is =
-      subst (λ next. Follows seat number first (turned_and (turned_on scenario number n) scenario number next p) (driven_times seat n (driven_once seat run))) (sym (sends-now p run is))
+      subst (λ next. Follows seat number scenario first (turned_and (turned_on scenario number n) scenario number next p) (driven_times seat n (driven_once seat run))) (sym (sends-now p run is))
       (and-follows n (command_of run.driver) p run refl is (on-follow n))
 
-  end-by-follows : (n : ℕ) → most_turns ≡ n → (next : Option WireCommand) (p : PerformanceState) (run : Driving) → command_of run.driver ≡ next → Follows seat number first p run
-      → Follows seat number first (turned_to_end_by scenario number (sent_in (underway_from seat run.driver) next) p) (driven_times seat n (driven_by seat run next))
+  end-by-follows : (n : ℕ) → most_turns ≡ n → (next : Option WireCommand) (p : PerformanceState) (run : Driving) → command_of run.driver ≡ next → Follows seat number scenario first p run
+      → Follows seat number scenario first (turned_to_end_by scenario number (sent_in (underway_from seat run.driver) next) p) (driven_times seat n (driven_by seat run next))
   end-by-follows n most (Some command) p run next is =
       let q = sent scenario number (record { client = seat.client; locality = seat.locality; buffer = spelling command }) p in
-      subst (λ m. Follows seat number first (turned_on scenario number most_turns q) (driven_times seat m (driven_by seat run (Some command)))) most
+      subst (λ m. Follows seat number scenario first (turned_on scenario number most_turns q) (driven_times seat m (driven_by seat run (Some command)))) most
       (on-follow most_turns q (driven_by seat run (Some command)) (sent-follows p run command next is))
-  end-by-follows n most None p run next is = subst (Follows seat number first (with_line (over_line number) p)) (sym (stays n run next)) (line-follows p run (over_line number) is)
+  end-by-follows n most None p run next is = subst (Follows seat number scenario first (with_line (over_line number) p)) (sym (stays n run next)) (line-follows p run (over_line number) is)
 
   most-is : most_turns ≡ 65664
   unfolding most_turns
   most-is = refl
 
-  to-end-follows : (n : ℕ) → most_turns ≡ n → (p : PerformanceState) (run : Driving) → Follows seat number first p run → Follows seat number first (turned_to_end scenario number p) (driven_times seat (suc n) run)
+  to-end-follows : (n : ℕ) → most_turns ≡ n → (p : PerformanceState) (run : Driving) → Follows seat number scenario first p run → Follows seat number scenario first (turned_to_end scenario number p) (driven_times seat (suc n) run)
   unfolding turned_to_end
   to-end-follows n most p run is =
-      subst (λ next. Follows seat number first (turned_to_end_by scenario number next p) (driven_times seat n (driven_once seat run))) (sym (sends-now p run is))
+      subst (λ next. Follows seat number scenario first (turned_to_end_by scenario number next p) (driven_times seat n (driven_once seat run))) (sym (sends-now p run is))
       (end-by-follows n most (command_of run.driver) p run refl is)
 
-  pub told-follows : (times : Option ℕ) (p : PerformanceState) (run : Driving) → Follows seat number first p run → Follows seat number first (turn_told scenario number times p) (driven_times seat (times_given times) run)
+  pub told-follows : (times : Option ℕ) (p : PerformanceState) (run : Driving) → Follows seat number scenario first p run → Follows seat number scenario first (turn_told scenario number times p) (driven_times seat (times_given times) run)
   told-follows None p run is = to-end-follows 65664 most-is p run is
   told-follows (Some n) p run is = times-follow n p run is
 
   -- ---- events
 
-  spared-follows : (p q : PerformanceState) (run : Driving) → Follows seat number first p run → Spares any number p q → q.past ≡ p.past → Follows seat number first q run
+  spared-follows : (p q : PerformanceState) (run : Driving) → Follows seat number scenario first p run → Spares any number p q → q.past ≡ p.past → Follows seat number scenario first q run
   spared-follows p q run is spares past = record {
     setup = spares.setup ∙ is.setup;
     past = past ∙ is.past;
     found = spares.found ∙ is.found;
     added = is.added ++ spares.added;
     lines = spares.lines ∙ ap (λ l. l ++ spares.added) is.lines ∙ append_assoc first.lines is.added spares.added;
-    told = λ end over. tells-more number is.added spares.added (last_end end) (is.told end over);
+    told = λ end over. tells-more scenario number is.added spares.added end (is.told end over);
   }
 
   quiet : (event : ScriptEvent) (p : PerformanceState) → is_turn_of number event ≡ false → (is_turn_of number event ≡ true) ⊎ ((happened scenario event p).past ≡ p.past) → (happened scenario event p).past ≡ p.past
@@ -329,19 +370,19 @@ module _ (seat : Seat) (number : ℕ) (scenario : Scenario) (first : Performance
 
   other-follows : (event : ScriptEvent) → IsOther number event → is_turn_of number event ≡ false → (p : PerformanceState) (run : Driving)
       → (is_turn_of number event ≡ true) ⊎ ((happened scenario event p).past ≡ p.past)
-      → Follows seat number first p run → Follows seat number first (happened scenario event p) run
+      → Follows seat number scenario first p run → Follows seat number scenario first (happened scenario event p) run
   other-follows event other apart p run alone is =
       spared-follows p (happened scenario event p) run is (happened-spares any number (allows-any number) scenario event other p) (quiet event p apart alone)
 
   turn-by : (b : Bool) (other : ℕ) (times : Option ℕ) → b ≡ nat_eq other number → other < 2 ^ 16 → (p : PerformanceState) (run : Driving)
       → (is_turn_of number (Turn other times) ≡ true) ⊎ ((happened scenario (Turn other times) p).past ≡ p.past)
-      → Follows seat number first p run → Follows seat number first (turn_told scenario other times p) (driven_times seat (if b then times_given times else 0) run)
+      → Follows seat number scenario first p run → Follows seat number scenario first (turn_told scenario other times p) (driven_times seat (if b then times_given times else 0) run)
   turn-by true other times same small p run alone is =
-      subst (λ n. Follows seat number first (turn_told scenario n times p) (driven_times seat (times_given times) run)) (sym (eqb-true other number (sym same))) (told-follows times p run is)
+      subst (λ n. Follows seat number scenario first (turn_told scenario n times p) (driven_times seat (times_given times) run)) (sym (eqb-true other number (sym same))) (told-follows times p run is)
   turn-by false other times same small p run alone is = other-follows (Turn other times) (sym same, small) (sym same) p run alone is
 
   event-follows : (event : ScriptEvent) → IsBehind number event → (p : PerformanceState) (run : Driving) → (is_turn_of number event ≡ true) ⊎ ((happened scenario event p).past ≡ p.past)
-      → Follows seat number first p run → Follows seat number first (happened scenario event p) (driven_times seat (turns_given number event) run)
+      → Follows seat number scenario first p run → Follows seat number scenario first (happened scenario event p) (driven_times seat (turns_given number event) run)
   event-follows (Command client locality buffer) behind p run alone is = other-follows (Command client locality buffer) tt refl p run alone is
   event-follows (Begin other client locality policy place goal) behind p run alone is = other-follows (Begin other client locality policy place goal) behind refl p run alone is
   event-follows (Turn other times) behind p run alone is = turn-by (nat_eq other number) other times refl behind p run alone is
@@ -355,11 +396,11 @@ module _ (seat : Seat) (number : ℕ) (scenario : Scenario) (first : Performance
   driven-both (suc m) n run = let e : suc m + n ≡ suc (m + n) = omega arith in rw e (driven-both m n (driven_once seat run))
 
   pub own-follow : (own : List ScriptEvent) → AllByRecursion (IsBehind number) own → (p : PerformanceState) (run : Driving) → IsAlone scenario number own p
-      → Follows seat number first p run → Follows seat number first (all_happened scenario own p) (driven_times seat (turns_for number own) run)
+      → Follows seat number scenario first p run → Follows seat number scenario first (all_happened scenario own p) (driven_times seat (turns_for number own) run)
   unfolding IsAlone all_happened
   own-follow [] behind p run alone is = is
   own-follow (event ∷ rest) behind p run alone is =
-      subst (Follows seat number first (all_happened scenario rest (happened scenario event p))) (driven-both (turns_given number event) (turns_for number rest) run)
+      subst (Follows seat number scenario first (all_happened scenario rest (happened scenario event p))) (driven-both (turns_given number event) (turns_for number rest) run)
       (own-follow rest behind.1 (happened scenario event p) (driven_times seat (turns_given number event) run) alone.1 (event-follows event behind.0 p run alone.0 is))
 
 -- ---- a run on one path
@@ -381,3 +422,23 @@ unfolding after_acts
 sighted-turns run zero course = refl
 sighted-turns run (suc n) course =
     ap (driven_times (seat_of run) n) (sighted-by run course (sends run.plan course.standing)) ∙ sighted-turns run n (after_act run course OwnTurn)
+
+-- ---- a blind run
+
+abbrev pub blind_seat_of : BlindRun → Seat
+blind_seat_of run = record { setup = run.setup; client = run.client; locality = run.locality }
+
+-- where it is, by its driver, on the paths of the policy of this name
+abbrev pub blindly_at : List ℕ → BlindRun → BlindCourse → Driving
+blindly_at policy run course = record { past = course.past; driver = Blind policy (record { plan = run.plan; standing = course.standing }) }
+
+blindly-by : (policy : List ℕ) (run : BlindRun) (course : BlindCourse) (drive : BlindDrive) → driven_by (blind_seat_of run) (blindly_at policy run course) (blind_command_in drive) ≡ blindly_at policy run (blind_turned run course drive)
+blindly-by policy run course (blind.Sends command) = refl
+blindly-by policy run course (blind.Ends end) = refl
+
+-- its turns are those of its driver
+pub blind-turns : (policy : List ℕ) (run : BlindRun) (n : ℕ) (course : BlindCourse) → driven_times (blind_seat_of run) n (blindly_at policy run course) ≡ blindly_at policy run (blind_turns run n course)
+unfolding blind_turns
+blind-turns policy run zero course = refl
+blind-turns policy run (suc n) course =
+    ap (driven_times (blind_seat_of run) n) (blindly-by policy run course (blind_sends run.plan course.standing)) ∙ blind-turns policy run n (after_blind_turn run course)

@@ -3,6 +3,7 @@ mod Alike
 mod Answered
 mod Approved
 mod Begun
+mod BegunBlindly
 mod Binds
 mod BlindComes
 mod BlindEnds
@@ -63,6 +64,7 @@ mod Standing
 mod Starts
 mod Step
 mod Told
+mod ToldBlind
 mod Unlike
 mod Unstopped
 mod WireCodes

@@ -49,7 +49,7 @@ unfolding all_happened
 all-append scenario [] ys p = refl
 all-append scenario (x ∷ xs) ys p = all-append scenario xs ys (happened scenario x p)
 
-turns-to-end : (number : ℕ) (before after : List ScriptEvent) → 65665 ≤ turns_for number (before ++ Turn number None ∷ after)
+pub turns-to-end : (number : ℕ) (before after : List ScriptEvent) → 65665 ≤ turns_for number (before ++ Turn number None ∷ after)
 turns-to-end number [] after =
     let here : turns_given number (Turn number None) ≡ 65665 = ap (λ b. if b then 65665 else 0) (eq-eqb number number refl) in
     omega (arith, here)
@@ -79,7 +79,7 @@ module _ (staged : StagedScene) (run : RunOf staged.script) where
 
 module _ (staged : StagedScene) (run : RunOf staged.script) (is : IsStaged staged) where
   pub follows-begin : (position : ℕ) (path : Path) → chosen_for staged run ≡ Some position → behind_begin staged run ≡ along-state staged run is position path
-      → Follows (seat_of (run-along staged run is path)) run.number (behind_begin staged run) (behind_begin staged run) (sighted_at (run-along staged run is path) (begun (before_begin staged run).past))
+      → Follows (seat_of (run-along staged run is path)) run.number staged.scenario (behind_begin staged run) (behind_begin staged run) (sighted_at (run-along staged run is path) (begun (before_begin staged run).past))
   follows-begin position path chosen same = record {
     setup = ap (λ (p : PerformanceState). p.setup) same ∙ setup-before staged run is;
     past = ap (λ (p : PerformanceState). p.past) same;
@@ -103,8 +103,8 @@ module _ (staged : StagedScene) (run : RunOf staged.script) (is : IsStaged stage
       let same = begun-along-is staged run is on.sees position on.path on.chosen on.listed in
       let behind = front (IsBehind run.number) run.own run.after (stands-in staged run is).behind in
       let at = after_acts among (replicate (turns_for run.number run.own) OwnTurn) (begun past) in
-      let follows : Follows (seat_of among) run.number (behind_begin staged run) (behind_own staged run) (sighted_at among at) =
-      subst (Follows (seat_of among) run.number (behind_begin staged run) (behind_own staged run)) (sighted-turns among (turns_for run.number run.own) (begun past))
+      let follows : Follows (seat_of among) run.number staged.scenario (behind_begin staged run) (behind_own staged run) (sighted_at among at) =
+      subst (Follows (seat_of among) run.number staged.scenario (behind_begin staged run) (behind_own staged run)) (sighted-turns among (turns_for run.number run.own) (begun past))
       (own-follow (seat_of among) run.number staged.scenario (behind_begin staged run) run.own behind (behind_begin staged run) (sighted_at among (begun past)) alone (follows-begin position on.path on.chosen same)) in
       let opens = subst (λ setup. first_block on.path (sight_after setup past) (begins staged run).grants run.goal run.locality ≡ None) (setup-before staged run is) on.opens in
       let bytes = goal_bytes (world_at staged.setup past) run.goal in

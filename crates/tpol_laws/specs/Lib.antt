@@ -11,3 +11,4 @@ pub mod Replies
 pub mod ReplyCodes
 pub mod Runs
 pub mod Told
+pub mod ToldBlind

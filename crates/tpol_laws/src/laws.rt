@@ -56,6 +56,7 @@ ghost use Rattle.tpol_laws.specs.Replies.{IsNoReply, IsRefusal};
 ghost use Rattle.tpol_laws.specs.ReplyCodes.{IsSuccessReply};
 ghost use Rattle.tpol_laws.specs.Runs.{IsBegun, IsRun};
 ghost use Rattle.tpol_laws.specs.Told.{BeginsNowhere, BeginsOn, HasTurns, IsAlone, IsServedOn, IsSighted, IsToldServed, RunOf, behind_begin, behind_own, bytes_for, chosen_for, turns_for, with_over};
+ghost use Rattle.tpol_laws.specs.ToldBlind.{BeginsBlindly, HasChanceIn, IsBlindScene, IsServedBlindly, blind_plan_for};
 ghost use Rattle.tpol_perform.specs.Performance.{PerformanceState};
 ghost use Rattle.tpol_perform.specs.Script.{performed, turn_told};
 ghost use Rattle.tpol_prepare.specs.declared.manner.Manner.{Manner as MannerOf};
@@ -222,6 +223,33 @@ pub fn runs_are_served_as_told()
         → run_at p.runs number ≡ None → turn_told scenario number times p ≡ with_over number times p }
     ensures as_printed { (staged : StagedScene) → performed (erased_staged staged) ≡ performed staged }
 {}
+
+/// What the report of a scene tells of a run of its script where the runs are those of `--blind` (`IsBlindScene`). The
+/// begin prints that the run is blind; where no path of its policy can be tried it prints that too, with each path as
+/// one that was not tried, and the run is over (`BeginsBlindly`). Where only the run's own turns make events behind its
+/// begin (`IsAlone`), some path is such that nothing blocks it on the machine as it is at the begin (`chosen_for`: the
+/// first one), and there is a turn for each command of the paths that are tried up to there (`most_to`), the report has
+/// this path and right behind it that the run is served, with what its goal gives on that machine, and the run is over
+/// (`IsServedBlindly`). Turns to its end are enough. There is one exception: in one of these turns the run sends an HMAC
+/// that is right by chance (`HasChanceIn`), as in `blind_runs_are_served`.
+///
+/// It stands on a law of the driver, which its body calls.
+pub fn blind_runs_are_told()
+    ensures begins { (staged : StagedScene) (run : RunOf staged.script)
+        → IsStaged staged → IsBlindScene staged
+        → BeginsBlindly staged run (first_complete (blind_plan_for staged run)) }
+    ensures served_on { (staged : StagedScene) (run : RunOf staged.script) (position : ℕ)
+        → IsStaged staged → IsBlindScene staged → HasShortOffset run.goal
+        → IsAlone staged.scenario run.number run.own (behind_begin staged run)
+        → chosen_for staged run ≡ Some position
+        → most_to (blind_plan_for staged run) position ≤ turns_for run.number run.own
+        → IsServedBlindly staged run position ⊎ HasChanceIn staged run }
+    ensures to_end { (staged : StagedScene) (run : RunOf staged.script) (before after : List ScriptEvent) (position : ℕ)
+        → IsStaged staged → IsBlindScene staged → run.own ≡ before ++ events.Turn run.number None ∷ after
+        → most_to (blind_plan_for staged run) position ≤ turns_for run.number run.own }
+{
+    mirrored();
+}
 
 /// The journal of a scene that is carried out, whatever the scene is, and that of the run of a policy that `gen` makes
 /// up, is one that a machine makes; each command of it that asks for a policy session is decided as the machine's

@@ -66,6 +66,17 @@
 //! - `IsAlone`: only the run's own turns make events behind its begin, up to where it is looked at.
 //! - `HasTurns`: these turns are one for each command of the path that the run begins on.
 //!
+//! `blind_runs_are_told`, of the same lines
+//! - `IsStaged`: as for the law before. `IsBlindScene`: the command has `--blind`, as its words say (`way_of`).
+//! - `HasShortOffset`: the offset of a goal is a `u16`.
+//! - `IsAlone`: as for the law before. A blind run tries paths as the machine is in each of its turns; where others
+//!   change the machine between, the path that was open at the begin need not serve it.
+//! - That a path is the first that nothing blocks (`served_on`): what the law is of.
+//! - That the turns are enough (`served_on`): as many as it can need until it is served (`most_to`), which turns to
+//!   its end are (`to_end`).
+//!
+//! Its exception is part of the answer, as in `blind_runs_are_served`.
+//!
 //! `runs_of_scripts_have_courses`
 //! - `IsStaged`: as for the law before. `BeginsOn`: the clause `begins_on` of that law.
 //! - `AreOthersApart`, `AreSecretsOnWritten`: as for `session_digest_is_compiled`, of the acts of the script.
@@ -87,7 +98,7 @@ mod laws;
 
 pub use laws::{
     a_blocked_path_fails, a_path_that_can_is_complete, a_path_that_can_is_served, a_run_ends,
-    a_run_goes_on, blind_runs_are_served, gen_has_all_ways, journals_are_told, refusals_end_runs,
-    runs_are_served_as_told, runs_of_scripts_have_courses, runs_send_commands, scenes_are_staged,
-    session_digest_is_compiled, success_replies_have_code_zero,
+    a_run_goes_on, blind_runs_are_served, blind_runs_are_told, gen_has_all_ways, journals_are_told,
+    refusals_end_runs, runs_are_served_as_told, runs_of_scripts_have_courses, runs_send_commands,
+    scenes_are_staged, session_digest_is_compiled, success_replies_have_code_zero,
 };
