@@ -1,9 +1,9 @@
 -- The run of a script is where its course is, whatever others do between.
-use Rattle.std.proofs.Common.{◌≡◌, ℕ, Bool, true, false, true≢false, if◌then◌else◌, List, [], ◌∷◌, ◌++◌, map, replicate, refl, ap, sym, subst, ◌∙◌, append_assoc}
+use Rattle.std.proofs.Common.{◌≡◌, ◌<◌, ◌^◌, ℕ, Bool, true, false, true≢false, if◌then◌else◌, List, [], ◌∷◌, ◌++◌, map, replicate, refl, ap, sym, subst, ◌∙◌, append_assoc}
 use Rattle.std.specs.List.{AllByRecursion}
 use Rattle.std.specs.Prelude.{Contains}
 use Rattle.std.proofs.lemmas.Bool.{eqb-true}
-use Rattle.std.proofs.lemmas.List.Elements.{Contains-append_right}
+use Rattle.std.proofs.lemmas.List.Elements.{All-append, Contains-append_right}
 use Rattle.tpm_engine.specs.Calls.{Call, event_by, journal_after}
 use Rattle.tpol_driver.specs.Driving.{Drive, Ends, Sends, sends}
 use Rattle.tpol_lines.specs.Lines.{line_of}
@@ -22,10 +22,11 @@ use Rattle.tpol_laws.specs.Acts.{Act, Course, Other, Run, Turn as OwnTurn, after
 use Rattle.tpol_laws.specs.Courses.{HasCourse, acts_of, acts_of_event, calls_between, course_of, run_along, sent_as}
 use Rattle.tpol_laws.specs.Told.{BeginsOn, RunOf, before_begin, behind_begin, behind_own, is_turn_of, times_given, turns_given}
 use Rattle.tpol_laws.proofs.Begun.{begun-along-is, front, stands-in}
-use Rattle.tpol_laws.proofs.Followed.{Follows, allows-any, any, seat_of, sends-now, sighted-turns, sighted_at, tells-more, told-follows, underway_from}
+use Rattle.tpol_laws.proofs.Followed.{Follows, seat_of, sends-now, sighted-turns, sighted_at, tells-more, told-follows, underway_from}
 use Rattle.tpol_laws.proofs.Goes.{Goes, goes-happened, made}
 use Rattle.tpol_laws.proofs.Prints.{IsBehind, IsOther, Spares, happened-spares}
 use Rattle.tpol_laws.proofs.Told.{follows-begin}
+use Rattle.tpol_laws.proofs.Unlike.{IsUnserved, allows-unserved}
 
 module _ (run : Run) where
   -- acts in two parts
@@ -45,10 +46,10 @@ module _ (run : Run) where
 abbrev FollowsAt : Run → ℕ → Scenario → PerformanceState → PerformanceState → Course → Type 0
 FollowsAt run number scenario first p course = Follows (seat_of run) number scenario first p (sighted_at run course)
 
-module _ (run : Run) (number : ℕ) (scenario : Scenario) (first : PerformanceState) where
+module _ (run : Run) (number : ℕ) (scenario : Scenario) (first : PerformanceState) (within : number < 2 ^ 16) where
   -- ---- events of others
 
-  calls-follow : (p q : PerformanceState) (course : Course) → FollowsAt run number scenario first p course → Spares any number p q → Goes p q → FollowsAt run number scenario first q (after_acts run (map Other (calls_between p q)) course)
+  calls-follow : (p q : PerformanceState) (course : Course) → FollowsAt run number scenario first p course → Spares (IsUnserved number) number p q → Goes p q → FollowsAt run number scenario first q (after_acts run (map Other (calls_between p q)) course)
   calls-follow p q course is spares goes =
       subst (λ calls. FollowsAt run number scenario first q (after_acts run (map Other calls) course)) (sym (made p q goes))
       (subst (FollowsAt run number scenario first q) (sym (calls-past run goes.calls course))
@@ -59,6 +60,7 @@ module _ (run : Run) (number : ℕ) (scenario : Scenario) (first : PerformanceSt
         added = is.added ++ spares.added;
         lines = spares.lines ∙ ap (λ l. l ++ spares.added) is.lines ∙ append_assoc first.lines is.added spares.added;
         told = λ end over. tells-more scenario number is.added spares.added end (is.told end over);
+        unserved = λ not. All-append (IsUnserved number) is.added spares.added (is.unserved not) spares.each;
       }))
 
   other-of : (event : ScriptEvent) → IsBehind number event → is_turn_of number event ≡ false → IsOther number event
@@ -80,7 +82,7 @@ module _ (run : Run) (number : ℕ) (scenario : Scenario) (first : PerformanceSt
       let same : other ≡ number = eqb-true other number turn in
       subst (λ n. FollowsAt run number scenario first (happened scenario (Turn other times) p) (after_acts run (replicate n OwnTurn) course)) (sym given)
       (subst (λ k. FollowsAt run number scenario first (happened scenario (Turn k times) p) (after_acts run (replicate (times_given times) OwnTurn) course)) (sym same) (subst (Follows (seat_of run) number scenario first (happened scenario (Turn number times) p)) (sighted-turns run (times_given times) course)
-      (told-follows (seat_of run) number scenario first times p (sighted_at run course) is)))
+      (told-follows (seat_of run) number scenario first within times p (sighted_at run course) is)))
   own-follow (Time ms) turn p course is = absurd (true≢false (sym turn))
   own-follow (Presence on) turn p course is = absurd (true≢false (sym turn))
   own-follow Reset turn p course is = absurd (true≢false (sym turn))
@@ -91,7 +93,7 @@ module _ (run : Run) (number : ℕ) (scenario : Scenario) (first : PerformanceSt
       → FollowsAt run number scenario first (happened scenario event p) (after_acts run (if b then replicate (turns_given number event) OwnTurn else map Other (calls_between p (happened scenario event p))) course)
   event-by true event turn behind p course is = own-follow event turn p course is
   event-by false event turn behind p course is =
-      calls-follow p (happened scenario event p) course is (happened-spares any number (allows-any number) scenario event (other-of event behind turn) p) (goes-happened scenario event p)
+      calls-follow p (happened scenario event p) course is (happened-spares (IsUnserved number) number (allows-unserved number within) scenario event (other-of event behind turn) p) (goes-happened scenario event p)
 
   pub events-follow : (own : List ScriptEvent) → AllByRecursion (IsBehind number) own → (p : PerformanceState) (course : Course) → FollowsAt run number scenario first p course
       → FollowsAt run number scenario first (all_happened scenario own p) (after_acts run (acts_of scenario number own p) course)
@@ -113,11 +115,11 @@ has-course staged run is position on =
     let among = run_along staged run on.path in
     let same = begun-along-is staged run is on.sees position on.path on.chosen on.listed in
     let behind = front (IsBehind run.number) run.own run.after (stands-in staged run is).behind in
-    let follows = events-follow among run.number staged.scenario (behind_begin staged run) run.own behind (behind_begin staged run) (begun (before_begin staged run).past)
+    let follows = events-follow among run.number staged.scenario (behind_begin staged run) (stands-in staged run is).begins.greatest run.own behind (behind_begin staged run) (begun (before_begin staged run).past)
     (follows-begin staged run is position on.path on.chosen same) in
     record {
       past = follows.past;
-      next = sends-now (seat_of among) run.number staged.scenario (behind_begin staged run) (behind_own staged run) (sighted_at among (course_of staged run on.path)) follows
+      next = sends-now (seat_of among) run.number staged.scenario (behind_begin staged run) (stands-in staged run is).begins.greatest (behind_own staged run) (sighted_at among (course_of staged run on.path)) follows
           ∙ sent-same among (sighted_at among (course_of staged run on.path)).driver (sends among.plan (course_of staged run on.path).standing);
       ended = λ end over. subst (λ lines. Contains lines (line_of (end_line run.number end))) (sym follows.lines)
           (Contains-append_right (behind_begin staged run).lines follows.added (line_of (end_line run.number end)) (follows.told (ended.Sighted end) (ap (λ s. end_of (Sighted (record { plan = among.plan; standing = s }))) over)));

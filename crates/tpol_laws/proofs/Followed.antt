@@ -1,17 +1,19 @@
 -- A run of a scene's script is a run among others: its turns are turns of the run.
 use Rattle.std.proofs.Common.{◌≡◌, ◌⊎◌, inl, inr, ℕ, zero, suc, ◌+◌, ◌<◌, ◌^◌, if◌then◌else◌, true≢false, Bool, true, false, List, [], ◌∷◌, ◌++◌, ◌-◌, slice_get, IfSome, Option, Some, None, nat_eq, refl, ap, sym, subst, ◌∙◌, arith, append_assoc}
 use Rattle.std.specs.List.{AllByRecursion}
-use Rattle.std.specs.Prelude.{⊤, Contains, find, replicate}
+use Rattle.std.specs.Prelude.{⊤, All, Contains, find, replicate}
 use Rattle.std.proofs.lemmas.Bool.{eqb-true}
-use Rattle.std.proofs.lemmas.List.Elements.{Contains-append_left, Contains-append_right, Contains-push}
+use Rattle.std.proofs.lemmas.List.Elements.{All-append, All-cons, All-nil, Contains-append_left, Contains-append_right, Contains-push}
 use Rattle.std.proofs.lemmas.Option.{none-some, same_Some}
 use Rattle.tpol_driver.specs.declared.blind_end.BlindEnd.{BlindEnd}
 use Rattle.tpol_driver.specs.declared.blind_end.BlindEnd.TheVariants as blind_ends
+use Rattle.tpol_driver.specs.declared.blind_plan.BlindPlan.{BlindPlan}
 use Rattle.tpol_driver.specs.declared.end.End.{End}
 use Rattle.tpol_driver.specs.declared.end.End.TheVariants as ends
+use Rattle.tpol_driver.specs.declared.plan.Plan.{Plan}
 use Rattle.tpol_driver.specs.Blind as blind
 use Rattle.tpol_driver.specs.Blind.{BlindDrive, blind_sends}
-use Rattle.tpol_driver.specs.Driving.{Drive, Ends, Sends, sends}
+use Rattle.tpol_driver.specs.Driving.{Closing, Drive, Ends, Moving, Over, Sends, Standing, Starting, sends}
 use Rattle.tpol_lines.specs.Lines.{line_of}
 use Rattle.tpol_lines.specs.Runs.{chosen_line, end_line, over_line}
 use Rattle.tpol_name.specs.declared.setup.Setup.{Setup}
@@ -28,7 +30,7 @@ use Rattle.tpol_laws.specs.Told.{IsAlone, is_turn_of, times_given, turns_for, tu
 use Rattle.tpol_runs.specs.declared.ended.Ended.{Ended}
 use Rattle.tpol_runs.specs.declared.ended.Ended.TheVariants as ended
 use Rattle.tpol_runs.specs.declared.numbered.Numbered.{Numbered}
-use Rattle.tpol_runs.specs.Courses.{blind_command_in, command_in, command_of, end_of, end_told, goes_on, heard_by, heard_of, next_of, sent_in, underway_at}
+use Rattle.tpol_runs.specs.Courses.{blind_command_in, blind_end, command_in, command_of, end_of, end_told, goes_on, heard_by, heard_of, next_of, sent_in, sighted_end, underway_at}
 use Rattle.tpol_runs.specs.Runs.{has_number, run_at, run_in, with_run}
 use Rattle.tpol_runs.specs.Underway.{Blind, Driver, Sighted, Underway}
 use Rattle.tpol_runs.proofs.Driven.{ends_step, goes_step, sends_step}
@@ -41,6 +43,7 @@ use Rattle.tpm_engine.specs.Legal.{answer_to}
 use Rattle.tpol_laws.specs.Acts.{Course, Run, Turn as OwnTurn, after_act, after_acts, turned as turned_in}
 use Rattle.tpol_laws.specs.BlindRuns.{BlindCourse, BlindRun, after_blind_turn, blind_turned, blind_turns}
 use Rattle.tpol_laws.proofs.Prints.{Allows, IsBehind, IsOther, Prints, Spares, command-printed, found-there, happened-spares, nobranch-printed}
+use Rattle.tpol_laws.proofs.Unlike.{IsUnserved, allows-unserved, bad-apart, denied-apart}
 
 -- ---- a run by its driver
 
@@ -149,8 +152,37 @@ module _ (scenario : Scenario) (number : ℕ) (front lines : List (List ℕ)) wh
 
 -- ---- the run in the performance
 
--- The machine is where the run is, the table has the run with its driver, and its end is told. Since the state `first`,
--- lines were only added.
+-- the run is not served, up to now
+abbrev pub IsNotServed : Option Ended → Type 0
+IsNotServed None = ⊤
+IsNotServed (Some (ended.Sighted (ends.Served bytes))) = ⊥
+IsNotServed (Some (ended.Sighted (ends.Denied at rc))) = ⊤
+IsNotServed (Some (ended.Sighted (ends.BadReply at))) = ⊤
+IsNotServed (Some (ended.Blind policy (blind_ends.Served position bytes))) = ⊥
+IsNotServed (Some (ended.Blind policy (blind_ends.NoBranch tries))) = ⊤
+IsNotServed (Some (ended.Blind policy (blind_ends.Denied at rc))) = ⊤
+IsNotServed (Some (ended.Blind policy (blind_ends.BadReply at))) = ⊤
+
+-- what sends a command is not
+sighted-unserved : (plan : Plan) (standing : Standing) (command : WireCommand) → command_in (sends plan standing) ≡ Some command → IsNotServed (sighted_end standing)
+sighted-unserved plan Starting command sending = tt
+sighted-unserved plan (Moving session number ticket done) command sending = tt
+sighted-unserved plan (Closing session end) command sending = tt
+sighted-unserved plan (Over end) command sending = absurd (none-some command sending)
+
+blind-unserved : (policy : List ℕ) (plan : BlindPlan) (standing : blind.BlindStanding) (command : WireCommand) → blind_command_in (blind_sends plan standing) ≡ Some command → IsNotServed (blind_end policy standing)
+blind-unserved policy plan blind.Starting command sending = tt
+blind-unserved policy plan (blind.Trying session number place ticket done tries) command sending = tt
+blind-unserved policy plan (blind.Again session number place tries) command sending = tt
+blind-unserved policy plan (blind.Closing session end) command sending = tt
+blind-unserved policy plan (blind.Over end) command sending = absurd (none-some command sending)
+
+sends-unserved : (driver : Driver) (command : WireCommand) → command_of driver ≡ Some command → IsNotServed (end_of driver)
+sends-unserved (Sighted driven) command sending = sighted-unserved driven.plan driven.standing command sending
+sends-unserved (Blind policy driving) command sending = blind-unserved policy driving.plan driving.standing command sending
+
+-- The machine is where the run is, the table has the run with its driver, its end is told, and that it is served only
+-- where it is. Since the state `first`, lines were only added.
 pub record Follows (seat : Seat) (number : ℕ) (scenario : Scenario) (first p : PerformanceState) (run : Driving) : Type 0 where
   pub setup : p.setup ≡ seat.setup
   pub past : p.past ≡ run.past
@@ -158,6 +190,7 @@ pub record Follows (seat : Seat) (number : ℕ) (scenario : Scenario) (first p :
   pub added : List (List ℕ)
   pub lines : p.lines ≡ first.lines ++ added
   pub told : (end : Ended) → end_of run.driver ≡ Some end → TellsEnd scenario number added end
+  pub unserved : IsNotServed (end_of run.driver) → All (IsUnserved number) added
 
 -- any line may be printed
 abbrev pub any : List ℕ → Type 0
@@ -180,28 +213,42 @@ allows-any number = record {
   ends = λ run end apart small. tt;
 }
 
-module _ (seat : Seat) (number : ℕ) (scenario : Scenario) (first : PerformanceState) where
+module _ (seat : Seat) (number : ℕ) (scenario : Scenario) (first : PerformanceState) (within : number < 2 ^ 16) where
+  allows : Allows (IsUnserved number) number
+  allows = allows-unserved number within
+
+  -- lines behind lines
+  all-both : (front lines : List (List ℕ)) → All (IsUnserved number) front → All (IsUnserved number) lines → All (IsUnserved number) (front ++ lines)
+  all-both front lines one other = All-append (IsUnserved number) front lines one other
+
+  all-one : (line : List ℕ) → IsUnserved number line → All (IsUnserved number) (line ∷ [])
+  all-one line unserved = All-cons (IsUnserved number) line [] unserved (All-nil (IsUnserved number))
+
   -- one line more
-  line-follows : (p : PerformanceState) (run : Driving) (text : List ℕ) → Follows seat number scenario first p run → Follows seat number scenario first (with_line text p) run
-  line-follows p run text is = record {
+  line-follows : (p : PerformanceState) (run : Driving) (text : List ℕ) → IsUnserved number (line_of text) → Follows seat number scenario first p run → Follows seat number scenario first (with_line text p) run
+  line-follows p run text unserved is = record {
     setup = is.setup;
     past = is.past;
     found = is.found;
     added = is.added ++ line_of text ∷ [];
     lines = ap (λ l. l ++ line_of text ∷ []) is.lines ∙ append_assoc first.lines is.added (line_of text ∷ []);
     told = λ end over. tells-more scenario number is.added (line_of text ∷ []) end (is.told end over);
+    unserved = λ not. all-both is.added (line_of text ∷ []) (is.unserved not) (all-one (line_of text) unserved);
   }
 
   -- from p to q the lines of this end were added
   record TellsLast (end : Ended) (p q : PerformanceState) : Type 0 where
     prints : Prints any p q
     tells : TellsEnd scenario number prints.added end
+    quiet : IsNotServed (Some end) → All (IsUnserved number) prints.added
 
   -- the one line of an end
-  tells-line : (end : Ended) (e : End) (p : PerformanceState) → ((lines : List (List ℕ)) → Contains lines (line_of (end_line number e)) → TellsEnd scenario number lines end) → TellsLast end p (with_line (end_line number e) p)
-  tells-line end e p tells = record {
+  tells-line : (end : Ended) (e : End) (p : PerformanceState) → ((lines : List (List ℕ)) → Contains lines (line_of (end_line number e)) → TellsEnd scenario number lines end) → (IsNotServed (Some end) → IsUnserved number (line_of (end_line number e)))
+      → TellsLast end p (with_line (end_line number e) p)
+  tells-line end e p tells unserved = record {
     prints = record { setup = refl; past = refl; runs = refl; added = line_of (end_line number e) ∷ []; lines = refl; each = λ i d within. tt };
     tells = tells (line_of (end_line number e) ∷ []) (Contains-push [] (line_of (end_line number e)));
+    quiet = λ not. all-one (line_of (end_line number e)) (unserved not);
   }
 
   -- that of the path that was served, and behind it that of the end
@@ -210,6 +257,7 @@ module _ (seat : Seat) (number : ℕ) (scenario : Scenario) (first : Performance
   served-tells policy position bytes p None is = record {
     prints = record { setup = refl; past = refl; runs = refl; added = line_of (end_line number (ends.Served bytes)) ∷ []; lines = refl; each = λ i d within. tt };
     tells = subst (λ (o : Option Path). IfSome o (λ q. TellsServed number position bytes q (line_of (end_line number (ends.Served bytes)) ∷ []))) (sym is) tt;
+    quiet = λ not. absurd not;
   }
   served-tells policy position bytes p (Some path) is =
       let chosen = line_of (chosen_line number position path.steps) in
@@ -217,33 +265,45 @@ module _ (seat : Seat) (number : ℕ) (scenario : Scenario) (first : Performance
       record {
         prints = record { setup = refl; past = refl; runs = refl; added = chosen ∷ (served ∷ []); lines = append_assoc p.lines (chosen ∷ []) (served ∷ []); each = λ i d within. tt };
         tells = subst (λ (o : Option Path). IfSome o (λ q. TellsServed number position bytes q (chosen ∷ (served ∷ [])))) (sym is) (record { before = []; after = []; are = refl });
+        quiet = λ not. absurd not;
       }
 
   blind-tells : (policy : List ℕ) (end : BlindEnd) (p : PerformanceState) → TellsLast (ended.Blind policy end) p (with_blind_end number (paths_named scenario policy) end p)
   unfolding with_blind_end
   blind-tells policy (blind_ends.Served position bytes) p = served-tells policy position bytes p (slice_get (paths_named scenario policy) (position - 1)) refl
   blind-tells policy (blind_ends.NoBranch tries) p =
-      record { prints = nobranch-printed any number (allows-any number) number (paths_named scenario policy) tries p; tells = tt }
-  blind-tells policy (blind_ends.Denied at rc) p = tells-line (ended.Blind policy (blind_ends.Denied at rc)) (ends.Denied at rc) p (λ lines told. told)
-  blind-tells policy (blind_ends.BadReply at) p = tells-line (ended.Blind policy (blind_ends.BadReply at)) (ends.BadReply at) p (λ lines told. told)
+      let is = nobranch-printed (IsUnserved number) number allows number (paths_named scenario policy) tries p in
+      record {
+        prints = record { setup = is.setup; past = is.past; runs = is.runs; added = is.added; lines = is.lines; each = λ i d within. tt };
+        tells = tt;
+        quiet = λ not. is.each;
+      }
+  blind-tells policy (blind_ends.Denied at rc) p = tells-line (ended.Blind policy (blind_ends.Denied at rc)) (ends.Denied at rc) p (λ lines told. told) (λ not. denied-apart number at rc)
+  blind-tells policy (blind_ends.BadReply at) p = tells-line (ended.Blind policy (blind_ends.BadReply at)) (ends.BadReply at) p (λ lines told. told) (λ not. bad-apart number at)
+
+  sighted-quiet : (end : End) → IsNotServed (Some (ended.Sighted end)) → IsUnserved number (line_of (end_line number end))
+  sighted-quiet (ends.Served bytes) not = absurd not
+  sighted-quiet (ends.Denied at rc) not = denied-apart number at rc
+  sighted-quiet (ends.BadReply at) not = bad-apart number at
 
   end-tells : (end : Ended) (p : PerformanceState) → TellsLast end p (with_end scenario number (Some end) p)
-  end-tells (ended.Sighted end) p = tells-line (ended.Sighted end) end p (λ lines told. told)
+  end-tells (ended.Sighted end) p = tells-line (ended.Sighted end) end p (λ lines told. told) (sighted-quiet end)
   end-tells (ended.Blind policy end) p = blind-tells policy end p
 
   -- the end of the run is told where it came to it
   end-follows : (end : Option Ended) (p : PerformanceState) (past : List Event) (now : Driver) (added : List (List ℕ))
-      → p.setup ≡ seat.setup → p.past ≡ past → find (has_number number) p.runs ≡ Some (entry_at seat number now) → p.lines ≡ first.lines ++ added → end ≡ end_of now
+      → p.setup ≡ seat.setup → p.past ≡ past → find (has_number number) p.runs ≡ Some (entry_at seat number now) → p.lines ≡ first.lines ++ added → All (IsUnserved number) added → end ≡ end_of now
       → Follows seat number scenario first (with_end scenario number end p) (record { past = past; driver = now })
-  end-follows None p past now added setup same found lines is = record {
+  end-follows None p past now added setup same found lines quiet is = record {
     setup = setup;
     past = same;
     found = found;
     added = added;
     lines = lines;
     told = λ e over. absurd (none-some e (is ∙ over));
+    unserved = λ not. quiet;
   }
-  end-follows (Some end) p past now added setup same found lines is =
+  end-follows (Some end) p past now added setup same found lines quiet is =
       let last = end-tells end p in
       record {
         setup = last.prints.setup ∙ setup;
@@ -253,21 +313,22 @@ module _ (seat : Seat) (number : ℕ) (scenario : Scenario) (first : Performance
         lines = last.prints.lines ∙ ap (λ l. l ++ last.prints.added) lines ∙ append_assoc first.lines added last.prints.added;
         told = λ e over.
             subst (λ x. TellsEnd scenario number (added ++ last.prints.added) x) (same_Some end e (is ∙ over)) (tells-behind scenario number added last.prints.added end last.tells);
+        unserved = λ not. all-both added last.prints.added quiet (last.quiet (subst IsNotServed (sym is) not));
       }
 
   -- ---- one turn
 
   -- where the performance is literally where the run is
   sent-from : (past : List Event) (driver : Driver) (runs : List Numbered) (lines added : List (List ℕ)) (command : WireCommand) → command_of driver ≡ Some command
-      → find (has_number number) runs ≡ Some (entry_at seat number driver) → lines ≡ first.lines ++ added
+      → find (has_number number) runs ≡ Some (entry_at seat number driver) → lines ≡ first.lines ++ added → All (IsUnserved number) added
       → Follows seat number scenario first (sent scenario number (record { client = seat.client; locality = seat.locality; buffer = spelling command }) (record { setup = seat.setup; past = past; runs = runs; lines = lines }))
       (driven_by seat (record { past = past; driver = driver }) (Some command))
   unfolding sent replied
-  sent-from past driver runs lines added command next found grown =
+  sent-from past driver runs lines added command next found grown quiet =
       let p : PerformanceState = record { setup = seat.setup; past = past; runs = runs; lines = lines } in
       let reply = (answer_from seat past command).reply in
       let q = commanded scenario seat.client seat.locality (spelling command) p in
-      let is = command-printed any number (allows-any number) scenario seat.client seat.locality (spelling command) p in
+      let is = command-printed (IsUnserved number) number allows scenario seat.client seat.locality (spelling command) p in
       let there : find (has_number number) q.runs ≡ Some (entry_at seat number driver) = ap (find (has_number number)) is.runs ∙ found in
       let heard = hears-reply seat driver command reply next in
       let now : heard_by (run_at q.runs number) reply ≡ heard_by (underway_at (underway_from seat driver) driver) reply =
@@ -278,6 +339,7 @@ module _ (seat : Seat) (number : ℕ) (scenario : Scenario) (first : Performance
       (found-there q.runs number _ (goes_on (heard_by (run_at q.runs number) reply)) there
       ∙ ap (λ o. Some (record { number = number; run = o })) (ap goes_on now ∙ heard.goes))
       (is.lines ∙ ap (λ l. l ++ is.added) grown ∙ append_assoc first.lines added is.added)
+      (all-both added is.added quiet is.each)
       (ap end_told now ∙ heard.ends)
 
   sent-follows : (p : PerformanceState) (run : Driving) (command : WireCommand) → command_of run.driver ≡ Some command → Follows seat number scenario first p run
@@ -287,7 +349,7 @@ module _ (seat : Seat) (number : ℕ) (scenario : Scenario) (first : Performance
       λ i. record { setup = sym is.setup i; past = sym is.past i; runs = p.runs; lines = p.lines } in
       subst (λ (q : PerformanceState). Follows seat number scenario first (sent scenario number (record { client = seat.client; locality = seat.locality; buffer = spelling command }) q)
       (driven_by seat run (Some command))) at
-      (sent-from run.past run.driver p.runs p.lines is.added command next is.found is.lines)
+      (sent-from run.past run.driver p.runs p.lines is.added command next is.found is.lines (is.unserved (sends-unserved run.driver command next)))
 
   -- what is sent now
   pub sends-now : (p : PerformanceState) (run : Driving) → Follows seat number scenario first p run → sent_now number p ≡ sent_in (underway_from seat run.driver) (command_of run.driver)
@@ -296,7 +358,7 @@ module _ (seat : Seat) (number : ℕ) (scenario : Scenario) (first : Performance
   by-follows : (next : Option WireCommand) (p : PerformanceState) (run : Driving) → command_of run.driver ≡ next → Follows seat number scenario first p run
       → Follows seat number scenario first (turned_by scenario number (sent_in (underway_from seat run.driver) next) p) (driven_by seat run next)
   by-follows (Some command) p run next is = sent-follows p run command next is
-  by-follows None p run next is = line-follows p run (over_line number) is
+  by-follows None p run next is = line-follows p run (over_line number) (allows.over number) is
 
   turn-follows : (p : PerformanceState) (run : Driving) → Follows seat number scenario first p run → Follows seat number scenario first (turned scenario number p) (driven_once seat run)
   unfolding turned
@@ -336,7 +398,7 @@ module _ (seat : Seat) (number : ℕ) (scenario : Scenario) (first : Performance
       let q = sent scenario number (record { client = seat.client; locality = seat.locality; buffer = spelling command }) p in
       subst (λ m. Follows seat number scenario first (turned_on scenario number most_turns q) (driven_times seat m (driven_by seat run (Some command)))) most
       (on-follow most_turns q (driven_by seat run (Some command)) (sent-follows p run command next is))
-  end-by-follows n most None p run next is = subst (Follows seat number scenario first (with_line (over_line number) p)) (sym (stays n run next)) (line-follows p run (over_line number) is)
+  end-by-follows n most None p run next is = subst (Follows seat number scenario first (with_line (over_line number) p)) (sym (stays n run next)) (line-follows p run (over_line number) (allows.over number) is)
 
   most-is : most_turns ≡ 65664
   unfolding most_turns
@@ -354,7 +416,7 @@ module _ (seat : Seat) (number : ℕ) (scenario : Scenario) (first : Performance
 
   -- ---- events
 
-  spared-follows : (p q : PerformanceState) (run : Driving) → Follows seat number scenario first p run → Spares any number p q → q.past ≡ p.past → Follows seat number scenario first q run
+  spared-follows : (p q : PerformanceState) (run : Driving) → Follows seat number scenario first p run → Spares (IsUnserved number) number p q → q.past ≡ p.past → Follows seat number scenario first q run
   spared-follows p q run is spares past = record {
     setup = spares.setup ∙ is.setup;
     past = past ∙ is.past;
@@ -362,6 +424,7 @@ module _ (seat : Seat) (number : ℕ) (scenario : Scenario) (first : Performance
     added = is.added ++ spares.added;
     lines = spares.lines ∙ ap (λ l. l ++ spares.added) is.lines ∙ append_assoc first.lines is.added spares.added;
     told = λ end over. tells-more scenario number is.added spares.added end (is.told end over);
+    unserved = λ not. all-both is.added spares.added (is.unserved not) spares.each;
   }
 
   quiet : (event : ScriptEvent) (p : PerformanceState) → is_turn_of number event ≡ false → (is_turn_of number event ≡ true) ⊎ ((happened scenario event p).past ≡ p.past) → (happened scenario event p).past ≡ p.past
@@ -372,7 +435,7 @@ module _ (seat : Seat) (number : ℕ) (scenario : Scenario) (first : Performance
       → (is_turn_of number event ≡ true) ⊎ ((happened scenario event p).past ≡ p.past)
       → Follows seat number scenario first p run → Follows seat number scenario first (happened scenario event p) run
   other-follows event other apart p run alone is =
-      spared-follows p (happened scenario event p) run is (happened-spares any number (allows-any number) scenario event other p) (quiet event p apart alone)
+      spared-follows p (happened scenario event p) run is (happened-spares (IsUnserved number) number allows scenario event other p) (quiet event p apart alone)
 
   turn-by : (b : Bool) (other : ℕ) (times : Option ℕ) → b ≡ nat_eq other number → other < 2 ^ 16 → (p : PerformanceState) (run : Driving)
       → (is_turn_of number (Turn other times) ≡ true) ⊎ ((happened scenario (Turn other times) p).past ≡ p.past)

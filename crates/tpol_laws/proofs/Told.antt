@@ -87,6 +87,7 @@ module _ (staged : StagedScene) (run : RunOf staged.script) (is : IsStaged stage
     added = [];
     lines = sym (append-nil (behind_begin staged run).lines);
     told = λ end over. absurd (not-over end over);
+    unserved = λ not. All-nil (IsUnserved run.number);
   }
     where
       not-over : (end : Ended) → None ≡ Some end → ⊥
@@ -105,7 +106,7 @@ module _ (staged : StagedScene) (run : RunOf staged.script) (is : IsStaged stage
       let at = after_acts among (replicate (turns_for run.number run.own) OwnTurn) (begun past) in
       let follows : Follows (seat_of among) run.number staged.scenario (behind_begin staged run) (behind_own staged run) (sighted_at among at) =
       subst (Follows (seat_of among) run.number staged.scenario (behind_begin staged run) (behind_own staged run)) (sighted-turns among (turns_for run.number run.own) (begun past))
-      (own-follow (seat_of among) run.number staged.scenario (behind_begin staged run) run.own behind (behind_begin staged run) (sighted_at among (begun past)) alone (follows-begin position on.path on.chosen same)) in
+      (own-follow (seat_of among) run.number staged.scenario (behind_begin staged run) (stands-in staged run is).begins.greatest run.own behind (behind_begin staged run) (sighted_at among (begun past)) alone (follows-begin position on.path on.chosen same)) in
       let opens = subst (λ setup. first_block on.path (sight_after setup past) (begins staged run).grants run.goal run.locality ≡ None) (setup-before staged run is) on.opens in
       let bytes = goal_bytes (world_at staged.setup past) run.goal in
       let given : bytes ≡ bytes_for staged run = ap (λ setup. goal_bytes (world_at setup past) run.goal) (sym (setup-before staged run is)) in
@@ -139,7 +140,7 @@ module _ (staged : StagedScene) (run : RunOf staged.script) (is : IsStaged stage
       let spares = all-behind any run.number (allows-any run.number) staged.scenario run.own behind (behind_begin staged run) nowhere.over in
       ap run_in spares.found ∙ nowhere.over
 
-  none-told : All (IsUnserved run.number) (before_begin staged run).lines
+  pub none-told : All (IsUnserved run.number) (before_begin staged run).lines
   none-told =
       let spares = all-spare (IsUnserved run.number) run.number (allows-unserved run.number (stands-in staged run is).begins.greatest) staged.scenario run.before (stands-in staged run is).others (start_of staged.setup) in
       subst (All (IsUnserved run.number)) (sym spares.lines) spares.each

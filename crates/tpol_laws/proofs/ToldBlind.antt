@@ -1,16 +1,21 @@
 -- What the report tells of a blind run of the script: that it is served where some path is such that nothing blocks it.
 use Rattle.std.proofs.Common.{◌≡◌, ◌≤◌, ◌⊎◌, inl, inr, ℕ, ◌-◌, List, [], ◌++◌, IfSome, Option, Some, None, slice_get, refl, ap, sym, subst, ◌∙◌, append-nil, arith}
-use Rattle.std.specs.Prelude.{find, ◌+◌, ◌∷◌, option_map, position as position_of}
+use Rattle.std.proofs.lemmas.List.Elements.{All-append, All-cons, All-contains, All-nil}
+use Rattle.std.specs.Prelude.{All, find, ◌+◌, ◌∷◌, option_map, position as position_of}
 use Rattle.tpol_choose.specs.Blocks.{chosen_path, first_block, is_open}
 use Rattle.tpol_driver.specs.declared.blind_end.BlindEnd.TheVariants as blind_ends
-use Rattle.tpol_driver.specs.Blind.{BlindStanding, Over, first_complete, is_tried, plan_along}
+use Rattle.tpol_driver.specs.declared.blind_end.Tried.TheVariants.{Skipped}
+use Rattle.tpol_driver.specs.Blind.{Again, BlindStanding, Closing, Over, Starting, Trying, first_complete, is_tried, plan_along}
 use Rattle.tpol_goal.specs.Goals.{HasShortOffset}
+use Rattle.tpol_lines.specs.Lines.{line_of}
+use Rattle.tpol_lines.specs.Runs.{blind_line, nobranch_line}
+use Rattle.tpol_lines.specs.TriedLine.{tried_line}
 use Rattle.tpol_perform.specs.Performance.{PerformanceState}
 use Rattle.tpol_prepare.specs.declared.scenario.StagedScene.{StagedScene}
 use Rattle.tpol_prepare.specs.Staged.{IsStaged}
 use Rattle.tpol_runs.specs.declared.ended.Ended.{Ended}
 use Rattle.tpol_runs.specs.declared.ended.Ended.TheVariants as ended
-use Rattle.tpol_runs.specs.Courses.{end_of}
+use Rattle.tpol_runs.specs.Courses.{blind_end, end_of}
 use Rattle.tpol_runs.specs.Runs.{has_number, run_in}
 use Rattle.tpol_runs.specs.Underway.{Blind}
 use Rattle.tpol_scene.specs.declared.script.ScriptEvent.{ScriptEvent}
@@ -20,16 +25,17 @@ use Rattle.tpm_engine.specs.Sights.{sight_after}
 use Rattle.tpm_engine.specs.Views.{world_at}
 use Rattle.tpol_laws.specs.BlindRuns.{BlindCourse, blind_begun, blind_turns, most_to}
 use Rattle.tpol_laws.specs.GoalBytes.{goal_bytes}
-use Rattle.tpol_laws.specs.Told.{IsAlone, RunOf, before_begin, begins, behind_begin, behind_own, bytes_for, chosen_for, paths_for, turns_for}
-use Rattle.tpol_laws.specs.ToldBlind.{HasChanceIn, IsBlindScene, IsServedBlindly, blind_plan_for, blind_run_of}
+use Rattle.tpol_laws.specs.Told.{IsAlone, IsToldServed, RunOf, before_begin, begins, behind_begin, behind_own, bytes_for, chosen_for, paths_for, turns_for}
+use Rattle.tpol_laws.specs.ToldBlind.{BeginsBlindly, HasChanceIn, IsBlindScene, IsServedBlindly, blind_plan_for, blind_run_of, skipped_lines}
 use Rattle.tpol_laws.proofs.Begun.{FoundPath, front, none-before, open-path, setup-before, stands-in}
-use Rattle.tpol_laws.proofs.BegunBlindly.{blind-begun-is, most-is-given, passes-some, tries-is}
-use Rattle.tpol_laws.proofs.BlindComes.{none-of, served-exactly}
+use Rattle.tpol_laws.proofs.BegunBlindly.{begins-blindly, blind-begun-is, most-is-given, passes-some, tries-is}
+use Rattle.tpol_laws.proofs.BlindComes.{none-of, served-exactly, served-only}
 use Rattle.tpol_laws.proofs.BlindTurns.{Mirrored}
 use Rattle.tpol_laws.proofs.Complete.{open-complete}
-use Rattle.tpol_laws.proofs.Followed.{Follows, TellsServed, blind-turns, blind_seat_of, blindly_at, entry_at, own-follow}
-use Rattle.tpol_laws.proofs.Prints.{IsBehind, found-begun}
-use Rattle.tpol_laws.proofs.Told.{turns-to-end}
+use Rattle.tpol_laws.proofs.Followed.{Follows, IsNotServed, TellsServed, blind-turns, blind_seat_of, blindly_at, entry_at, own-follow}
+use Rattle.tpol_laws.proofs.Prints.{IsBehind, all-behind, found-begun}
+use Rattle.tpol_laws.proofs.Told.{none-told, turns-to-end}
+use Rattle.tpol_laws.proofs.Unlike.{IsUnserved, allows-unserved, served_line}
 
 module _ (staged : StagedScene) (run : RunOf staged.script) (is : IsStaged staged) (blind : IsBlindScene staged) where
   -- where the run is behind its own turns
@@ -49,6 +55,7 @@ module _ (staged : StagedScene) (run : RunOf staged.script) (is : IsStaged stage
         added = [];
         lines = sym (append-nil (behind_begin staged run).lines);
         told = λ end over. absurd (not-over end over);
+        unserved = λ not. All-nil (IsUnserved run.number);
       }
     where
       not-over : (end : Ended) → None ≡ Some end → ⊥
@@ -60,7 +67,7 @@ module _ (staged : StagedScene) (run : RunOf staged.script) (is : IsStaged stage
       let past = (before_begin staged run).past in
       let behind = front (IsBehind run.number) run.own run.after (stands-in staged run is).behind in
       subst (Follows (blind_seat_of among) run.number staged.scenario (behind_begin staged run) (behind_own staged run)) (blind-turns run.policy among (turns_for run.number run.own) (blind_begun past))
-      (own-follow (blind_seat_of among) run.number staged.scenario (behind_begin staged run) run.own behind (behind_begin staged run) (blindly_at run.policy among (blind_begun past)) alone (follows-begin first some))
+      (own-follow (blind_seat_of among) run.number staged.scenario (behind_begin staged run) (stands-in staged run is).begins.greatest run.own behind (behind_begin staged run) (blindly_at run.policy among (blind_begun past)) alone (follows-begin first some))
 
   -- ---- served
 
@@ -118,6 +125,79 @@ module _ (staged : StagedScene) (run : RunOf staged.script) (is : IsStaged stage
       by (Some first) some (inl over) =
           let given = ap (λ setup. goal_bytes (world_at setup (before_begin staged run).past) run.goal) (sym (setup-before staged run is)) in
           inl (served-by position (goal_bytes (world_at staged.setup (before_begin staged run).past) run.goal) found.path found.at given (follows-own alone first some) over)
+
+  -- ---- served only then
+
+  -- neither the begin nor what is before it tells it
+  skipped-unserved : (position : ℕ) (paths : List Path) → All (IsUnserved run.number) (skipped_lines position paths)
+  skipped-unserved position [] = All-nil (IsUnserved run.number)
+  skipped-unserved position (path ∷ rest) =
+      All-cons (IsUnserved run.number) (line_of (tried_line position path.steps Skipped)) (skipped_lines (position + 1) rest)
+      ((allows-unserved run.number (stands-in staged run is).begins.greatest).tried position path.steps Skipped) (skipped-unserved (position + 1) rest)
+
+  begin-unserved : (first : Option ℕ) → BeginsBlindly staged run first → All (IsUnserved run.number) (behind_begin staged run).lines
+  begin-unserved None begins =
+      let allows = allows-unserved run.number (stands-in staged run is).begins.greatest in
+      let none = line_of (nobranch_line run.number) in
+      subst (All (IsUnserved run.number)) (sym begins.0)
+      (All-append (IsUnserved run.number) (before_begin staged run).lines (line_of (blind_line run.number) ∷ (none ∷ skipped_lines 1 (paths_for staged run))) (none-told staged run is)
+      (All-cons (IsUnserved run.number) (line_of (blind_line run.number)) (none ∷ skipped_lines 1 (paths_for staged run)) (allows.blind run.number)
+      (All-cons (IsUnserved run.number) none (skipped_lines 1 (paths_for staged run)) (allows.nobranch run.number) (skipped-unserved 1 (paths_for staged run)))))
+  begin-unserved (Some position) begins =
+      let allows = allows-unserved run.number (stands-in staged run is).begins.greatest in
+      subst (All (IsUnserved run.number)) (sym begins)
+      (All-append (IsUnserved run.number) (before_begin staged run).lines (line_of (blind_line run.number) ∷ []) (none-told staged run is)
+      (All-cons (IsUnserved run.number) (line_of (blind_line run.number)) [] (allows.blind run.number) (All-nil (IsUnserved run.number))))
+
+  never-told : IsToldServed run.number (behind_own staged run).lines → (added : List (List ℕ)) → (behind_own staged run).lines ≡ (behind_begin staged run).lines ++ added → All (IsUnserved run.number) added → ⊥
+  never-told told added lines unserved =
+      let begin = begin-unserved (first_complete (blind_plan_for staged run)) (begins-blindly staged run is blind) in
+      All-contains (IsUnserved run.number) (behind_own staged run).lines (served_line run.number told.0)
+      (subst (All (IsUnserved run.number)) (sym lines) (All-append (IsUnserved run.number) (behind_begin staged run).lines added begin unserved)) told.1 told.0 refl
+
+  -- where no path is tried it is over at its begin
+  never-begun : first_complete (blind_plan_for staged run) ≡ None → IsToldServed run.number (behind_own staged run).lines → ⊥
+  never-begun none told =
+      let behind = front (IsBehind run.number) run.own run.after (stands-in staged run is).behind in
+      let begins = subst (BeginsBlindly staged run) none (begins-blindly staged run is blind) in
+      let spares = all-behind (IsUnserved run.number) run.number (allows-unserved run.number (stands-in staged run is).begins.greatest) staged.scenario run.own behind (behind_begin staged run) begins.1 in
+      never-told told spares.added spares.lines spares.each
+
+  abbrev IsServedFirst : Type 0
+  IsServedFirst = (position : ℕ) × (chosen_for staged run ≡ Some position) × IsServedBlindly staged run position
+
+  pub served-only-told : Mirrored → HasShortOffset run.goal → IsAlone staged.scenario run.number run.own (behind_begin staged run) → IsToldServed run.number (behind_own staged run).lines → IsServedFirst ⊎ HasChanceIn staged run
+  served-only-told mirrored short alone told = by (first_complete (blind_plan_for staged run)) refl
+    where
+      at-served : (position : ℕ) (bytes : List ℕ) → FollowsTo (behind_own staged run) course → course.standing ≡ Over (blind_ends.Served position bytes)
+          → ((chosen_path (paths_for staged run) (sight_after staged.setup (before_begin staged run).past) (begins staged run).grants run.goal run.locality ≡ Some position)
+          × (bytes ≡ goal_bytes (world_at staged.setup (before_begin staged run).past) run.goal)) ⊎ HasChanceIn staged run → IsServedFirst ⊎ HasChanceIn staged run
+      at-served position bytes follows over (inr chance) = inr chance
+      at-served position bytes follows over (inl (chosen, same)) =
+          let found = open-path (paths_for staged run) (sight_after staged.setup (before_begin staged run).past) (begins staged run).grants run.goal run.locality position chosen in
+          let given = ap (λ setup. goal_bytes (world_at setup (before_begin staged run).past) run.goal) (sym (setup-before staged run is)) in
+          let first = subst (λ setup. chosen_path (paths_for staged run) (sight_after setup (before_begin staged run).past) (begins staged run).grants run.goal run.locality ≡ Some position) (sym (setup-before staged run is)) chosen in
+          inl (position, first, served-by position bytes found.path found.at (same ∙ given) follows over)
+
+      unserved : FollowsTo (behind_own staged run) course → (standing : BlindStanding) → course.standing ≡ standing → IsNotServed (blind_end run.policy standing) → ⊥
+      unserved follows it at not =
+          never-told told follows.added follows.lines (follows.unserved (subst (λ s. IsNotServed (blind_end run.policy s)) (sym at) not))
+
+      stands : FollowsTo (behind_own staged run) course → (standing : BlindStanding) → course.standing ≡ standing → IsServedFirst ⊎ HasChanceIn staged run
+      stands follows Starting at = absurd (unserved follows Starting at tt)
+      stands follows (Trying session number place ticket done tries) at = absurd (unserved follows (Trying session number place ticket done tries) at tt)
+      stands follows (Again session number place tries) at = absurd (unserved follows (Again session number place tries) at tt)
+      stands follows (Closing session end) at = absurd (unserved follows (Closing session end) at tt)
+      stands follows (Over (blind_ends.Served position bytes)) at =
+          at-served position bytes follows at
+          (served-only mirrored (blind_run_of staged run) (blind-begun-is staged run is blind) short (before_begin staged run).past (turns_for run.number run.own) position bytes at)
+      stands follows (Over (blind_ends.NoBranch tries)) at = absurd (unserved follows (Over (blind_ends.NoBranch tries)) at tt)
+      stands follows (Over (blind_ends.Denied stage rc)) at = absurd (unserved follows (Over (blind_ends.Denied stage rc)) at tt)
+      stands follows (Over (blind_ends.BadReply stage)) at = absurd (unserved follows (Over (blind_ends.BadReply stage)) at tt)
+
+      by : (first : Option ℕ) → first_complete (blind_plan_for staged run) ≡ first → IsServedFirst ⊎ HasChanceIn staged run
+      by None none = absurd (never-begun none told)
+      by (Some first) some = stands (follows-own alone first some) course.standing refl
 
   -- ---- turns to its end
 

@@ -6,7 +6,9 @@ use Rattle.std.specs.List.{AllByRecursion}
 use Rattle.std.proofs.lemmas.Bool.{eq-eqb, false≢true}
 use Rattle.std.proofs.lemmas.Bool.Decides.{nat_tests}
 use Rattle.std.proofs.lemmas.Fmt.{decimal_injective}
-use Rattle.tpol_driver.specs.declared.end.End.TheVariants.{Served}
+use Rattle.tpol_base.specs.declared.rc.Rc.{Rc}
+use Rattle.tpol_driver.specs.declared.end.End.TheVariants.{BadReply, Denied, Served}
+use Rattle.tpol_driver.specs.declared.end.Stage.{Stage}
 use Rattle.tpol_lines.specs.Lines.{line_of}
 use Rattle.tpol_lines.specs.OpeningLine.{opening_line}
 use Rattle.tpol_lines.specs.Runs.{end_line, end_text}
@@ -109,6 +111,13 @@ opening-apart : (number event : ℕ) (paths : List Path) (opening : Opening) →
 opening-apart number event paths (Branch position events) = starts-apart number _ (λ (e : 111 ≡ 114). omega (arith, e))
 opening-apart number event paths (Clash first second) = starts-apart number _ (λ (e : 99 ≡ 114). omega (arith, e))
 opening-apart number event paths (ZeroInput input) = starts-apart number _ (λ (e : 122 ≡ 114). omega (arith, e))
+
+-- the other ends of the run
+pub denied-apart : (number : ℕ) (at : Stage) (rc : Rc) → IsUnserved number (line_of (end_line number (Denied at rc)))
+denied-apart number at rc = word-apart number number _ (λ (e : 100 ≡ 115). omega (arith, e))
+
+pub bad-apart : (number : ℕ) (at : Stage) → IsUnserved number (line_of (end_line number (BadReply at)))
+bad-apart number at = word-apart number number _ (λ (e : 98 ≡ 115). omega (arith, e))
 
 pub allows-unserved : (number : ℕ) → number < 2 ^ 16 → Allows (IsUnserved number) number
 allows-unserved number within = record {

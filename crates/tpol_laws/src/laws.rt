@@ -230,8 +230,9 @@ pub fn runs_are_served_as_told()
 /// begin (`IsAlone`), some path is such that nothing blocks it on the machine as it is at the begin (`chosen_for`: the
 /// first one), and there is a turn for each command of the paths that are tried up to there (`most_to`), the report has
 /// this path and right behind it that the run is served, with what its goal gives on that machine, and the run is over
-/// (`IsServedBlindly`). Turns to its end are enough. There is one exception: in one of these turns the run sends an HMAC
-/// that is right by chance (`HasChanceIn`), as in `blind_runs_are_served`.
+/// (`IsServedBlindly`); turns to its end are enough. Where these turns have it told that the run is served (`only`), it
+/// was so on that path. There is one exception: in one of these turns the run sends an HMAC that is right by chance
+/// (`HasChanceIn`), as in `blind_runs_are_served`.
 ///
 /// It stands on a law of the driver, which its body calls.
 pub fn blind_runs_are_told()
@@ -244,6 +245,11 @@ pub fn blind_runs_are_told()
         → chosen_for staged run ≡ Some position
         → most_to (blind_plan_for staged run) position ≤ turns_for run.number run.own
         → IsServedBlindly staged run position ⊎ HasChanceIn staged run }
+    ensures only { (staged : StagedScene) (run : RunOf staged.script)
+        → IsStaged staged → IsBlindScene staged → HasShortOffset run.goal
+        → IsAlone staged.scenario run.number run.own (behind_begin staged run)
+        → IsToldServed run.number (behind_own staged run).lines
+        → ((position : ℕ) × (chosen_for staged run ≡ Some position) × IsServedBlindly staged run position) ⊎ HasChanceIn staged run }
     ensures to_end { (staged : StagedScene) (run : RunOf staged.script) (before after : List ScriptEvent) (position : ℕ)
         → IsStaged staged → IsBlindScene staged → run.own ≡ before ++ events.Turn run.number None ∷ after
         → most_to (blind_plan_for staged run) position ≤ turns_for run.number run.own }

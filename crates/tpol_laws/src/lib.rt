@@ -72,6 +72,7 @@
 //! - `IsAlone`: as for the law before. A blind run tries paths as the machine is in each of its turns; where others
 //!   change the machine between, the path that was open at the begin need not serve it.
 //! - That a path is the first that nothing blocks (`served_on`): what the law is of.
+//! - That it is told that the run is served (`only`), behind the events that follow its begin: what the law is of.
 //! - That the turns are enough (`served_on`): as many as it can need until it is served (`most_to`), which turns to
 //!   its end are (`to_end`).
 //!
