@@ -1,7 +1,8 @@
 -- Where a blind run of a script begins: on all paths of its policy, or it is over at once where none can be tried.
-use Rattle.std.proofs.Common.{◌≡◌, ◌≤◌, ℕ, zero, suc, ◌+◌, ◌*◌, cond, Bool, true, false, List, [], ◌∷◌, ◌++◌, All, Option, Some, None, length, replicate, slice_get, take, refl, ap, sym, ◌∙◌, arith, append_assoc, append-nil}
+use Rattle.std.proofs.Common.{◌≡◌, ◌≤◌, ℕ, zero, suc, ◌+◌, ◌*◌, cond, Bool, true, false, List, [], ◌∷◌, ◌++◌, All, Option, Some, None, length, replicate, slice_get, take, refl, ap, sym, subst, ◌∙◌, arith, append_assoc, append-nil}
 use Rattle.std.specs.List.{AllByRecursion, sum_by}
 use Rattle.std.specs.Prelude.{filter, find, option_map, position}
+use Rattle.std.proofs.Math.Seq.{take-length}
 use Rattle.std.proofs.lemmas.Bool.{false≢true}
 use Rattle.std.proofs.lemmas.List.Elements.{All-nil, recursion_from_All}
 use Rattle.std.proofs.lemmas.List.Sums.{sum_by-cons}
@@ -9,7 +10,7 @@ use Rattle.std.proofs.lemmas.Option.{none-some}
 use Rattle.tpol_digest.specs.Laws.{MoveHasBounds}
 use Rattle.tpol_digest.proofs.PathMoves.{paths_have_bounds}
 use Rattle.tpol_driver.specs.declared.blind_end.Tried.TheVariants.{Skipped}
-use Rattle.tpol_driver.specs.Blind.{first_complete, is_tried}
+use Rattle.tpol_driver.specs.Blind.{first_complete, is_tried, most_blind, most_of_path}
 use Rattle.tpol_lines.specs.Lines.{line_of}
 use Rattle.tpol_lines.specs.Runs.{blind_line, nobranch_line}
 use Rattle.tpol_lines.specs.TriedLine.{tried_line}
@@ -69,20 +70,28 @@ few-named scenario few policy = by (find (is_document policy) scenario.begun) re
     by (Some document) e =
         find-each (HasFewPaths scenario.approvals) (is_document policy) scenario.begun document (recursion_from_All (HasFewPaths scenario.approvals) scenario.begun few) e
 
--- ---- how many commands there are until a path at most
+-- ---- how many commands there are at most
 
-most-of : (tried : Path → Bool) (paths : List Path) (n : ℕ) → AllByRecursion (λ path. length path.moves ≤ 512) paths → sum_by commands_along (filter tried (take n paths)) ≤ 1026 * length paths
-most-of tried [] zero short = omega arith
-most-of tried [] (suc n) short = omega arith
-most-of tried (path ∷ rest) zero short = omega arith
-most-of tried (path ∷ rest) (suc n) short = by (tried path) (most-of tried rest n short.1)
-  where
-    by : (b : Bool) → sum_by commands_along (filter tried (take n rest)) ≤ 1026 * length rest
-        → sum_by commands_along (cond b (path ∷ filter tried (take n rest)) (filter tried (take n rest))) ≤ 1026 * length (path ∷ rest)
-    by true later =
-        let one : length path.moves ≤ 512 = short.0 in
-        omega (arith, later, one, at-most-twice path.moves, sum_by-cons commands_along path (filter tried (take n rest)))
-    by false later = omega (arith, later)
+-- of the first paths, those that are tried, each of which has at most 1026
+module _ (count : Path → ℕ) (bound : (path : Path) → length path.moves ≤ 512 → count path ≤ 1026) (tried : Path → Bool) where
+  most-of : (paths : List Path) (n : ℕ) → AllByRecursion (λ path. length path.moves ≤ 512) paths → sum_by count (filter tried (take n paths)) ≤ 1026 * length paths
+  most-of [] zero short = omega arith
+  most-of [] (suc n) short = omega arith
+  most-of (path ∷ rest) zero short = omega arith
+  most-of (path ∷ rest) (suc n) short = by (tried path) (most-of rest n short.1)
+    where
+      by : (b : Bool) → sum_by count (filter tried (take n rest)) ≤ 1026 * length rest
+          → sum_by count (cond b (path ∷ filter tried (take n rest)) (filter tried (take n rest))) ≤ 1026 * length (path ∷ rest)
+      by true later =
+          let one : count path ≤ 1026 = bound path short.0 in
+          omega (arith, later, one, sum_by-cons count path (filter tried (take n rest)))
+      by false later = omega (arith, later)
+
+along-bound : (path : Path) → length path.moves ≤ 512 → commands_along path ≤ 1026
+along-bound path short = omega (arith, short, at-most-twice path.moves)
+
+path-bound : (path : Path) → length path.moves ≤ 512 → most_of_path path ≤ 1026
+path-bound path short = omega (arith, short)
 
 -- ---- a path that passes
 
@@ -134,11 +143,20 @@ module _ (staged : StagedScene) (run : RunOf staged.script) (is : IsStaged stage
         among = (stands-in staged run is).begins.among;
       }
 
-  -- turns to its end are enough
-  pub most-is-given : (position : ℕ) → most_to (blind_plan_for staged run) position ≤ 65665
-  most-is-given position =
-      let short = recursion_from_All (λ (path : Path). length path.moves ≤ 512) (paths_for staged run) blind-begun-is.short in
-      omega (arith, most-of (is_tried (blind_plan_for staged run)) (paths_for staged run) position short, few-named staged.scenario (is.scenario.few blind) run.policy)
+  all-short : AllByRecursion (λ path. length path.moves ≤ 512) (paths_for staged run)
+  all-short = recursion_from_All (λ (path : Path). length path.moves ≤ 512) (paths_for staged run) blind-begun-is.short
+
+  -- turns to its end are enough until it is served on a path, and until it is over
+  pub most-to-given : (position : ℕ) → most_to (blind_plan_for staged run) position ≤ 65665
+  most-to-given position =
+      omega (arith, most-of commands_along along-bound (is_tried (blind_plan_for staged run)) (paths_for staged run) position all-short, few-named staged.scenario (is.scenario.few blind) run.policy)
+
+  pub most-blind-given : most_blind (blind_plan_for staged run) ≤ 65665
+  most-blind-given =
+      let all : sum_by most_of_path (filter (is_tried (blind_plan_for staged run)) (paths_for staged run)) ≤ 1026 * length (paths_for staged run) =
+      subst (λ paths. sum_by most_of_path (filter (is_tried (blind_plan_for staged run)) paths) ≤ 1026 * length (paths_for staged run)) (take-length (paths_for staged run))
+      (most-of most_of_path path-bound (is_tried (blind_plan_for staged run)) (paths_for staged run) (length (paths_for staged run)) all-short) in
+      omega (arith, all, few-named staged.scenario (is.scenario.few blind) run.policy)
 
   blindly-is : behind_begin staged run ≡ begun_by_plan run.policy (begins staged run) (blind_plan_for staged run) (before_begin staged run)
   unfolding run_begun begun_blindly

@@ -72,7 +72,7 @@ module _ (staged : StagedScene) (run : RunOf staged.script) where
       ∙ all-append staged.scenario run.before (event ∷ (run.own ++ run.after)) (start_of staged.setup)
       ∙ begin-first (run.own ++ run.after) (before_begin staged run)
 
-  performed-behind : performed staged ≡ all_happened staged.scenario run.after (behind_own staged run)
+  pub performed-behind : performed staged ≡ all_happened staged.scenario run.after (behind_own staged run)
   performed-behind = performed-is ∙ all-append staged.scenario run.own run.after (behind_begin staged run)
 
 -- ---- a run that begins on a path

@@ -1,22 +1,24 @@
 -- What the report tells of a blind run of the script: that it is served where some path is such that nothing blocks it.
-use Rattle.std.proofs.Common.{◌≡◌, ◌≤◌, ◌⊎◌, inl, inr, ℕ, ◌-◌, List, [], ◌++◌, IfSome, Option, Some, None, slice_get, refl, ap, sym, subst, ◌∙◌, append-nil, arith}
-use Rattle.std.proofs.lemmas.List.Elements.{All-append, All-cons, All-contains, All-nil}
-use Rattle.std.specs.Prelude.{All, find, ◌+◌, ◌∷◌, option_map, position as position_of}
+use Rattle.std.proofs.Common.{◌≡◌, ◌≤◌, ◌↔◌, ◌⊎◌, inl, inr, ℕ, ◌-◌, List, [], ◌++◌, IfSome, Option, Some, None, slice_get, refl, ap, sym, subst, ◌∙◌, append-nil, arith}
+use Rattle.std.proofs.lemmas.List.Elements.{All-append, All-cons, All-contains, All-nil, Contains-append_cases, Contains-append_left}
+use Rattle.std.specs.Prelude.{All, Contains, find, is_some, ◌+◌, ◌∷◌, option_map, position as position_of}
 use Rattle.tpol_choose.specs.Blocks.{chosen_path, first_block, is_open}
 use Rattle.tpol_driver.specs.declared.blind_end.BlindEnd.TheVariants as blind_ends
 use Rattle.tpol_driver.specs.declared.blind_end.Tried.TheVariants.{Skipped}
-use Rattle.tpol_driver.specs.Blind.{Again, BlindStanding, Closing, Over, Starting, Trying, first_complete, is_tried, plan_along}
+use Rattle.tpol_driver.specs.Blind.{Again, BlindStanding, Closing, Over, Starting, Trying, first_complete, is_tried, most_blind, plan_along}
 use Rattle.tpol_goal.specs.Goals.{HasShortOffset}
 use Rattle.tpol_lines.specs.Lines.{line_of}
 use Rattle.tpol_lines.specs.Runs.{blind_line, nobranch_line}
 use Rattle.tpol_lines.specs.TriedLine.{tried_line}
 use Rattle.tpol_perform.specs.Performance.{PerformanceState}
+use Rattle.tpol_perform.specs.Script.{all_happened, performed}
 use Rattle.tpol_prepare.specs.declared.scenario.StagedScene.{StagedScene}
 use Rattle.tpol_prepare.specs.Staged.{IsStaged}
 use Rattle.tpol_runs.specs.declared.ended.Ended.{Ended}
 use Rattle.tpol_runs.specs.declared.ended.Ended.TheVariants as ended
 use Rattle.tpol_runs.specs.Courses.{blind_end, end_of}
-use Rattle.tpol_runs.specs.Runs.{has_number, run_in}
+use Rattle.tpol_runs.specs.Runs.{has_number, run_at, run_in}
+use Rattle.tpol_runs.proofs.Driven.{blind_over_is_none}
 use Rattle.tpol_runs.specs.Underway.{Blind}
 use Rattle.tpol_scene.specs.declared.script.ScriptEvent.{ScriptEvent}
 use Rattle.tpol_scene.specs.declared.script.ScriptEvent.TheVariants.{Turn}
@@ -28,13 +30,14 @@ use Rattle.tpol_laws.specs.GoalBytes.{goal_bytes}
 use Rattle.tpol_laws.specs.Told.{IsAlone, IsToldServed, RunOf, before_begin, begins, behind_begin, behind_own, bytes_for, chosen_for, paths_for, turns_for}
 use Rattle.tpol_laws.specs.ToldBlind.{BeginsBlindly, HasChanceIn, IsBlindScene, IsServedBlindly, blind_plan_for, blind_run_of, skipped_lines}
 use Rattle.tpol_laws.proofs.Begun.{FoundPath, front, none-before, open-path, setup-before, stands-in}
-use Rattle.tpol_laws.proofs.BegunBlindly.{begins-blindly, blind-begun-is, most-is-given, passes-some, tries-is}
+use Rattle.tpol_laws.proofs.BegunBlindly.{begins-blindly, blind-begun-is, most-blind-given, most-to-given, passes-some, tries-is}
 use Rattle.tpol_laws.proofs.BlindComes.{none-of, served-exactly, served-only}
+use Rattle.tpol_laws.proofs.BlindEnds.{DrivingEnds, blind-ends}
 use Rattle.tpol_laws.proofs.BlindTurns.{Mirrored}
 use Rattle.tpol_laws.proofs.Complete.{open-complete}
-use Rattle.tpol_laws.proofs.Followed.{Follows, IsNotServed, TellsServed, blind-turns, blind_seat_of, blindly_at, entry_at, own-follow}
-use Rattle.tpol_laws.proofs.Prints.{IsBehind, all-behind, found-begun}
-use Rattle.tpol_laws.proofs.Told.{none-told, turns-to-end}
+use Rattle.tpol_laws.proofs.Followed.{Follows, IsNotServed, TellsServed, allows-any, any, blind-turns, blind_seat_of, blindly_at, entry_at, own-follow, underway_from}
+use Rattle.tpol_laws.proofs.Prints.{IsBehind, Spares, all-behind, found-begun}
+use Rattle.tpol_laws.proofs.Told.{back, none-told, performed-behind, turns-to-end}
 use Rattle.tpol_laws.proofs.Unlike.{IsUnserved, allows-unserved, served_line}
 
 module _ (staged : StagedScene) (run : RunOf staged.script) (is : IsStaged staged) (blind : IsBlindScene staged) where
@@ -199,9 +202,54 @@ module _ (staged : StagedScene) (run : RunOf staged.script) (is : IsStaged stage
       by None none = absurd (never-begun none told)
       by (Some first) some = stands (follows-own alone first some) course.standing refl
 
+  -- ---- over
+
+  stays-none : first_complete (blind_plan_for staged run) ≡ None → run_at (behind_own staged run).runs run.number ≡ None
+  stays-none none =
+      let behind = front (IsBehind run.number) run.own run.after (stands-in staged run is).behind in
+      let begins = subst (BeginsBlindly staged run) none (begins-blindly staged run is blind) in
+      ap run_in (all-behind any run.number (allows-any run.number) staged.scenario run.own behind (behind_begin staged run) begins.1).found ∙ begins.1
+
+  pub over-behind : DrivingEnds → IsAlone staged.scenario run.number run.own (behind_begin staged run) → most_blind (blind_plan_for staged run) ≤ turns_for run.number run.own
+      → run_at (behind_own staged run).runs run.number ≡ None
+  over-behind driving_ends alone enough = by (first_complete (blind_plan_for staged run)) refl
+    where
+      by : (first : Option ℕ) → first_complete (blind_plan_for staged run) ≡ first → run_at (behind_own staged run).runs run.number ≡ None
+      by None none = stays-none none
+      by (Some first) some =
+          let among = blind_run_of staged run in
+          let follows = follows-own alone first some in
+          let over = blind-ends driving_ends among (ap is_some some) (before_begin staged run).past (turns_for run.number run.own) enough in
+          ap run_in follows.found
+          ∙ blind_over_is_none (underway_from (blind_seat_of among) (Blind run.policy (record { plan = among.plan; standing = course.standing }))) run.policy among.plan course.standing over
+
   -- ---- turns to its end
 
-  pub to-end-enough : (before after : List ScriptEvent) → run.own ≡ before ++ Turn run.number None ∷ after → (position : ℕ) → most_to (blind_plan_for staged run) position ≤ turns_for run.number run.own
+  pub to-end-enough : (before after : List ScriptEvent) → run.own ≡ before ++ Turn run.number None ∷ after → (position : ℕ)
+      → (most_to (blind_plan_for staged run) position ≤ turns_for run.number run.own) × (most_blind (blind_plan_for staged run) ≤ turns_for run.number run.own)
   to-end-enough before after own position =
       let given : 65665 ≤ turns_for run.number run.own = subst (λ events. 65665 ≤ turns_for run.number events) (sym own) (turns-to-end run.number before after) in
-      omega (arith, given, most-is-given staged run is blind position)
+      (omega (arith, given, most-to-given staged run is blind position), omega (arith, given, most-blind-given staged run is blind))
+
+-- ---- the whole report
+
+-- of a run that is over nothing more is told
+pub told-in-report : (staged : StagedScene) (run : RunOf staged.script) → IsStaged staged → run_at (behind_own staged run).runs run.number ≡ None
+    → IsToldServed run.number (performed staged).lines ↔ IsToldServed run.number (behind_own staged run).lines
+told-in-report staged run is over = (
+  λ told. (told.0, before told (Contains-append_cases (behind_own staged run).lines later.added (served_line run.number told.0) (subst (λ l. Contains l (served_line run.number told.0)) lines told.1))),
+  λ told. (told.0, subst (λ l. Contains l (served_line run.number told.0)) (sym lines) (Contains-append_left (behind_own staged run).lines later.added (served_line run.number told.0) told.1)),
+)
+  where
+    later : Spares (IsUnserved run.number) run.number (behind_own staged run) (all_happened staged.scenario run.after (behind_own staged run))
+    later =
+        all-behind (IsUnserved run.number) run.number (allows-unserved run.number (stands-in staged run is).begins.greatest) staged.scenario run.after
+        (back (IsBehind run.number) run.own run.after (stands-in staged run is).behind) (behind_own staged run) over
+
+    lines : (performed staged).lines ≡ (behind_own staged run).lines ++ later.added
+    lines = ap (λ (p : PerformanceState). p.lines) (performed-behind staged run) ∙ later.lines
+
+    before : (told : IsToldServed run.number (performed staged).lines) → (Contains (behind_own staged run).lines (served_line run.number told.0) ⊎ Contains later.added (served_line run.number told.0))
+        → Contains (behind_own staged run).lines (served_line run.number told.0)
+    before told (inl there) = there
+    before told (inr there) = absurd (All-contains (IsUnserved run.number) later.added (served_line run.number told.0) later.each there told.0 refl)

@@ -230,11 +230,12 @@ pub fn runs_are_served_as_told()
 /// begin (`IsAlone`), some path is such that nothing blocks it on the machine as it is at the begin (`chosen_for`: the
 /// first one), and there is a turn for each command of the paths that are tried up to there (`most_to`), the report has
 /// this path and right behind it that the run is served, with what its goal gives on that machine, and the run is over
-/// (`IsServedBlindly`); turns to its end are enough. Where these turns have it told that the run is served (`only`), it
-/// was so on that path. There is one exception: in one of these turns the run sends an HMAC that is right by chance
-/// (`HasChanceIn`), as in `blind_runs_are_served`.
+/// (`IsServedBlindly`). Where these turns have it told that the run is served (`only`), it was so on that path. There is
+/// one exception: in one of these turns the run sends an HMAC that is right by chance (`HasChanceIn`), as in
+/// `blind_runs_are_served`. Behind as many turns as the run has commands at most (`most_blind`) it is over. Turns to its
+/// end are enough for both. Of a run that is over the rest of the report tells nothing more (`in_report`).
 ///
-/// It stands on a law of the driver, which its body calls.
+/// It stands on two laws of the driver, which its body calls.
 pub fn blind_runs_are_told()
     ensures begins { (staged : StagedScene) (run : RunOf staged.script)
         → IsStaged staged → IsBlindScene staged
@@ -250,11 +251,21 @@ pub fn blind_runs_are_told()
         → IsAlone staged.scenario run.number run.own (behind_begin staged run)
         → IsToldServed run.number (behind_own staged run).lines
         → ((position : ℕ) × (chosen_for staged run ≡ Some position) × IsServedBlindly staged run position) ⊎ HasChanceIn staged run }
+    ensures ends { (staged : StagedScene) (run : RunOf staged.script)
+        → IsStaged staged → IsBlindScene staged
+        → IsAlone staged.scenario run.number run.own (behind_begin staged run)
+        → most_blind (blind_plan_for staged run) ≤ turns_for run.number run.own
+        → run_at (behind_own staged run).runs run.number ≡ None }
     ensures to_end { (staged : StagedScene) (run : RunOf staged.script) (before after : List ScriptEvent) (position : ℕ)
         → IsStaged staged → IsBlindScene staged → run.own ≡ before ++ events.Turn run.number None ∷ after
-        → most_to (blind_plan_for staged run) position ≤ turns_for run.number run.own }
+        → (most_to (blind_plan_for staged run) position ≤ turns_for run.number run.own)
+        × (most_blind (blind_plan_for staged run) ≤ turns_for run.number run.own) }
+    ensures in_report { (staged : StagedScene) (run : RunOf staged.script)
+        → IsStaged staged → run_at (behind_own staged run).runs run.number ≡ None
+        → IsToldServed run.number (performed staged).lines ↔ IsToldServed run.number (behind_own staged run).lines }
 {
     mirrored();
+    blind_driving_ends();
 }
 
 /// The journal of a scene that is carried out, whatever the scene is, and that of the run of a policy that `gen` makes

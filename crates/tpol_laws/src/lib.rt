@@ -73,8 +73,9 @@
 //!   change the machine between, the path that was open at the begin need not serve it.
 //! - That a path is the first that nothing blocks (`served_on`): what the law is of.
 //! - That it is told that the run is served (`only`), behind the events that follow its begin: what the law is of.
-//! - That the turns are enough (`served_on`): as many as it can need until it is served (`most_to`), which turns to
-//!   its end are (`to_end`).
+//! - That the turns are enough: as many as it can need until it is served (`most_to`, for `served_on`) or until it is
+//!   over (`most_blind`, for `ends`), which turns to its end are (`to_end`).
+//! - That the run is over (`in_report`): the clauses `served_on`, `ends` and `begins`.
 //!
 //! Its exception is part of the answer, as in `blind_runs_are_served`.
 //!
