@@ -233,7 +233,7 @@ module _ (staged : StagedScene) (run : RunOf staged.script) (is : IsStaged stage
 
 -- ---- the whole report
 
--- of a run that is over nothing more is told
+-- of a run that is over it is not told later that it is served
 pub told-in-report : (staged : StagedScene) (run : RunOf staged.script) → IsStaged staged → run_at (behind_own staged run).runs run.number ≡ None
     → IsToldServed run.number (performed staged).lines ↔ IsToldServed run.number (behind_own staged run).lines
 told-in-report staged run is over = (

@@ -233,7 +233,8 @@ pub fn runs_are_served_as_told()
 /// (`IsServedBlindly`). Where these turns have it told that the run is served (`only`), it was so on that path. There is
 /// one exception: in one of these turns the run sends an HMAC that is right by chance (`HasChanceIn`), as in
 /// `blind_runs_are_served`. Behind as many turns as the run has commands at most (`most_blind`) it is over. Turns to its
-/// end are enough for both. Of a run that is over the rest of the report tells nothing more (`in_report`).
+/// end are enough for both. Of a run that is over the whole report tells that it is served exactly where the lines up to
+/// there do (`in_report`).
 ///
 /// It stands on two laws of the driver, which its body calls.
 pub fn blind_runs_are_told()
