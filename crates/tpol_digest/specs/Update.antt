@@ -7,6 +7,7 @@ use Rattle.tpol_base.specs.declared.name.Name.{Name}
 use Rattle.tpol_base.specs.declared.compare.Compare.{Compare}
 use Rattle.tpol_base.specs.declared.command_code.CommandCode.TheVariants as commands
 use Rattle.tpol_base.specs.CommandCode.{number_of_code}
+use Rattle.tpol_base.specs.Flag.{yes_no}
 use Rattle.tpol_base.specs.Name.{name_bytes}
 use Rattle.tpol_base.specs.Compare.{number_of_compare}
 pub use Rattle.tpol_base.specs.Pcr.{pcr_selection}
@@ -48,11 +49,6 @@ from_zero s = record s { fresh = true }
 abbrev pub comparison : List ℕ → ℕ → Compare → List ℕ
 comparison operand offset operation =
     operand ++ to_be_bytes w16 offset ++ to_be_bytes w16 (number_of_compare operation)
-
--- a truth value as a byte (TPM 2.0 Part 2, TPMI_YES_NO)
-abbrev pub yes_no : Bool → ℕ
-yes_no true = 1
-yes_no false = 0
 
 -- the Names that PolicyDuplicationSelect hashes, and whether the object's is among them
 abbrev pub duplication : Bool → List ℕ → List ℕ → List ℕ

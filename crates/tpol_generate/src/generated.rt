@@ -1,7 +1,6 @@
 //! The policy, the machine and the client of the command `gen`.
 
 ghost use Rattle.std.specs.Prelude.{◌≡◌, ◌+◌, ◌≤◌, [], ◌∷◌, IfOk, codes};
-ghost use Rattle.tpol_base.specs.Digest.{zero_digest};
 ghost use Rattle.tpol_generate.specs.Generate.{before, generated_object, generated_or, generated_ors, generated_policy, generated_run, generated_seed, generated_setup, two_branches, zero_pcr, zero_pcrs};
 ghost use Rattle.tpol_name.specs.Setups.{IsSetup};
 ghost use Rattle.tpol_tree.specs.declared.policy.Branches.TheVariants.{More' as MoreBranches'};
@@ -12,6 +11,7 @@ ghost use Rattle.tpol_tree.specs.Erased.{erased_branches, erased_element, erased
 
 use std::alloc::Global;
 use tpol_base::{Blob, Digest32, Digests, NoMemory, Sequence, Text};
+use tpol_digest::zero_digest;
 use tpol_goal::{Goal, Grants};
 use tpol_name::{Indices, ObjectEntry, ObjectPublic, Objects, Scheme, Setup};
 use tpol_perform::NewRun;
@@ -97,15 +97,8 @@ fn zero_pcr(alloc: Global, pcr: u8) -> Result<Element, NoMemory>
     ensures { IfOk result (λ element. element ≡ zero_pcr pcr) }
 {
     let mut values = PcrValues::new(alloc);
-    values.push((pcr, zero()))?;
+    values.push((pcr, zero_digest()))?;
     Ok(Element::Pcr(PcrWish::Values(values)))
-}
-
-// 32 zero bytes.
-fn zero() -> Digest32
-    ensures { result ≡ zero_digest }
-{
-    Digest32::ZERO
 }
 
 // A branch with one element.
@@ -212,7 +205,7 @@ fn generated_objects(alloc: Global, digest: &Digest32) -> Result<Objects, NoMemo
 fn zero_pcrs(alloc: Global) -> Result<Digests, NoMemory>
     ensures { IfOk result (λ pcrs. pcrs ≡ zero_pcrs) }
 {
-    Sequence::from_slice(alloc, &[zero(); 24])
+    Sequence::from_slice(alloc, &[zero_digest(); 24])
 }
 
 // 28 zero bytes and the number.
