@@ -14,7 +14,7 @@ use crate::plan::Plan;
 use crate::ready::Ready;
 use crate::session::Session;
 use crate::step::{Heard, answer, command, said};
-use crate::tickets::{Tickets, earn};
+use crate::tickets::{HeldTicket, Tickets, earn};
 use std::alloc::Global;
 use std::marker::Model;
 use tpol_base::{Blob, NoMemory};
@@ -61,6 +61,13 @@ impl Asserting {
             done: 0,
             earned,
         }
+    }
+
+    /// The tickets that the run has earned so far, in order.
+    pub fn earned(&self) -> &[HeldTicket]
+        ensures { result.now ≡ self.now.earned }
+    {
+        self.earned.as_slice()
     }
 
     /// The next command: that of the next move, by a ticket where the plan has one that stands for it. Before

@@ -7,7 +7,7 @@ ghost use Rattle.tpol_driver.specs.States.{IsNext, IsSent};
 use crate::end::End;
 use crate::next::{Next, Over};
 use crate::plan::Plan;
-use crate::tickets::Tickets;
+use crate::tickets::{HeldTicket, Tickets};
 use std::alloc::Global;
 use std::marker::Model;
 use tpol_base::{Blob, NoMemory};
@@ -40,6 +40,13 @@ impl Closing {
             end,
             earned,
         }
+    }
+
+    /// The tickets that the run has earned so far, in order.
+    pub fn earned(&self) -> &[HeldTicket]
+        ensures { result.now ≡ self.now.earned }
+    {
+        self.earned.as_slice()
     }
 
     /// The next command: FlushContext of the session.

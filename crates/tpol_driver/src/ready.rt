@@ -10,7 +10,7 @@ use crate::goal_use;
 use crate::next::{Next, Over};
 use crate::plan::Plan;
 use crate::session::Session;
-use crate::tickets::Tickets;
+use crate::tickets::{HeldTicket, Tickets};
 use std::alloc::Global;
 use std::marker::Model;
 use tpol_base::{Blob, NoMemory};
@@ -45,6 +45,13 @@ impl Ready {
             sent,
             earned,
         }
+    }
+
+    /// The tickets that the run has earned so far, in order.
+    pub fn earned(&self) -> &[HeldTicket]
+        ensures { result.now ≡ self.now.earned }
+    {
+        self.earned.as_slice()
     }
 
     /// The next command: the goal's, authorized by the session with continueSession clear.
