@@ -9,6 +9,7 @@ mod areas;
 mod entities;
 mod entries;
 mod listing;
+mod named;
 mod paths;
 mod setup;
 mod sight;
@@ -20,6 +21,7 @@ pub use areas::{
 pub use entities::{hierarchy_at, index_at, object_at};
 pub use entries::{DirEntry, Directory, IndexEntry, Indices, ObjectEntry, Objects};
 pub use listing::directory;
+pub use named::{HasName, Named, NamedIndices, NamedObjects, Names, names_of};
 pub use paths::same_path;
 pub use setup::Setup;
 pub use sight::{Sight, opening_sight};

@@ -1,22 +1,21 @@
 //! What a machine shows.
 
 ghost use Rattle.std.specs.Prelude.{◌≡◌, IfOk};
-ghost use Rattle.std.proofs.Common.{rules};
 ghost use Rattle.tpol_name.specs.Setups.{IsSetup, IsSight, first_sight};
 
-use crate::{Indices, Objects, Setup};
-use std::alloc::Global;
+use crate::{NamedIndices, NamedObjects, Setup};
+use std::alloc::{AllocError, Global};
 use tpol_base::{Blob, Digests, ExactClone, NoMemory};
 
 /// The number of sessions that a machine can keep alive.
 const SESSIONS: u32 = 64;
 
 /// What a machine shows at one moment, its secret values too: the values of a `Setup` as they are now, and
-/// how many sessions can still be started.
-#[derive(Clone, Drop)]
+/// how many sessions can still be started. The entities have their Names beside them.
+#[derive(Drop)]
 pub struct Sight {
-    pub objects: Objects,
-    pub indices: Indices,
+    pub objects: NamedObjects,
+    pub indices: NamedIndices,
     pub owner: Blob,
     pub endorsement: Blob,
     pub lockout: Blob,
@@ -30,18 +29,40 @@ pub struct Sight {
     pub free_sessions: u32,
 }
 
+impl Clone for Sight {
+    ghost is_clone = { λ sight copy. copy ≡ sight };
+
+    fn clone(&self) -> Result<Sight, AllocError> {
+        Ok(Sight {
+            objects: self.objects.clone()?,
+            indices: self.indices.clone()?,
+            owner: self.owner.clone()?,
+            endorsement: self.endorsement.clone()?,
+            lockout: self.lockout.clone()?,
+            pcrs: self.pcrs.clone()?,
+            pcr_counter: self.pcr_counter,
+            time: self.time,
+            reset_count: self.reset_count,
+            restart_count: self.restart_count,
+            safe: self.safe,
+            presence: self.presence,
+            free_sessions: self.free_sessions,
+        })
+    }
+}
+
 impl ExactClone for Sight {
-    ghost same = { Prim.search rules };
+    ghost same = { λ _ _ same. same };
 }
 
 /// What a machine shows that just started from this setup.
-pub fn opening_sight(_alloc: Global, setup: &Setup) -> Result<Sight, NoMemory>
+pub fn opening_sight(alloc: Global, setup: &Setup) -> Result<Sight, NoMemory>
     ensures sight { IfOk result (λ sight. sight ≡ first_sight setup.now) }
     ensures condition { IsSetup setup.now → IfOk result IsSight }
 {
     Ok(Sight {
-        objects: setup.objects.clone()?,
-        indices: setup.indices.clone()?,
+        objects: NamedObjects::new(alloc, setup.objects.clone()?)?,
+        indices: NamedIndices::new(alloc, setup.indices.clone()?)?,
         owner: setup.owner.clone()?,
         endorsement: setup.endorsement.clone()?,
         lockout: setup.lockout.clone()?,
