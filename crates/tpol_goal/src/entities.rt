@@ -8,9 +8,7 @@ ghost use Rattle.tpol_goal.specs.Entities.{entity_in_sight, entity_of_name, hier
 
 use tpol_base::Name;
 use tpol_base::handle::{HandleKind, TPM_RH_ENDORSEMENT, TPM_RH_LOCKOUT, TPM_RH_OWNER};
-use tpol_name::{
-    DirEntry, IndexEntry, ObjectEntry, Sight, nv_name, nv_name_once_written, object_name,
-};
+use tpol_name::{DirEntry, IndexEntry, ObjectEntry, Sight, nv_name, object_name};
 
 /// The handle of the entity that a Name stands for where a command takes a hierarchy, an object or an index:
 /// the hierarchy whose handle the Name is, else the first line of the directory with the Name; `None` where
@@ -105,21 +103,13 @@ fn find_entity(sight: &Sight, name: &Name) -> Option<u32>
 fn find_object<'a>(sight: &'a Sight, name: &Name) -> Option<&'a ObjectEntry>
     ensures { option_copied result ≡ object_in_sight sight.now name.now }
 {
-    sight
-        .objects
-        .as_slice()
-        .iter()
-        .find(|object| object_name(&object.public) == *name)
+    sight.objects.find(name)
 }
 
 fn find_index<'a>(sight: &'a Sight, name: &Name) -> Option<&'a IndexEntry>
     ensures { option_copied result ≡ index_in_sight sight.now name.now }
 {
-    sight
-        .indices
-        .as_slice()
-        .iter()
-        .find(|index| nv_name_once_written(&index.public) == *name)
+    sight.indices.find(name)
 }
 
 /// The handle of the hierarchy that a Name stands for: the owner's, the endorsement's or the lockout's, whose
