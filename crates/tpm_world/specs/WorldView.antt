@@ -1,4 +1,6 @@
 -- What contracts see of the code's `World`, and what always holds of it.
+use Rattle.std.specs.Prelude.{◌≡◌, map}
+use Rattle.tpol_name.specs.Areas.{index_name, object_name, with_written}
 use Rattle.tpm_world.specs.declared.world.World.TheInside.{Inside}
 use Rattle.tpm_world.specs.World.{IsWorld, WorldState}
 
@@ -18,5 +20,8 @@ state_of w = record {
   presence = w.presence;
 }
 
-abbrev pub IsSound : Inside → Type 0
-IsSound w = IsWorld (state_of w)
+-- it is a world, and keeps the Names of its objects and the Names that its indices have once they are written
+pub record IsSound (w : Inside) : Type 0 where
+  pub world : IsWorld (state_of w)
+  pub object_names : w.object_names ≡ map (λ object. object_name object.public) w.objects
+  pub index_names : w.index_names ≡ map (λ index. index_name (with_written index.public)) w.indices

@@ -24,10 +24,13 @@ use tpm_pcr::{Clock, PcrFull, Pcrs};
 use tpm_rules::Entity;
 use tpol_base::handle::{TPM_RH_ENDORSEMENT, TPM_RH_LOCKOUT, TPM_RH_OWNER};
 use tpol_base::{Blob, Digest32, Digests, NoMemory, Rc};
-use tpol_name::{IndexEntry, ObjectEntry, Setup, Sight};
+use tpol_name::{
+    IndexEntry, NamedIndices, NamedObjects, Names, ObjectEntry, Setup, Sight, names_of,
+};
 
 /// What a machine has beside its policy sessions: the seed, the hierarchies, objects, NV indices and PCRs, and
-/// the surroundings; contracts see the values as they are now.
+/// the surroundings; contracts see the values as they are now. The Names of objects and of indices, these as they
+/// are once written, are hashed once, at the start.
 #[derive(Drop)]
 pub struct World {
     seed: Digest32,
@@ -35,7 +38,9 @@ pub struct World {
     endorsement: Blob,
     lockout: Blob,
     objects: ObjectTable,
+    object_names: Names,
     indices: NvTable,
+    index_names: Names,
     pcrs: Pcrs,
     time: u64,
     reset_count: u32,
@@ -62,6 +67,8 @@ impl World {
         requires setup { IsSetup setup.now }
         ensures world { IfOk result (λ world. world ≡ world_of setup.now) }
     {
+        let object_names = names_of(alloc, setup.objects.as_slice())?;
+        let index_names = names_of(alloc, setup.indices.as_slice())?;
         let objects = ObjectTable::new(alloc, setup.objects.clone()?)?;
         let indices = NvTable::new(alloc, setup.indices.clone()?)?;
         Ok(World {
@@ -70,7 +77,9 @@ impl World {
             endorsement: setup.endorsement.clone()?,
             lockout: setup.lockout.clone()?,
             objects,
+            object_names,
             indices,
+            index_names,
             pcrs: Pcrs::new(setup.pcrs.clone()?, setup.pcr_counter),
             time: setup.time,
             reset_count: setup.reset_count,
@@ -85,9 +94,11 @@ impl World {
         ensures sight { IfOk result (λ sight. sight ≡ sight_of self.now free_sessions) }
         ensures condition { IfOk result IsSight }
     {
+        let objects = self.objects.to_objects(alloc)?;
+        let indices = self.indices.to_indices(alloc)?;
         Ok(Sight {
-            objects: self.objects.to_objects(alloc)?,
-            indices: self.indices.to_indices(alloc)?,
+            objects: NamedObjects::with_names(objects, self.object_names.clone()?),
+            indices: NamedIndices::with_names(indices, self.index_names.clone()?),
             owner: self.owner.clone()?,
             endorsement: self.endorsement.clone()?,
             lockout: self.lockout.clone()?,

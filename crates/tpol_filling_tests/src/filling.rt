@@ -7,7 +7,7 @@ use tpol_base::{Blob, Compare, Digest32, NoMemory, Sequence, Text};
 use tpol_digest::digest_of;
 use tpol_fill::{FillFault, FillKind, fill};
 use tpol_json::{Place, place_text};
-use tpol_name::Sight;
+use tpol_name::{NamedIndices, NamedObjects, Sight};
 use tpol_tree::{
     Branch, Branches, Element, Elements, EntityWish, IndexWish, KeyWish, PcrWish, Policy,
 };
@@ -113,8 +113,8 @@ fn started(alloc: Global) -> Result<Sight, NoMemory> {
     let objects = single(alloc, approver(alloc)?)?;
     let indices = single(alloc, owner_index(alloc)?)?;
     Ok(Sight {
-        objects,
-        indices,
+        objects: NamedObjects::new(alloc, objects)?,
+        indices: NamedIndices::new(alloc, indices)?,
         owner: Blob::new(alloc),
         endorsement: Blob::new(alloc),
         lockout: Blob::new(alloc),

@@ -10,7 +10,9 @@ use crate::references::policy_at;
 use std::alloc::Global;
 use tpol_base::{Blob, Digest32, NoMemory, Sequence};
 use tpol_digest::digest_of;
-use tpol_name::{IndexEntry, Indices, ObjectEntry, Objects, Setup, Sight, opening_sight};
+use tpol_name::{
+    IndexEntry, Indices, NamedIndices, NamedObjects, ObjectEntry, Objects, Setup, Sight, opening_sight,
+};
 use tpol_scene::EntityPolicy;
 use tpol_steps::{FilledDocument, Halt, fill_document};
 use tpol_store::Store;
@@ -107,8 +109,8 @@ fn sight_before(alloc: Global, policy: &EntityPolicy, setup: &Setup) -> Result<S
     let objects = first_objects(alloc, setup.objects.as_slice(), policy.objects_before)?;
     let indices = first_indices(alloc, setup.indices.as_slice(), policy.indices_before)?;
     let mut sight = opening_sight(alloc, setup)?;
-    sight.objects = objects;
-    sight.indices = indices;
+    sight.objects = NamedObjects::new(alloc, objects)?;
+    sight.indices = NamedIndices::new(alloc, indices)?;
     Ok(sight)
 }
 

@@ -3,4 +3,4 @@ use Rattle.tpm_world.proofs.world.World.index.Goals as goal
 
 pub returns-clause-content : goal.returns-clause-content
 returns-clause-content c =
-    found_content c.args.handle c.self.inside.indices c.find.result c.self.invariant.entities.each_index c.find.ensures.found
+    found_content c.args.handle c.self.inside.indices c.find.result c.self.invariant.world.entities.each_index c.find.ensures.found
