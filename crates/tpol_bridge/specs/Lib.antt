@@ -4,7 +4,6 @@ pub mod Digests
 pub mod Exports
 pub mod Laws
 pub mod Lines
-pub mod Numbers
 pub mod Reached
 pub mod Report
 pub mod Steps

@@ -3,9 +3,9 @@ use Rattle.std.specs.Prelude.{ℕ, Bool, true, false, List, [], ◌∷◌, Optio
 use Rattle.std.specs.Option.{is_some, option_map_or}
 use Rattle.std.specs.Str.{bytes_eq}
 use Rattle.tpol_base.specs.PolicyName.{is_policy_name, without_folder}
-use Rattle.tpol_bridge.specs.Numbers.{number_of_word}
 use Rattle.tpol_bridge.specs.declared.request.Request.{Request}
 use Rattle.tpol_bridge.specs.declared.request.Request.TheVariants.{Adopt, Digests, Steps}
+use Rattle.tpol_front.specs.Numbers.{number_of_word}
 
 -- the command of one word
 abbrev pub one_word_request : List ℕ → Option Request

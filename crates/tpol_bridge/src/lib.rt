@@ -12,7 +12,6 @@ mod commands;
 mod digests;
 mod export;
 mod laws;
-mod numbers;
 mod request;
 mod steps;
 mod top;

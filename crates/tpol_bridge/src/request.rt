@@ -2,9 +2,9 @@ ghost use Rattle.std.specs.Prelude.{◌≡◌, map, IfOk};
 ghost use Rattle.std.specs.String.{string_bytes};
 ghost use Rattle.tpol_bridge.specs.Words.{digests_request, four_word_request, one_word_request, request_of, scene_stem, steps_request, steps_scene_request, three_word_request, two_word_request};
 
-use crate::numbers::number_of_word;
 use std::alloc::Global;
 use tpol_base::{NoMemory, Text, is_policy_name, without_folder};
+use tpol_front::number_of_word;
 
 /// What the words ask for.
 #[derive(Drop)]

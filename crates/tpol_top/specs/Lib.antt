@@ -4,7 +4,6 @@ pub mod Commands
 pub mod Compile
 pub mod Explain
 pub mod Import
-pub mod Numbers
 pub mod Paths
 pub mod Reached
 pub mod Report

@@ -3,11 +3,11 @@ use Rattle.std.specs.Prelude.{ℕ, ◌&&◌, nat_le, Bool, true, false, List, []
 use Rattle.std.specs.Option.{is_some, option_map_or}
 use Rattle.std.specs.Str.{bytes_eq}
 use Rattle.tpol_base.specs.PolicyName.{is_policy_name, without_folder}
-use Rattle.tpol_top.specs.Numbers.{number_of_word}
 use Rattle.tpol_top.specs.declared.request.Request.{Request}
 use Rattle.tpol_top.specs.declared.request.Request.TheVariants.{Compile, Paths, Lint, Canon, Import, Check, Perform, Generate}
 use Rattle.tpol_prepare.specs.declared.manner.Manner.TheVariants as manners
 use Rattle.tpol_prepare.specs.declared.manner.Way.TheVariants.{Blind, Sighted}
+use Rattle.tpol_front.specs.Numbers.{number_of_word}
 
 -- the command of one word
 abbrev pub one_word_request : List ℕ → Option Request

@@ -12,7 +12,6 @@ mod check;
 mod commands;
 mod compile;
 mod import;
-mod numbers;
 mod paths;
 mod request;
 mod top;

@@ -2,9 +2,9 @@ ghost use Rattle.std.specs.Prelude.{◌≡◌, map, IfOk};
 ghost use Rattle.std.specs.String.{string_bytes};
 ghost use Rattle.tpol_top.specs.Words.{check_request, explain_request, four_word_request, generation, request_of, name_request, one_word_request, policy_stem, run_request, scene_request, three_word_request, two_word_request};
 
-use crate::numbers::number_of_word;
 use std::alloc::Global;
 use tpol_base::{NoMemory, Text, is_policy_name, without_folder};
+use tpol_front::number_of_word;
 use tpol_prepare::{Manner, Way};
 
 /// What the words ask for.

@@ -1,7 +1,7 @@
 //! Numbers as words.
 
 ghost use Rattle.std.specs.Prelude.{◌≡◌, None, Some, if◌then◌else◌};
-ghost use Rattle.tpol_top.specs.Numbers.{goes_on, is_numeral, number_from, number_of_word, with_digit};
+ghost use Rattle.tpol_front.specs.Numbers.{goes_on, is_numeral, number_from, number_of_word, with_digit};
 
 /// The decimal number below 2^32 that a word is; zeros in front are not allowed.
 #[tactic(auto, unfolding(crate::specs::Numbers::number_of_word))]

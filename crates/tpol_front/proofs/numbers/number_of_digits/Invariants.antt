@@ -1,6 +1,6 @@
 use Rattle.std.proofs.Common.{◌≡◌, drop}
-use Rattle.tpol_top.specs.Numbers.{number_from}
-use Rattle.tpol_top.proofs.numbers.number_of_digits.Given as goal
+use Rattle.tpol_front.specs.Numbers.{number_from}
+use Rattle.tpol_front.proofs.numbers.number_of_digits.Given as goal
 
 -- the number so far, with the digits to come
 abbrev pub invariant-loop-digit : goal.invariant-loop-digit
