@@ -3,7 +3,7 @@ ghost use Rattle.tpol_lines.specs.PathLine.{assertion_kind};
 
 use tpol_tree::Assertion;
 
-// The word for an assertion's policy command.
+/// The word for an assertion's policy command.
 pub fn assertion_kind(assertion: &Assertion) -> &'static str
     ensures { result.now ≡ assertion_kind assertion.now }
 {
