@@ -103,7 +103,7 @@ named_erased approvals name (document ∷ rest) =
       | false ↦ named_erased approvals name rest
     ]
 
-paths_erased : (scenario : Scenario) (policy : List ℕ) → paths_named (erased_scenario scenario) policy ≡ paths_named scenario policy
+pub paths_erased : (scenario : Scenario) (policy : List ℕ) → paths_named (erased_scenario scenario) policy ≡ paths_named scenario policy
 unfolding paths_named
 paths_erased scenario policy = named_erased scenario.approvals policy scenario.begun
 
@@ -198,7 +198,7 @@ run_erased scenario policy run number p =
 
 -- ---- the script
 
-happened_erased : (scenario : Scenario) (event : ScriptEvent) (p : PerformanceState) → happened (erased_scenario scenario) event p ≡ happened scenario event p
+pub happened_erased : (scenario : Scenario) (event : ScriptEvent) (p : PerformanceState) → happened (erased_scenario scenario) event p ≡ happened scenario event p
 happened_erased scenario (Command client locality buffer) p = commanded_erased scenario client locality buffer p
 happened_erased scenario (Begin run client locality policy place goal) p = begun_erased scenario policy (new_run scenario.clients run client locality goal) p
 happened_erased scenario (Turn run times) p = turn_erased scenario run times p

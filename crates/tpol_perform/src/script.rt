@@ -83,8 +83,8 @@ impl Performance {
         Ok(())
     }
 
-    // An event of a script happens.
-    fn happen(
+    /// An event of a script happens. The call fails only where memory ran out.
+    pub fn happen(
         &mut self,
         alloc: Global,
         scenario: &Scenario,
