@@ -102,8 +102,15 @@ impl Saved {
         self.table.occupied()
     }
 
-    // Whether the handle is saved with this sequence number.
-    fn is_saved_as(&self, handle: u32, sequence: u64) -> bool
+    /// Whether the handle is saved.
+    pub fn is_saved(&self, handle: u32) -> bool
+        ensures { result ≡ spec.is_saved self.now handle }
+    {
+        self.table.get(handle).is_some()
+    }
+
+    /// Whether the handle is saved with this sequence number.
+    pub fn is_saved_as(&self, handle: u32, sequence: u64) -> bool
         ensures { result ≡ spec.has_sequence (slots.content_at self.now handle) sequence }
     {
         match self.table.get(handle) {

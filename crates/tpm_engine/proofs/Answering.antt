@@ -9,13 +9,13 @@ use Rattle.tpm_bindings.specs.Facts.{moves_of}
 use Rattle.tpm_engine.specs.declared.opened.Opened.{Opened}
 use Rattle.tpm_engine.specs.declared.responded.Responded.{Responded}
 use Rattle.tpm_engine.specs.declared.stop.Stop.{Stop}
-use Rattle.tpm_engine.specs.Answers.{answer, answer_to_command, answer_to_reading, answer_unless, opened_by_command, opened_by_reading, opened_of, opened_unless, opening_of, stopped, succeeding}
+use Rattle.tpm_engine.specs.Answers.{answer, answer_to_command, answer_to_reading, answer_unless, first_stop, opened_by_command, opened_by_reading, opened_of, opened_unless, opening_of, stopped, succeeding}
 use Rattle.tpm_engine.specs.Deeds.{after_event}
 use Rattle.tpm_engine.specs.Events.{Answered, event_of, is_success}
-use Rattle.tpm_engine.specs.Responses.{IsResponse, checked_stop}
+use Rattle.tpm_engine.specs.Responses.{IsResponse}
 use Rattle.tpm_engine.specs.Stops.{refuses}
 use Rattle.tpm_engine.specs.Tables.{TableState}
-use Rattle.tpm_engine.proofs.Serving.{Fails, checked-fails, checked-first, event-after, event-fails, stopped-response}
+use Rattle.tpm_engine.proofs.Serving.{Fails, event-after, event-fails, first-fails, none-stops, stopped-response}
 
 pub ok-map : {A E : Type 0} (P Q : A → Type 0) (result : Result A E) → ((x : A) → P x → Q x) → IfOk result P → IfOk result Q
 ok-map P Q (Ok x) f h = f x h
@@ -39,14 +39,20 @@ stop-response before number command (Ok done) stop answered opened is none fails
     stopped-response before before number command done stop answered opened is none fails how.reply how.kept how.outcome how.opened refl
 stop-response before number command (Err e) stop answered opened is none fails how = tt
 
--- a rule that is asked before a command is carried out refuses it
-pub checked-response : (before : TableState) (number locality : ℕ) (command : Command) (result : Result Responded NoMemory) (stop : Stop) → checked_stop before locality command ≡ Some stop → IsStopped stop result
+-- the first rule that is broken refuses a command
+pub first-response : (before : TableState) (number locality : ℕ) (command : Command) (result : Result Responded NoMemory) (stop : Stop) → first_stop before locality command ≡ Some stop → IsStopped stop result
     → IfOk result (λ done. IsResponse before number command (answer_to_command before number locality command) (opened_by_command before locality command) before done)
-checked-response before number locality command result stop is how =
-    let first = checked-first before locality command stop is in
+first-response before number locality command result stop is how =
     stop-response before number command result stop _ _
-    (ap (λ s. answer_unless s (succeeding before number command)) first) (ap (λ s. opened_unless s (opening_of before command)) first)
-    (subst Fails is (checked-fails before locality command)) how
+    (ap (λ s. answer_unless s (succeeding before number command)) is) (ap (λ s. opened_unless s (opening_of before command)) is)
+    (subst Fails is (first-fails before locality command)) how
+
+-- where no rule stops a command its response is that of its success
+pub none-response : (before : TableState) (number locality : ℕ) (command : Command) (after : TableState) (result : Result Responded NoMemory) → first_stop before locality command ≡ None
+    → IfOk result (λ done. IsResponse before number command (succeeding before number command) (opening_of before command) after done)
+    → IfOk result (λ done. IsResponse before number command (answer_to_command before number locality command) (opened_by_command before locality command) after done)
+none-response before number locality command after (Ok done) none h = none-stops before number locality command after done none h
+none-response before number locality command after (Err e) none h = tt
 
 -- ---- the answer to bytes
 

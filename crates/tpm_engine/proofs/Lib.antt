@@ -9,6 +9,7 @@ pub mod Link
 pub mod Lookups
 pub mod Machines
 pub mod Opening
+pub mod OwnRules
 pub mod PcrsChanged
 pub mod Policies
 pub mod SavedOnce

@@ -23,34 +23,20 @@ use Rattle.tpm_rules.specs.Entity.{Entity, is_policy_available}
 use Rattle.tpm_rules.specs.Password.{password_denial}
 use Rattle.tpm_rules.specs.Rule.{or_else, unless}
 use Rattle.tpm_world.specs.Entities.{handle_rule}
-use Rattle.tpol_wire.specs.Handles.{area_of, handles_of, is_policy_command, policy_session_of}
-use Rattle.tpm_world.specs.Plain.{plain_rule}
+use Rattle.tpol_wire.specs.Handles.{area_of, handles_of, policy_session_of}
 use Rattle.tpm_engine.specs.declared.closing_use.Closing.{Closing}
 use Rattle.tpm_engine.specs.declared.opened.Opened.{Opened}
 use Rattle.tpm_engine.specs.declared.responded.Responded.{Responded}
 use Rattle.tpm_engine.specs.declared.stop.Stop.{Stop}
-use Rattle.tpm_engine.specs.Answers.{answer_to_command, answer_unless, early_stop, first_stop, opened_unless, opening_of, own_rule, stopped, succeeding, success_of}
+use Rattle.tpm_engine.specs.Answers.{answer_to_command, answer_unless, early_stop, first_stop, opened_by_command, opened_unless, opening_of, own_rule, stopped, succeeding, success_of}
 use Rattle.tpm_engine.specs.Authorization.{area_stop, authorization_stop, authorized_entity, authorized_handle, broken_check, check_stop, entity_stop, number_of_command, password_code, password_stop, policy_stop}
 use Rattle.tpm_engine.specs.Closings.{closing_of, closing_of_area, opened_by, opened_by_one, use_of_closing}
 use Rattle.tpm_engine.specs.Deeds.{after_deed, after_event, after_use, area_use, command_deed, deed_in, use_in, Idle}
 use Rattle.tpm_engine.specs.Events.{Answered, event_of, is_served, is_success}
-use Rattle.tpm_engine.specs.Responses.{IsResponse, after_command, after_success, checked_rule, checked_stop, own_answer, own_opened}
-use Rattle.tpm_engine.specs.SessionCommands.{is_session_command}
+use Rattle.tpm_engine.specs.Responses.{IsResponse, after_command, after_success}
 use Rattle.tpm_engine.specs.Stops.{apart_stop, authorizing_session, denies, handle_stop, handles_from, handles_stop, has_room, refuses, room_stop, session_of_area, session_stop}
 use Rattle.tpm_engine.specs.Tables.{TableState}
 use Rattle.tpm_engine.proofs.Stopping.{map-none, or_else-none, unless-none}
-
--- ---- the own rules
-
--- a rule that is asked before the reply and is broken is the command's
-pub checked-own : (tables : TableState) (command : Command) (code : ℕ) → checked_rule tables command ≡ Some code → own_rule tables command ≡ Some code
-checked-own tables command code h = at (is_policy_command command) refl (is_session_command command) refl h
-  where
-    at : (p : Bool) → is_policy_command command ≡ p → (s : Bool) → is_session_command command ≡ s
-        → (if p then None else (if s then None else plain_rule tables.world command)) ≡ Some code → own_rule tables command ≡ Some code
-    at true e s f h = absurd (none-some code h)
-    at false e true f h = absurd (none-some code h)
-    at false e false f h = rw (e, f) h
 
 -- ---- the use of a policy session
 
@@ -204,79 +190,55 @@ stopped-response before after number command done stop answered opened is none f
   agree = quiet done (λ found. Agree (moves_of found.facts)) opens;
 }
 
-pub own-refused : (before : TableState) (number : ℕ) (command : Command) (code : ℕ) → own_rule before command ≡ Some code
-    → (own_answer before number command ≡ stopped (refuses code)) × (own_opened before command ≡ None)
-own-refused before number command code rule =
-    (ap (λ r. answer_unless (option_map refuses r) (succeeding before number command)) rule, ap (λ r. opened_unless (option_map refuses r) (opening_of before command)) rule)
-
 pub success-is : (command : Command) → is_success (success_of command) ≡ true
 success-is command = elim (is_some (area_of command)) as (λ b. is_success (if b then Served else Accepted) ≡ true) [ true ↦ refl | false ↦ refl ]
 
 -- a command that succeeds
-pub served-response : (before mid after : TableState) (number : ℕ) (command : Command) (done : Responded)
-    → own_rule before command ≡ None → session_stop before command ≡ None
+pub served-response : (before mid after : TableState) (number : ℕ) (command : Command) (done : Responded) → session_stop before command ≡ None
     → done.reply ≡ (succeeding before number command).reply → done.kept ≡ (succeeding before number command).reply → done.outcome ≡ success_of command
     → mid ≡ after_deed number (command_deed command (succeeding before number command).reply) before
     → after ≡ after_use number (option_map use_of_closing (closing_of command)) mid
     → done.opened ≡ opened_by mid (closing_of command)
     → IfSome done.opened (λ found. IsSound (moves_of found.facts)) → IfSome done.opened (λ found. Agree (moves_of found.facts))
-    → IsResponse before number command (own_answer before number command) (own_opened before command) after done
-served-response before mid after number command done rule none reply kept outcome carried closed opens sound agree =
-    let is : own_answer before number command ≡ succeeding before number command = ap (λ r. answer_unless (option_map refuses r) (succeeding before number command)) rule in
-    let free : own_opened before command ≡ opening_of before command = ap (λ r. opened_unless (option_map refuses r) (opening_of before command)) rule in
-    record {
-      reply = reply ∙ ap (λ (a : Answered). a.reply) (sym is);
-      kept = kept ∙ ap (λ (a : Answered). a.reply) (sym is);
-      outcome = outcome ∙ ap (λ (a : Answered). a.outcome) (sym is);
-      opens = opens ∙ (opened-before before mid number command (succeeding before number command).reply none carried ∙ sym free);
-      tables =
-          closed ∙ (ap (after_use number (option_map use_of_closing (closing_of command))) carried
-          ∙ (ap (λ used. after_use number used (after_deed number (command_deed command (succeeding before number command).reply) before)) (closing-use command)
-          ∙ sym (ap (after_command before number command) is
-          ∙ ap (λ b. if b then after_success before number command (succeeding before number command).reply else before) (success-is command))));
-      sound = sound;
-      agree = agree;
-    }
+    → IsResponse before number command (succeeding before number command) (opening_of before command) after done
+served-response before mid after number command done none reply kept outcome carried closed opens sound agree = record {
+  reply = reply;
+  kept = kept;
+  outcome = outcome;
+  opens = opens ∙ opened-before before mid number command (succeeding before number command).reply none carried;
+  tables =
+      closed ∙ (ap (after_use number (option_map use_of_closing (closing_of command))) carried
+      ∙ (ap (λ used. after_use number used (after_deed number (command_deed command (succeeding before number command).reply) before)) (closing-use command)
+      ∙ sym (ap (λ b. if b then after_success before number command (succeeding before number command).reply else before) (success-is command))));
+  sound = sound;
+  agree = agree;
+}
 
--- ---- from the own rules to all
+-- ---- from the first stop to the answer
 
-pub early-none : (before : TableState) (number locality : ℕ) (command : Command) (after : TableState) (done : Responded) → early_stop before locality command ≡ None
-    → IsResponse before number command (own_answer before number command) (own_opened before command) after done
-    → IsResponse before number command (answer_unless (first_stop before locality command) (succeeding before number command))
-    (opened_unless (first_stop before locality command) (opening_of before command)) after done
-early-none before number locality command after done none response =
+-- where no rule stops a command it has the answer of its success
+pub none-stops : (before : TableState) (number locality : ℕ) (command : Command) (after : TableState) (done : Responded) → first_stop before locality command ≡ None
+    → IsResponse before number command (succeeding before number command) (opening_of before command) after done
+    → IsResponse before number command (answer_to_command before number locality command) (opened_by_command before locality command) after done
+none-stops before number locality command after done none response =
     subst (λ (stop : Option Stop). IsResponse before number command (answer_unless stop (succeeding before number command)) (opened_unless stop (opening_of before command)) after done)
-    (sym (ap (λ early. or_else early (option_map refuses (own_rule before command))) none)) response
+    (sym none) response
 
--- where all rules hold that are asked before a command is carried out
-pub record AreKept (tables : TableState) (locality : ℕ) (command : Command) : Type 0 where
-  pub early : early_stop tables locality command ≡ None
+-- what holds where all rules do
+pub record AreKept (tables : TableState) (command : Command) : Type 0 where
   pub session : session_stop tables command ≡ None
   pub room : room_stop tables command ≡ None
-  pub checked : checked_rule tables command ≡ None
+  pub own : own_rule tables command ≡ None
 
-pub checked-kept : (tables : TableState) (locality : ℕ) (command : Command) → checked_stop tables locality command ≡ None → AreKept tables locality command
-checked-kept tables locality command none =
+pub are-kept : (tables : TableState) (locality : ℕ) (command : Command) → first_stop tables locality command ≡ None → AreKept tables command
+are-kept tables locality command none =
     let both = or_else-none (early_stop tables locality command) _ none in
     let later = or_else-none (session_stop tables command) _ (or_else-none (handles_stop tables command) _ both.0).1 in
     record {
-      early = both.0;
       session = later.0;
       room = (or_else-none (authorization_stop tables locality command) (room_stop tables command) later.1).1;
-      checked = map-none refuses (checked_rule tables command) both.1;
+      own = map-none refuses (own_rule tables command) both.1;
     }
-
--- the first of them that is broken is the first of all
-pub checked-first : (tables : TableState) (locality : ℕ) (command : Command) (stop : Stop) → checked_stop tables locality command ≡ Some stop → first_stop tables locality command ≡ Some stop
-checked-first tables locality command stop is = at (early_stop tables locality command) is
-  where
-    own : (o : Option ℕ) → checked_rule tables command ≡ o → option_map refuses o ≡ Some stop → option_map refuses (own_rule tables command) ≡ Some stop
-    own None e h = absurd (none-some stop h)
-    own (Some code) e h = ap (option_map refuses) (checked-own tables command code e) ∙ h
-
-    at : (o : Option Stop) → or_else o (option_map refuses (checked_rule tables command)) ≡ Some stop → or_else o (option_map refuses (own_rule tables command)) ≡ Some stop
-    at None h = own (checked_rule tables command) refl h
-    at (Some broken) h = h
 
 -- ---- stops are no success
 
@@ -351,9 +313,6 @@ early-fails tables locality command =
     or_else-fails (handles_stop tables command) _ (handles-fail tables 1 (handles_of command))
     (or_else-fails (session_stop tables command) _ (session-fails tables command)
     (or_else-fails (authorization_stop tables locality command) (room_stop tables command) (authorization-fails tables locality command) (room-fails tables command)))
-
-pub checked-fails : (tables : TableState) (locality : ℕ) (command : Command) → Fails (checked_stop tables locality command)
-checked-fails tables locality command = or_else-fails (early_stop tables locality command) _ (early-fails tables locality command) (refuses-fails (checked_rule tables command))
 
 pub first-fails : (tables : TableState) (locality : ℕ) (command : Command) → Fails (first_stop tables locality command)
 first-fails tables locality command = or_else-fails (early_stop tables locality command) _ (early-fails tables locality command) (refuses-fails (own_rule tables command))

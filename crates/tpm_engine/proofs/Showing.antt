@@ -1,12 +1,11 @@
 -- A policy command's fact, and what becomes of the tables by it.
-use Rattle.std.proofs.Common.{◌≡◌, ℕ, ◌==◌, Bool, true, false, List, Option, None, Some, IfSome, Result, Ok, Err, OnOk, OnErr, is_some, cond, refl, ap, sym, ◌∙◌}
+use Rattle.std.proofs.Common.{◌≡◌, ℕ, ◌==◌, Bool, true, false, List, Option, None, Some, IfSome, is_some, cond, refl, ap, sym, ◌∙◌}
 use Rattle.std.specs.Prelude.{pos}
 use Rattle.std.specs.Option.{option_map, option_map_or}
 use Rattle.std.proofs.lemmas.Bool.{false≢true}
 use Rattle.std.proofs.lemmas.Option.{none-some, same_Some}
 use Rattle.tpol_base.specs.declared.digest.Digest32.{Digest32}
 use Rattle.tpol_base.specs.declared.name.Name.{Name}
-use Rattle.tpol_base.specs.declared.rc.Rc.{Rc}
 use Rattle.tpol_base.specs.Constants.{st_auth_secret}
 use Rattle.tpol_tree.specs.declared.closed.Assertion.TheVariants.{Secret, Signed}
 use Rattle.tpol_tree.specs.declared.facts.Fact.{Fact}
@@ -21,7 +20,6 @@ use Rattle.tpm_context.specs.Saved.{AreApart}
 use Rattle.tpm_policy.specs.Asserted.{asserted, with_one_more}
 use Rattle.tpm_policy.specs.Judgments.{is_auth_ticket}
 use Rattle.tpm_rules.specs.PolicyTicket.{policy_ticket_rule}
-use Rattle.tpm_rules.specs.Rule.{Obeys}
 use Rattle.tpm_session.specs.Kept.{SessionView, counter_after, with_fact}
 use Rattle.tpm_session.specs.Slots.{is_live, session_at, with_state}
 use Rattle.tpm_session.proofs.Slots.{found-state, put-back}
@@ -33,7 +31,7 @@ use Rattle.tpm_engine.specs.Facts.{Moment, Shown, moment, shown_by}
 use Rattle.tpm_engine.specs.PolicyCommands.{ticket_rule}
 use Rattle.tpm_engine.specs.Responses.{kept_counter}
 use Rattle.tpm_engine.specs.Tables.{TableState}
-use Rattle.tpm_engine.proofs.Slotted.{changed-live, content-same, tables_of}
+use Rattle.tpm_engine.proofs.Slotted.{changed-live, tables_of}
 
 -- ---- the session of a policy command
 
@@ -90,41 +88,29 @@ state-of-counter state fact a b same = ap (λ (counter : Option ℕ). keep count
     keep : Option ℕ → SessionState
     keep counter = record (with_fact state fact a) { counter = counter }
 
--- a session that is taken out and put back as it is
-pub put-same : (slots : List (Option SessionState)) (handle : ℕ) (session : SessionView) → Some session ≡ session_at slots handle
-    → with_state (with_state slots handle None) session.handle (Some session.state) ≡ slots
-put-same slots handle session found =
-    let is = found-state slots handle session found in
-    ap (λ h. with_state (with_state slots handle None) h (Some session.state)) is.0
-    ∙ (put-back slots handle session (λ state. state) found
-    ∙ (ap (λ content. with_state slots handle (option_map (λ state. state) content)) is.1
-    ∙ (ap (with_state slots handle) (sym is.1) ∙ content-same slots handle)))
-
 pub live-found : (slots : List (Option SessionState)) (handle : ℕ) (session : SessionView) → Some session ≡ session_at slots handle → is_live slots handle ≡ true
 live-found slots handle session found = ap is_some (found-state slots handle session found).1
 
-pub shown-tables : (tables : TableState) (number : ℕ) (command : Command) (reply : List ℕ) (own : ℕ × ℕ) (session after : SessionView) (rule : Option ℕ)
-    → AreApart tables.sessions tables.saved → policy_session_of command ≡ Some own → Some session ≡ session_at tables.sessions own.0 → rule ≡ None
-    → IfSome (shown_by command) (λ shown. after ≡ asserted rule session (shown.1 (moment tables.world number session.state.start session.state.facts)) (kept_counter tables.world command))
+pub shown-tables : (tables : TableState) (number : ℕ) (command : Command) (reply : List ℕ) (own : ℕ × ℕ) (session after : SessionView)
+    → AreApart tables.sessions tables.saved → policy_session_of command ≡ Some own → Some session ≡ session_at tables.sessions own.0
+    → IfSome (shown_by command) (λ shown. after ≡ with_one_more session (shown.1 (moment tables.world number session.state.start session.state.facts)) (kept_counter tables.world command))
     → tables_of tables.world (with_state (with_state tables.sessions own.0 None) after.handle (Some after.state)) tables.saved
     ≡ after_deed number (command_deed command reply) tables
-shown-tables tables number command reply own session after rule apart policy found none does =
+shown-tables tables number command reply own session after apart policy found does =
     at (shown_by command) refl (same-counter tables.world command session.state.counter now) does
   where
     now : Moment
     now = moment tables.world number session.state.start session.state.facts
 
     one : (shown : Shown) → shown_by command ≡ Some shown → counter_after session.state.counter (shown.1 now).act (kept_counter tables.world command) ≡ counter_after session.state.counter (shown.1 now).act tables.world.pcrs.counter
-        → after ≡ asserted rule session (shown.1 now) (kept_counter tables.world command)
+        → after ≡ with_one_more session (shown.1 now) (kept_counter tables.world command)
         → tables_of tables.world (with_state (with_state tables.sessions own.0 None) after.handle (Some after.state)) tables.saved
         ≡ after_deed number (option_map_or (λ s. Shows s.0 s.1) (shown_by command) (plain_deed command reply)) tables
     one shown is same after-is =
         let here : shown.0 ≡ own.0 = same_Some _ _ (sym (ap first is) ∙ (same-session command ∙ ap first policy)) in
-        let after-none : after ≡ with_one_more session (shown.1 now) (kept_counter tables.world command) =
-        after-is ∙ ap (λ (r : Option ℕ). asserted r session (shown.1 now) (kept_counter tables.world command)) none in
-        let handle : after.handle ≡ own.0 = ap (λ (s : SessionView). s.handle) after-none ∙ (found-state tables.sessions own.0 session found).0 in
+        let handle : after.handle ≡ own.0 = ap (λ (s : SessionView). s.handle) after-is ∙ (found-state tables.sessions own.0 session found).0 in
         let state : after.state ≡ with_shown tables.world number shown.1 session.state =
-        ap (λ (s : SessionView). s.state) after-none ∙ state-of-counter session.state (shown.1 now) (kept_counter tables.world command) tables.world.pcrs.counter same in
+        ap (λ (s : SessionView). s.state) after-is ∙ state-of-counter session.state (shown.1 now) (kept_counter tables.world command) tables.world.pcrs.counter same in
         ap (λ h. tables_of tables.world (with_state (with_state tables.sessions own.0 None) h (Some after.state)) tables.saved) handle
         ∙ (ap (λ s. tables_of tables.world (with_state (with_state tables.sessions own.0 None) own.0 (Some s)) tables.saved) state
         ∙ (ap (λ s. tables_of tables.world s tables.saved) (put-back tables.sessions own.0 session (with_shown tables.world number shown.1) found)
@@ -133,17 +119,13 @@ shown-tables tables number command reply own session after rule apart policy fou
         ∙ sym (ap (λ o. after_deed number (option_map_or (λ s. Shows s.0 s.1) o (plain_deed command reply)) tables) is)))))
 
     at : (o : Option Shown) → shown_by command ≡ o → IfSome o (λ shown. SameCounter tables.world (kept_counter tables.world command) session.state.counter (shown.1 now).act)
-        → IfSome o (λ shown. after ≡ asserted rule session (shown.1 now) (kept_counter tables.world command))
+        → IfSome o (λ shown. after ≡ with_one_more session (shown.1 now) (kept_counter tables.world command))
         → tables_of tables.world (with_state (with_state tables.sessions own.0 None) after.handle (Some after.state)) tables.saved
         ≡ after_deed number (command_deed command reply) tables
     at None e same after-is = absurd (none-some own.0 (sym (ap first e) ∙ (same-session command ∙ ap first policy)))
     at (Some shown) e same after-is = one shown e same after-is
 
 -- ---- the session after a policy command
-
-pub asserted-handle : (rule : Option ℕ) (session : SessionView) (fact : Fact) (counter : ℕ) → (asserted rule session fact counter).handle ≡ session.handle
-asserted-handle None session fact counter = refl
-asserted-handle (Some code) session fact counter = refl
 
 -- a policy command shows something, and another shows nothing
 pub shown-there : (command : Command) → is_policy_command command ≡ true → is_some (shown_by command) ≡ true
@@ -168,30 +150,17 @@ shown-none command policy = none-first (shown_by command) (same-session command 
     first-none None h = refl
     first-none (Some own) h = absurd (false≢true (sym h))
 
-pub handle-stays : (command : Command) (session after : SessionView) (rule : Option ℕ) (fact : Shown → Fact) (counter : ℕ) → is_policy_command command ≡ true
-    → IfSome (shown_by command) (λ shown. after ≡ asserted rule session (fact shown) counter) → after.handle ≡ session.handle
-handle-stays command session after rule fact counter policy does = at (shown_by command) (shown-there command policy) does
+pub handle-stays : (command : Command) (session after : SessionView) (fact : Shown → Fact) (counter : ℕ) → is_policy_command command ≡ true
+    → IfSome (shown_by command) (λ shown. after ≡ with_one_more session (fact shown) counter) → after.handle ≡ session.handle
+handle-stays command session after fact counter policy does = at (shown_by command) (shown-there command policy) does
   where
-    at : (o : Option Shown) → is_some o ≡ true → IfSome o (λ shown. after ≡ asserted rule session (fact shown) counter) → after.handle ≡ session.handle
+    at : (o : Option Shown) → is_some o ≡ true → IfSome o (λ shown. after ≡ with_one_more session (fact shown) counter) → after.handle ≡ session.handle
     at None there h = absurd (false≢true there)
-    at (Some shown) there h = ap (λ (s : SessionView). s.handle) h ∙ asserted-handle rule session (fact shown) counter
+    at (Some shown) there h = ap (λ (s : SessionView). s.handle) h
 
-pub session-stays : (command : Command) (session after : SessionView) (rule : Option ℕ) (code : ℕ) (fact : Shown → Fact) (counter : ℕ) → is_policy_command command ≡ true → rule ≡ Some code
-    → IfSome (shown_by command) (λ shown. after ≡ asserted rule session (fact shown) counter) → after ≡ session
-session-stays command session after rule code fact counter policy broken does = at (shown_by command) (shown-there command policy) does
-  where
-    at : (o : Option Shown) → is_some o ≡ true → IfSome o (λ shown. after ≡ asserted rule session (fact shown) counter) → after ≡ session
-    at None there h = absurd (false≢true there)
-    at (Some shown) there h = h ∙ ap (λ (r : Option ℕ). asserted r session (fact shown) counter) broken
-
--- by a call that obeys a rule
-pub on-obeyed : {T : Type 0} (result : Result T Rc) (rule : Option ℕ) (P : Type 0) → Obeys result rule → (rule ≡ None → P) → OnOk result P
-on-obeyed (Ok x) rule P obeys f = f obeys
-on-obeyed (Err rc) rule P obeys f = tt
-
-pub on-refused : {T : Type 0} (result : Result T Rc) (rule : Option ℕ) (P : Type 0) → Obeys result rule → ((code : ℕ) → rule ≡ Some code → P) → OnErr result P
-on-refused (Ok x) rule P obeys f = tt
-on-refused (Err rc) rule P obeys f = f rc.code obeys
+-- a fact that is added where its rule holds
+pub one-more : (rule : Option ℕ) (session after : SessionView) (fact : Fact) (counter : ℕ) → rule ≡ None → after ≡ asserted rule session fact counter → after ≡ with_one_more session fact counter
+one-more rule session after fact counter none is = is ∙ ap (λ (r : Option ℕ). asserted r session fact counter) none
 
 -- the rule of PolicyTicket over what the world tells
 pub ticket-rule : (world : WorldState) (session : SessionState) (time count : ℕ) (proof : Digest32) (bytes : List ℕ) (timeout : ℕ) (cp_hash : Option Digest32) (policy_ref : List ℕ) (key : Name) (ticket : Ticket)

@@ -1,49 +1,26 @@
 -- What becomes of the tables by a command, and the response to it.
-use Rattle.std.specs.Prelude.{◌≡◌, ℕ, List, [], Option, Some, None, IfSome, option_map, if◌then◌else◌}
+use Rattle.std.specs.Prelude.{◌≡◌, ℕ, List, [], Option, Some, None, IfSome, if◌then◌else◌}
 use Rattle.tpol_digest.specs.Sound.{IsSound}
 use Rattle.tpol_tree.specs.declared.facts.Fact.{Fact}
 use Rattle.tpol_wire.specs.declared.command.Command.{Command}
 use Rattle.tpol_wire.specs.declared.command.Command.TheVariants as commands
 use Rattle.tpm_bindings.specs.Agreement.{Agree}
 use Rattle.tpm_bindings.specs.Facts.{moves_of}
-use Rattle.tpm_rules.specs.Rule.{or_else}
-use Rattle.tpol_wire.specs.Handles.{area_of, is_policy_command}
-use Rattle.tpm_world.specs.Plain.{plain_rule}
+use Rattle.tpol_wire.specs.Handles.{area_of}
 use Rattle.tpm_world.specs.World.{WorldState}
 use Rattle.tpm_engine.specs.declared.opened.Opened.{Opened}
 use Rattle.tpm_engine.specs.declared.prepared.Prepared.{Prepared}
 use Rattle.tpm_engine.specs.declared.responded.Responded.{Responded}
-use Rattle.tpm_engine.specs.declared.stop.Stop.{Stop}
-use Rattle.tpm_engine.specs.Answers.{answer_unless, early_stop, opened_unless, opening_of, own_rule, succeeding, success_of}
+use Rattle.tpm_engine.specs.Answers.{succeeding, success_of}
 use Rattle.tpm_engine.specs.Closings.{closing_of}
 use Rattle.tpm_engine.specs.Deeds.{after_deed, after_use, area_use, command_deed}
 use Rattle.tpm_engine.specs.Events.{Answered, is_success}
-use Rattle.tpm_engine.specs.SessionCommands.{is_session_command}
-use Rattle.tpm_engine.specs.Stops.{refuses}
 use Rattle.tpm_engine.specs.Tables.{TableState}
 
 -- the PCR counter that a session keeps with a fact, where it is its first of PolicyPCR
 abbrev pub kept_counter : WorldState → Command → ℕ
 kept_counter world (commands.PolicyPcr session given mask) = world.pcrs.counter
 kept_counter world _ = 0
-
--- the own rules of a command that are asked before its reply is made: those of policy commands and of the
--- commands on sessions are asked as they are carried out
-abbrev pub checked_rule : TableState → Command → Option ℕ
-checked_rule tables command =
-    if is_policy_command command then None else (if is_session_command command then None else plain_rule tables.world command)
-
--- the first rule that is broken of all that are asked before a command is carried out
-abbrev pub checked_stop : TableState → ℕ → Command → Option Stop
-checked_stop tables locality command =
-    or_else (early_stop tables locality command) (option_map refuses (checked_rule tables command))
-
--- the answer to a command whose earlier rules hold, and what it opens
-abbrev pub own_answer : TableState → ℕ → Command → Answered
-own_answer tables number command = answer_unless (option_map refuses (own_rule tables command)) (succeeding tables number command)
-
-abbrev pub own_opened : TableState → Command → Option Opened
-own_opened tables command = opened_unless (option_map refuses (own_rule tables command)) (opening_of tables command)
 
 -- the tables after a command that succeeded with this reply, and after one that had this answer
 abbrev pub after_success : TableState → ℕ → Command → List ℕ → TableState

@@ -167,30 +167,38 @@ impl Tables {
         if area.session == TPM_RS_PW {
             return Ok(Some(password_area(alloc)));
         }
-        match self.world.entity(authorized_handle(command)) {
-            Some(entity) => match self.sessions.find(area.session) {
-                Some(session) => {
-                    self.session_area(alloc, number, command, reply, area, &entity, session)
-                }
-                None => Ok(None),
-            },
-            None => Ok(None),
-        }
+        let Some(entity) = self.world.entity(authorized_handle(command)) else {
+            return Ok(None);
+        };
+        let Some(session) = self.sessions.find(area.session) else {
+            return Ok(None);
+        };
+        let exchange = Exchange {
+            number,
+            command,
+            area,
+            reply,
+        };
+        self.session_area(alloc, &exchange, &entity, session)
     }
 
     // The same in answer to a policy session: the new nonceTPM, and the command's attributes.
     fn session_area(
         &self,
         alloc: Global,
-        number: u32,
-        command: &Command,
-        reply: &Reply,
-        area: &AuthArea,
+        exchange: &Exchange<'_>,
         entity: &Entity<'_>,
         session: &Session,
     ) -> Result<Option<ReplyAuth>, NoMemory>
-        ensures { IfOk result (λ auth. auth ≡ Some (spec.session_area self.now number command.now reply.now area.now (entity_of entity.now) session.now.state)) }
+        ensures { IfOk result (λ auth. auth ≡ Some (spec.session_area self.now exchange.now.number exchange.now.command.now
+            exchange.now.reply.now exchange.now.area.now (entity_of entity.now) session.now.state)) }
     {
+        let Exchange {
+            number,
+            command,
+            area,
+            reply,
+        } = *exchange;
         let nonce = self.world.nonce(number);
         let last = session.bindings().last_auth();
         let value = entity.auth_value();
@@ -201,6 +209,15 @@ impl Tables {
             hmac,
         }))
     }
+}
+
+// A command of an event, its authorization area, and its reply.
+#[derive(Clone, Copy)]
+struct Exchange<'a> {
+    number: u32,
+    command: &'a Command,
+    area: &'a AuthArea,
+    reply: &'a Reply,
 }
 
 // That a password authorizes a command of this code on the entity.

@@ -17,7 +17,6 @@ mod machine;
 mod opened;
 mod policy_commands;
 mod prepared;
-mod refusal;
 mod respond;
 mod responded;
 mod session_commands;

@@ -1,6 +1,6 @@
 //! The response to a command buffer, over the tables of a machine.
 
-ghost use Rattle.std.specs.Prelude.{◌≡◌, ℕ, None, IfErr, IfOk, IfSome, OnErr, OnOk};
+ghost use Rattle.std.specs.Prelude.{◌≡◌, ℕ, None, IfOk, IfSome, OnErr, OnOk};
 ghost use Rattle.tpol_digest.specs.Sound.{IsSound};
 ghost use Rattle.tpol_wire.specs.Commands.{FitsCommand};
 ghost use Rattle.tpol_wire.specs.Replies.{spell_reply};
@@ -10,13 +10,12 @@ ghost use Rattle.tpm_engine.specs.Answers as spec;
 ghost use Rattle.tpm_engine.specs.Authorization.{reply_auth};
 ghost use Rattle.tpm_engine.specs.Deeds.{after_event};
 ghost use Rattle.tpm_engine.specs.Events.{event_of};
-ghost use Rattle.tpm_engine.specs.Responses.{IsPrepared, IsResponse, checked_rule, checked_stop, first_facts, own_answer, own_opened};
+ghost use Rattle.tpm_engine.specs.Responses.{IsPrepared, IsResponse, first_facts};
 ghost use Rattle.tpm_engine.specs.Stops.{room_stop, session_stop};
 
 use crate::closing::closing_of;
 use crate::early::refuses;
 use crate::prepared::Prepared;
-use crate::refusal::Refusal;
 use crate::{Responded, Stop, Tables};
 use std::alloc::Global;
 use tpm_rules::Outcome;
@@ -75,51 +74,32 @@ impl Tables {
             (spec.answer_to_command self.old number locality command) (spec.opened_by_command self.old locality command) self.new done) }
         ensures err { OnErr result (self.new ≡ self.old) }
     {
-        match self.ready(alloc, number, locality, &command) {
-            Ok(prepared) => Ok(self.finish(alloc, number, command, prepared)),
-            Err(answer) => {
+        match self.first_stop(alloc, locality, &command) {
+            Ok(None) => self.succeed(alloc, number, command),
+            Ok(Some(stop)) => {
                 drop(command);
-                answer
+                stopped(alloc, stop)
+            }
+            Err(NoMemory) => {
+                drop(command);
+                Err(NoMemory)
             }
         }
     }
 
-    // What is prepared for a command that may succeed, or else the answer to it.
-    fn ready(
-        &self,
-        alloc: Global,
-        number: u32,
-        locality: u8,
-        command: &Command,
-    ) -> Result<Prepared, Result<Responded, NoMemory>>
-        ensures checked { IfOk result (λ prepared. checked_stop self.now locality command.now ≡ None) }
-        ensures prepared { IfOk result (λ prepared. IsPrepared self.now number command.now prepared) }
-        ensures answer { IfErr result (λ answer. IfOk answer (λ done. IsResponse self.now number command.now
-            (spec.answer_to_command self.now number locality command.now) (spec.opened_by_command self.now locality command.now) self.now done)) }
-    {
-        match self.checked_stop(alloc, locality, command) {
-            Ok(None) => match self.prepare(alloc, number, command) {
-                Ok(prepared) => Ok(prepared),
-                Err(NoMemory) => Err(Err(NoMemory)),
-            },
-            Ok(Some(stop)) => Err(stopped(alloc, stop)),
-            Err(NoMemory) => Err(Err(NoMemory)),
-        }
-    }
-
-    // The first broken rule of those that are asked before a command is carried out.
-    fn checked_stop(
+    // The first rule of all that a command breaks.
+    fn first_stop(
         &self,
         alloc: Global,
         locality: u8,
         command: &Command,
     ) -> Result<Option<Stop>, NoMemory>
-        ensures { IfOk result (λ stop. stop ≡ checked_stop self.now locality command.now) }
+        ensures { IfOk result (λ stop. stop ≡ spec.first_stop self.now locality command.now) }
     {
         if let Some(stop) = self.early_stop(alloc, locality, command)? {
             return Ok(Some(stop));
         }
-        match self.checked_rule(command) {
+        match self.own_rule(command) {
             Ok(()) => Ok(None),
             Err(rc) => Ok(Some(refuses(rc.code))),
         }
@@ -146,9 +126,33 @@ impl Tables {
         Ok(self.room_stop(command))
     }
 
+    // The response to a command whose rules hold: what takes memory is prepared, then it is carried out.
+    fn succeed(
+        &mut self,
+        alloc: Global,
+        number: u32,
+        command: Command,
+    ) -> Result<Responded, NoMemory>
+        requires fits { FitsCommand command }
+        requires session { session_stop self.old command ≡ None }
+        requires room { room_stop self.old command ≡ None }
+        requires rule { spec.own_rule self.old command ≡ None }
+        ensures response { IfOk result (λ done. IsResponse self.old number command
+            (spec.succeeding self.old number command) (spec.opening_of self.old command) self.new done) }
+        ensures err { OnErr result (self.new ≡ self.old) }
+    {
+        match self.prepare(alloc, number, &command) {
+            Ok(prepared) => Ok(self.finish(alloc, number, command, prepared)),
+            Err(NoMemory) => {
+                drop(command);
+                Err(NoMemory)
+            }
+        }
+    }
+
     // All that takes memory in the response to a command.
     fn prepare(&self, alloc: Global, number: u32, command: &Command) -> Result<Prepared, NoMemory>
-        requires checked { checked_rule self.now command.now ≡ None }
+        requires rule { spec.own_rule self.now command.now ≡ None }
         ensures { IfOk result (λ prepared. IsPrepared self.now number command.now prepared) }
     {
         let reply = self.reply_bytes(alloc, number, command)?;
@@ -156,8 +160,6 @@ impl Tables {
         Ok(Prepared {
             reply,
             kept,
-            refusal: Refusal::new(alloc)?,
-            kept_refusal: Refusal::new(alloc)?,
             outcome: success_of(command),
             closing: closing_of(alloc, command)?,
             facts: first_facts(alloc, command)?,
@@ -175,42 +177,31 @@ impl Tables {
         requires fits { FitsCommand command }
         requires session { session_stop self.old command ≡ None }
         requires room { room_stop self.old command ≡ None }
-        requires checked { checked_rule self.old command ≡ None }
+        requires rule { spec.own_rule self.old command ≡ None }
         requires prepared { IsPrepared self.old number command prepared }
         ensures response { IsResponse self.old number command
-            (own_answer self.old number command) (own_opened self.old command) self.new result }
+            (spec.succeeding self.old number command) (spec.opening_of self.old command) self.new result }
     {
         let Prepared {
             reply,
             kept,
-            refusal,
-            kept_refusal,
             outcome,
             closing,
             facts,
         } = prepared;
-        match self.carry_out(alloc, number, command, facts) {
-            Ok(()) => {
-                let opened = self.close(number, closing);
-                Responded {
-                    reply,
-                    kept,
-                    outcome,
-                    opened,
-                }
-            }
-            Err(rc) => Responded {
-                reply: refusal.of_code(rc),
-                kept: kept_refusal.of_code(rc),
-                outcome: Outcome::Refused(rc),
-                opened: None,
-            },
+        self.carry_out(alloc, number, command, facts);
+        let opened = self.close(number, closing);
+        Responded {
+            reply,
+            kept,
+            outcome,
+            opened,
         }
     }
 
     // The bytes of the reply to a command that succeeds.
     fn reply_bytes(&self, alloc: Global, number: u32, command: &Command) -> Result<Blob, NoMemory>
-        requires checked { checked_rule self.now command.now ≡ None }
+        requires rule { spec.own_rule self.now command.now ≡ None }
         ensures { IfOk result (λ bytes. bytes ≡ (spec.succeeding self.now number command.now).reply) }
     {
         let reply = self.reply_to(alloc, number, command)?;

@@ -1,6 +1,6 @@
 //! The commands on sessions themselves, a file a command with what it asks, what it answers, and what it does.
 
-ghost use Rattle.std.specs.Prelude.{◌≡◌, None, true, OnErr, OnOk};
+ghost use Rattle.std.specs.Prelude.{◌≡◌, None, true};
 ghost use Rattle.tpol_wire.specs.Replies.{spell_reply};
 ghost use Rattle.tpm_rules.specs.Rule.{Obeys};
 ghost use Rattle.tpm_engine.specs.Deeds.{after_deed, plain_deed};
@@ -34,50 +34,60 @@ pub fn is_session_command(command: &Command) -> bool
     }
 }
 
-impl Tables {
-    // The reply to one of these commands.
-    pub(crate) fn session_reply(&self, number: u32, command: &Command) -> Reply
-        ensures reply { result ≡ spec.session_reply self.now number command.now }
-    {
-        match command {
-            Command::StartAuthSession { .. } => self.start_auth_session_reply(number),
-            Command::ContextSave { session } => self.context_save_reply(number, *session),
-            Command::ContextLoad { session, .. } => Reply::ContextLoad { session: *session },
-            Command::PolicyRestart { .. } => Reply::PolicyRestart,
-            Command::PolicyGetDigest { session } => self.policy_get_digest_reply(*session),
-            _ => Reply::FlushContext,
-        }
+// The first rule that one of these commands breaks.
+pub fn rule(tables: &Tables, command: &Command) -> Result<(), Rc>
+    ensures rule { Obeys result (spec.session_rule tables.now command.now) }
+{
+    match command {
+        Command::StartAuthSession { .. } => start_auth_session::rule(tables),
+        Command::FlushContext { session } => flush_context::rule(tables, *session),
+        Command::ContextSave { session } => context_save::rule(tables, *session),
+        Command::ContextLoad {
+            sequence,
+            session,
+            digest,
+        } => context_load::rule(tables, *sequence, *session, digest),
+        Command::PolicyRestart { session } => policy_restart::rule(tables, *session),
+        Command::PolicyGetDigest { session } => policy_get_digest::rule(tables, *session),
+        _ => Ok(()),
     }
+}
 
-    // Carries out one of them, or answers the code of the first of its rules that is broken, and then changes
-    // nothing.
-    pub(crate) fn carry_out_session(
-        &mut self,
-        number: u32,
-        command: &Command,
-        facts: Option<Facts>,
-    ) -> Result<(), Rc>
-        requires session { spec.is_session_command command.now ≡ true }
-        requires empty { facts ≡ first_facts command.now }
-        ensures rule { Obeys result (spec.session_rule self.old command.now) }
-        ensures tables { OnOk result (self.new ≡ after_deed number (plain_deed command.now (spell_reply (spec.session_reply self.old number command.now) None)) self.old) }
-        ensures err { OnErr result (self.new ≡ self.old) }
-    {
-        match command {
-            Command::StartAuthSession { .. } => match facts {
-                Some(facts) => self.start_auth_session(number, facts),
-                None => unreachable!(),
-            },
-            Command::FlushContext { session } => self.flush_context(*session),
-            Command::ContextSave { session } => self.context_save(number, *session),
-            Command::ContextLoad {
-                sequence,
-                session,
-                digest,
-            } => self.context_load(*sequence, *session, digest),
-            Command::PolicyRestart { session } => self.policy_restart(*session),
-            Command::PolicyGetDigest { session } => self.policy_get_digest_rule(*session),
-            _ => Ok(()),
-        }
+// The reply to one of these commands.
+pub fn reply(tables: &Tables, number: u32, command: &Command) -> Reply
+    ensures reply { result ≡ spec.session_reply tables.now number command.now }
+{
+    match command {
+        Command::StartAuthSession { .. } => start_auth_session::reply(tables, number),
+        Command::ContextSave { session } => context_save::reply(tables, number, *session),
+        Command::ContextLoad { session, .. } => Reply::ContextLoad { session: *session },
+        Command::PolicyRestart { .. } => Reply::PolicyRestart,
+        Command::PolicyGetDigest { session } => policy_get_digest::reply(tables, *session),
+        _ => Reply::FlushContext,
+    }
+}
+
+// Carries out one of them whose rules hold; `facts` are the empty ones of the session that it starts, if it
+// starts one. It takes no memory.
+pub fn carry_out(tables: &mut Tables, number: u32, command: &Command, facts: Option<Facts>)
+    requires session { spec.is_session_command command.now ≡ true }
+    requires rule { spec.session_rule tables.old command.now ≡ None }
+    requires empty { facts ≡ first_facts command.now }
+    ensures tables { tables.new ≡ after_deed number (plain_deed command.now (spell_reply (spec.session_reply tables.old number command.now) None)) tables.old }
+{
+    match command {
+        Command::StartAuthSession { .. } => match facts {
+            Some(facts) => start_auth_session::carry_out(tables, number, facts),
+            None => unreachable!(),
+        },
+        Command::FlushContext { session } => flush_context::carry_out(tables, *session),
+        Command::ContextSave { session } => context_save::carry_out(tables, number, *session),
+        Command::ContextLoad {
+            sequence,
+            session,
+            ..
+        } => context_load::carry_out(tables, *sequence, *session),
+        Command::PolicyRestart { session } => policy_restart::carry_out(tables, *session),
+        _ => {}
     }
 }

@@ -9,7 +9,8 @@ use tpol_base::constants::{TPM_ST_AUTH_SECRET, TPM_ST_AUTH_SIGNED};
 use tpol_base::handle::TPM_RH_OWNER;
 use tpol_base::{Digest32, Name};
 
-// Whether a signature is the key's, over the nonce, the expiration, cpHashA and policyRef.
+/// Whether a signature for PolicySigned is the key's, over the nonce, the expiration in seconds, cpHashA and
+/// policyRef.
 pub fn is_signature(
     secret: &[u8],
     nonce: &[u8],
@@ -29,7 +30,8 @@ pub fn is_signature(
     *signature == sign(secret, &hash)
 }
 
-// Whether a ticket is this machine's for the approval and the key.
+/// Whether the digest of a ticket for PolicyAuthorize is the one that a machine with this proof made for the
+/// approval and the key.
 pub fn is_approval_ticket(
     proof: &Digest32,
     approved: &Digest32,
@@ -42,23 +44,34 @@ pub fn is_approval_ticket(
     check_ticket(proof, &approval_hash(approved, policy_ref), key, ticket)
 }
 
-// Whether a ticket is this machine's for these values.
-pub fn is_auth_ticket(
-    proof: &Digest32,
-    reset_count: u32,
-    deadline: u64,
-    cp_hash: Option<Digest32>,
-    policy_ref: &[u8],
-    key: &Name,
-    tag: u16,
-    hierarchy: u32,
-    ticket: &[u8],
-) -> bool
-    ensures { result ≡ spec.is_auth_ticket proof.now reset_count deadline cp_hash policy_ref.now key.now tag hierarchy ticket.now }
+/// A ticket that PolicyTicket takes, and what it stands for: the deadline in milliseconds, the cpHashA, the
+/// policyRef and the entity's Name; its tag, its hierarchy and its digest.
+#[derive(Clone, Copy)]
+pub struct AuthTicket<'a> {
+    pub deadline: u64,
+    pub cp_hash: Option<Digest32>,
+    pub policy_ref: &'a [u8],
+    pub key: Name,
+    pub tag: u16,
+    pub hierarchy: u32,
+    pub digest: &'a [u8],
+}
+
+/// Whether a ticket is the one that a machine with this proof made for its values, since its last TPM Reset.
+pub fn is_auth_ticket(proof: &Digest32, reset_count: u32, ticket: &AuthTicket<'_>) -> bool
+    ensures { result ≡ spec.is_auth_ticket proof.now reset_count ticket.now.deadline ticket.now.cp_hash ticket.now.policy_ref.now
+        ticket.now.key ticket.now.tag ticket.now.hierarchy ticket.now.digest.now }
 {
-    let limit = Digest32::optional_bytes(&cp_hash);
-    let expected = auth_ticket(proof, tag, deadline, reset_count, limit, policy_ref, key);
-    (tag == TPM_ST_AUTH_SECRET || tag == TPM_ST_AUTH_SIGNED)
-        && hierarchy == TPM_RH_OWNER
-        && ticket == expected.bytes.as_slice()
+    let expected = auth_ticket(
+        proof,
+        ticket.tag,
+        ticket.deadline,
+        reset_count,
+        Digest32::optional_bytes(&ticket.cp_hash),
+        ticket.policy_ref,
+        &ticket.key,
+    );
+    (ticket.tag == TPM_ST_AUTH_SECRET || ticket.tag == TPM_ST_AUTH_SIGNED)
+        && ticket.hierarchy == TPM_RH_OWNER
+        && ticket.digest == expected.bytes.as_slice()
 }

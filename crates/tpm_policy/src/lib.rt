@@ -25,6 +25,7 @@ mod policy_signed;
 mod policy_ticket;
 mod session;
 
+pub use judgments::{AuthTicket, is_approval_ticket, is_auth_ticket, is_signature};
 pub use policy_auth_value::{assert_auth_value, assert_password, assert_presence};
 pub use policy_authorize::assert_authorize;
 pub use policy_authorize_nv::assert_authorize_nv;

@@ -6,7 +6,7 @@ ghost use Rattle.tpm_policy.specs.Judgments.{is_auth_ticket};
 ghost use Rattle.tpm_rules.specs.PolicyTicket.{assertion_of_ticket, policy_ticket_fact, policy_ticket_rule};
 ghost use Rattle.tpm_rules.specs.Rule.{Obeys};
 
-use crate::judgments::is_auth_ticket;
+use crate::judgments::{AuthTicket, is_auth_ticket};
 use crate::session::add_unbound;
 use tpm_rules::policy_ticket_rule;
 use tpm_session::Session;
@@ -39,17 +39,16 @@ pub fn assert_ticket(
         (is_auth_ticket proof.now reset_count deadline cp_hash policy_ref key tag hierarchy ticket.now)) session.old
         (policy_ticket_fact event tag deadline key policy_ref cp_hash) 0 }
 {
-    let right = is_auth_ticket(
-        proof,
-        reset_count,
+    let shown = AuthTicket {
         deadline,
         cp_hash,
-        policy_ref.as_slice(),
-        &key,
+        policy_ref: policy_ref.as_slice(),
+        key,
         tag,
         hierarchy,
-        ticket,
-    );
+        digest: ticket,
+    };
+    let right = is_auth_ticket(proof, reset_count, &shown);
     policy_ticket_rule(&session.standing(), time, deadline, cp_hash, right)?;
     let fact = Fact {
         event,

@@ -10,25 +10,23 @@ use tpol_base::response_code::REFERENCE_H0;
 use tpol_base::{Digest32, Rc};
 use tpol_wire::Reply;
 
-impl Tables {
-    // The session's policyDigest.
-    pub(super) fn policy_get_digest_reply(&self, session: u32) -> Reply
-        ensures { result ≡ spec.digest_reply self.now session }
-    {
-        match self.sessions.find(session) {
-            Some(session) => Reply::PolicyGetDigest {
-                digest: session.digest(),
-            },
-            None => Reply::PolicyGetDigest {
-                digest: Digest32::ZERO,
-            },
-        }
-    }
+// That the session is live (TPM_RC_REFERENCE_H0).
+pub fn rule(tables: &Tables, session: u32) -> Result<(), Rc>
+    ensures rule { Obeys result (spec.live_rule tables.now session) }
+{
+    unless(tables.sessions.find(session).is_some(), REFERENCE_H0)
+}
 
-    // That the session is live.
-    pub(super) fn policy_get_digest_rule(&self, session: u32) -> Result<(), Rc>
-        ensures { Obeys result (spec.live_rule self.now session) }
-    {
-        unless(self.sessions.find(session).is_some(), REFERENCE_H0)
+// The session's policyDigest.
+pub fn reply(tables: &Tables, session: u32) -> Reply
+    ensures reply { result ≡ spec.digest_reply tables.now session }
+{
+    match tables.sessions.find(session) {
+        Some(session) => Reply::PolicyGetDigest {
+            digest: session.digest(),
+        },
+        None => Reply::PolicyGetDigest {
+            digest: Digest32::ZERO,
+        },
     }
 }

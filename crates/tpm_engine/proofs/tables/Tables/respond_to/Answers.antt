@@ -1,20 +1,28 @@
-use Rattle.tpm_engine.proofs.Serving.{checked-kept, early-none}
+use Rattle.std.proofs.Common.{sym, ◌∙◌}
+use Rattle.tpm_engine.proofs.Answering.{first-response, none-response}
+use Rattle.tpm_engine.proofs.Serving.{are-kept}
 use Rattle.tpm_engine.proofs.tables.Tables.respond_to.Goals as goal
 
 -- src/respond.rt
-pub finish-requires-clause-session : goal.finish-requires-clause-session
-finish-requires-clause-session c = (checked-kept c.args.self.now c.args.locality c.args.command c.in-Ok.ensures.checked).session
+pub succeed-requires-clause-session : goal.succeed-requires-clause-session
+succeed-requires-clause-session c = (are-kept c.args.self.now c.args.locality c.args.command (sym c.in-Ok-None.ensures ∙ c.in-Ok-None.field-0-is)).session
 
 -- src/respond.rt
-pub finish-requires-clause-room : goal.finish-requires-clause-room
-finish-requires-clause-room c = (checked-kept c.args.self.now c.args.locality c.args.command c.in-Ok.ensures.checked).room
+pub succeed-requires-clause-room : goal.succeed-requires-clause-room
+succeed-requires-clause-room c = (are-kept c.args.self.now c.args.locality c.args.command (sym c.in-Ok-None.ensures ∙ c.in-Ok-None.field-0-is)).room
 
 -- src/respond.rt
-pub finish-requires-clause-checked : goal.finish-requires-clause-checked
-finish-requires-clause-checked c = (checked-kept c.args.self.now c.args.locality c.args.command c.in-Ok.ensures.checked).checked
+pub succeed-requires-clause-rule : goal.succeed-requires-clause-rule
+succeed-requires-clause-rule c = (are-kept c.args.self.now c.args.locality c.args.command (sym c.in-Ok-None.ensures ∙ c.in-Ok-None.field-0-is)).own
 
 -- src/respond.rt
-pub returns-in-Ok-clause-response : goal.returns-in-Ok-clause-response
-returns-in-Ok-clause-response c =
-    early-none c.args.self.now c.args.number c.args.locality c.args.command c.finish.new.self c.finish.result
-    (checked-kept c.args.self.now c.args.locality c.args.command c.in-Ok.ensures.checked).early c.finish.ensures.response
+pub returns-in-Ok-None-clause-response : goal.returns-in-Ok-None-clause-response
+returns-in-Ok-None-clause-response c =
+    none-response c.args.self.now c.args.number c.args.locality c.args.command c.succeed.new.self c.succeed.result
+    (sym c.in-Ok-None.ensures ∙ c.in-Ok-None.field-0-is) c.succeed.ensures.response
+
+-- src/respond.rt
+pub returns-in-Ok-Some-clause-response : goal.returns-in-Ok-Some-clause-response
+returns-in-Ok-Some-clause-response c =
+    first-response c.args.self.now c.args.number c.args.locality c.args.command c.stopped.result c.in-Ok-Some.stop (sym c.in-Ok-Some.ensures ∙ c.in-Ok-Some.field-0-is)
+    (record { reply = c.stopped.ensures.reply; kept = c.stopped.ensures.kept; outcome = c.stopped.ensures.outcome; opened = c.stopped.ensures.opened })
