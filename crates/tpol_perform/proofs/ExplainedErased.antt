@@ -80,7 +80,7 @@ alive closed approvals counts bounds facts agree = by (opening_of closed approva
 
 -- ---- a scenario whose policies can be walked
 
-openable : (setup : Setup) (scenario : Scenario) → IsScenarioOf setup scenario → All (λ entity. HasClosedBounds entity.document.closed) scenario.entities
+pub openable : (setup : Setup) (scenario : Scenario) → IsScenarioOf setup scenario → All (λ entity. HasClosedBounds entity.document.closed) scenario.entities
     → All (λ document. HasClosedBounds document.closed) scenario.approvals → AreOpenable scenario
 openable setup scenario is entities approvals handle = by (policy_of_entity scenario.entities handle) refl
   where
