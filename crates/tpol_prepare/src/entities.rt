@@ -11,7 +11,8 @@ use std::alloc::Global;
 use tpol_base::{Blob, Digest32, NoMemory, Sequence};
 use tpol_digest::digest_of;
 use tpol_name::{
-    IndexEntry, Indices, NamedIndices, NamedObjects, ObjectEntry, Objects, Setup, Sight, opening_sight,
+    IndexEntry, Indices, NamedIndices, NamedObjects, ObjectEntry, Objects, Setup, Sight,
+    opening_sight,
 };
 use tpol_scene::EntityPolicy;
 use tpol_steps::{FilledDocument, Halt, fill_document};
