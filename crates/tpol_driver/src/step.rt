@@ -10,7 +10,7 @@ ghost use Rattle.tpol_driver.specs.Underway.{IsVerifiedOnce};
 ghost use Rattle.tpol_wire.specs.ReplyReading.{reply_reading};
 
 use crate::answer::{Answer, read_answer};
-use crate::commands::{moves, policy_ticket};
+use crate::commands::{Means, moves, policy_ticket};
 use crate::end::{End, Stage};
 use crate::path_plan::PathPlan;
 use crate::session::Session;
@@ -43,14 +43,14 @@ pub(crate) fn command(
 {
     match ticket_for(plan.tickets, act) {
         Some(held) => policy_ticket::command(alloc, session, held),
-        None => moves::command(
-            alloc,
-            plan.directory.as_slice(),
-            plan.grants,
-            session,
-            ticket,
-            act,
-        ),
+        None => {
+            let means = Means {
+                directory: plan.directory.as_slice(),
+                grants: plan.grants,
+                session,
+            };
+            moves::command(alloc, &means, ticket, act)
+        }
     }
 }
 

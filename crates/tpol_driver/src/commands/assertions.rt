@@ -4,24 +4,19 @@ ghost use Rattle.std.specs.Prelude.{◌≡◌, IfOk};
 ghost use Rattle.tpol_driver.specs.Commands.{command_of_assertion};
 ghost use Rattle.tpol_driver.specs.Codes.{code_of_assertion};
 
-use crate::commands::{policy_nv, policy_secret, policy_signed};
-use crate::session::Session;
+use crate::commands::{Means, policy_nv, policy_secret, policy_signed};
 use std::alloc::Global;
 use tpol_base::{CommandCode, NoMemory};
-use tpol_goal::Grants;
-use tpol_name::DirEntry;
 use tpol_tree::Assertion;
 use tpol_wire::Command;
 
 /// The command of an assertion.
 pub(crate) fn command(
     alloc: Global,
-    directory: &[DirEntry],
-    grants: &Grants,
-    session: &Session,
+    means: &Means<'_>,
     assertion: &Assertion,
 ) -> Result<Command, NoMemory>
-    ensures { IfOk result (λ command. command ≡ command_of_assertion directory.now grants.now session.now assertion.now) }
+    ensures { IfOk result (λ command. command ≡ command_of_assertion means.now.directory.now means.now.grants.now means.now.session.now assertion.now) }
 {
     match assertion {
         Assertion::Nv {
@@ -29,45 +24,25 @@ pub(crate) fn command(
             operand,
             offset,
             operation,
-        } => policy_nv::command(
-            alloc, directory, grants, session, index, operand, *offset, *operation,
-        ),
+        } => policy_nv::command(alloc, means, index, operand, *offset, *operation),
         Assertion::Secret {
             entity,
             policy_ref,
             cp_hash,
             expiration,
-        } => policy_secret::command(
-            alloc,
-            directory,
-            grants,
-            session,
-            entity,
-            policy_ref,
-            *cp_hash,
-            *expiration,
-        ),
+        } => policy_secret::command(alloc, means, entity, policy_ref, *cp_hash, *expiration),
         Assertion::Signed {
             key,
             policy_ref,
             cp_hash,
             expiration,
-        } => policy_signed::command(
-            alloc,
-            directory,
-            grants,
-            session,
-            key,
-            policy_ref,
-            *cp_hash,
-            *expiration,
-        ),
+        } => policy_signed::command(alloc, means, key, policy_ref, *cp_hash, *expiration),
         Assertion::CounterTimer {
             operand,
             offset,
             operation,
         } => Ok(Command::PolicyCounterTimer {
-            session: session.handle,
+            session: means.session.handle,
             operand: operand.clone()?,
             offset: *offset,
             operation: *operation,
@@ -77,45 +52,45 @@ pub(crate) fn command(
             pcr_digest,
             ..
         } => Ok(Command::PolicyPcr {
-            session: session.handle,
+            session: means.session.handle,
             given: Some(*pcr_digest),
             mask: *mask,
         }),
         Assertion::CommandCode(code) => Ok(Command::PolicyCommandCode {
-            session: session.handle,
+            session: means.session.handle,
             code: *code,
         }),
         Assertion::Locality(locality) => Ok(Command::PolicyLocality {
-            session: session.handle,
+            session: means.session.handle,
             locality: *locality,
         }),
         Assertion::CpHash(digest) => Ok(Command::PolicyCpHash {
-            session: session.handle,
+            session: means.session.handle,
             digest: *digest,
         }),
         Assertion::NameHash(digest) => Ok(Command::PolicyNameHash {
-            session: session.handle,
+            session: means.session.handle,
             digest: *digest,
         }),
         Assertion::NvWritten(written) => Ok(Command::PolicyNvWritten {
-            session: session.handle,
+            session: means.session.handle,
             written: *written,
         }),
         Assertion::AuthValue => Ok(Command::PolicyAuthValue {
-            session: session.handle,
+            session: means.session.handle,
         }),
         Assertion::Password => Ok(Command::PolicyPassword {
-            session: session.handle,
+            session: means.session.handle,
         }),
         Assertion::PhysicalPresence => Ok(Command::PolicyPhysicalPresence {
-            session: session.handle,
+            session: means.session.handle,
         }),
         Assertion::Duplication {
             object,
             parent,
             include,
         } => Ok(Command::PolicyDuplicationSelect {
-            session: session.handle,
+            session: means.session.handle,
             object: *object,
             parent: *parent,
             include: *include,

@@ -4,12 +4,9 @@ ghost use Rattle.std.specs.Prelude.{◌≡◌, IfOk};
 ghost use Rattle.tpol_driver.specs.Codes.{code_of_move};
 ghost use Rattle.tpol_driver.specs.Commands.{command_of_move};
 
-use crate::commands::{assertions, policy_authorize, policy_authorize_nv};
-use crate::session::Session;
+use crate::commands::{Means, assertions, policy_authorize, policy_authorize_nv};
 use std::alloc::Global;
 use tpol_base::{CommandCode, NoMemory};
-use tpol_goal::Grants;
-use tpol_name::DirEntry;
 use tpol_tree::Move;
 use tpol_wire::{Command, Ticket};
 
@@ -17,20 +14,16 @@ use tpol_wire::{Command, Ticket};
 /// ticket of that PolicyAuthorize.
 pub(crate) fn command(
     alloc: Global,
-    directory: &[DirEntry],
-    grants: &Grants,
-    session: &Session,
+    means: &Means<'_>,
     ticket: &Option<Ticket>,
     act: &Move,
 ) -> Result<Command, NoMemory>
-    ensures { IfOk result (λ command. command ≡ command_of_move directory.now grants.now session.now ticket.now act.now) }
+    ensures { IfOk result (λ command. command ≡ command_of_move means.now.directory.now means.now.grants.now means.now.session.now ticket.now act.now) }
 {
     match act {
-        Move::Assert(assertion) => assertions::command(
-            alloc, directory, grants, session, assertion,
-        ),
+        Move::Assert(assertion) => assertions::command(alloc, means, assertion),
         Move::Or(digests) => Ok(Command::PolicyOr {
-            session: session.handle,
+            session: means.session.handle,
             digests: digests.clone()?,
         }),
         Move::Approve {
@@ -38,12 +31,8 @@ pub(crate) fn command(
             policy_ref,
             approved,
             signature,
-        } => policy_authorize::command(
-            directory, session, ticket, key, policy_ref, approved, signature,
-        ),
-        Move::ApproveNv { index, .. } => policy_authorize_nv::command(
-            alloc, directory, grants, session, index,
-        ),
+        } => policy_authorize::command(means, ticket, key, policy_ref, approved, signature),
+        Move::ApproveNv { index, .. } => policy_authorize_nv::command(alloc, means, index),
     }
 }
 

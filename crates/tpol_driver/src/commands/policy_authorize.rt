@@ -3,8 +3,7 @@
 ghost use Rattle.std.specs.Prelude.{◌≡◌, IfOk};
 ghost use Rattle.tpol_driver.specs.Commands.{approval_command, verify_signature};
 
-use crate::commands::handles;
-use crate::session::Session;
+use crate::commands::{Means, handles};
 use std::alloc::Global;
 use tpol_base::{Blob, Digest32, Name, NoMemory};
 use tpol_hash::Hasher;
@@ -13,20 +12,19 @@ use tpol_wire::{Command, Ticket};
 
 /// The next command of an approval by a key: VerifySignature, and with the ticket of that PolicyAuthorize.
 pub(crate) fn command(
-    directory: &[DirEntry],
-    session: &Session,
+    means: &Means<'_>,
     ticket: &Option<Ticket>,
     key: &Name,
     policy_ref: &Blob,
     approved: &Digest32,
     signature: &Digest32,
 ) -> Result<Command, NoMemory>
-    ensures { IfOk result (λ command. command ≡ approval_command directory.now session.now ticket.now key.now policy_ref.now approved.now signature.now) }
+    ensures { IfOk result (λ command. command ≡ approval_command means.now.directory.now means.now.session.now ticket.now key.now policy_ref.now approved.now signature.now) }
 {
     match ticket {
-        None => Ok(verification(directory, key, policy_ref, approved, signature)),
+        None => Ok(verification(means.directory, key, policy_ref, approved, signature)),
         Some(ticket) => Ok(Command::PolicyAuthorize {
-            session: session.handle,
+            session: means.session.handle,
             approved: *approved,
             policy_ref: policy_ref.clone()?,
             key: *key,
