@@ -49,6 +49,13 @@ module _ (client : Client) (behind : TrackState → List (Option Block)) where
       ∙ ap (λ l. l ++ blocks_of client behind track (product xs ys)) (blocks_followed track x ys)
       ∙ ap (λ l. blocks_of client behind (track_along client track x) ys ++ l) (blocks_product track xs ys)
 
+  -- ways whose ends give the same
+  pub blocks_same : (others : TrackState → List (Option Block)) → ((t : TrackState) → behind t ≡ others t) → (track : TrackState) (ways : List Path) → blocks_of client behind track ways ≡ blocks_of client others track ways
+  blocks_same others same track [] = refl
+  blocks_same others same track (way ∷ ways) =
+      ap (λ l. l ++ blocks_of client behind track ways) (same (track_along client track way))
+      ∙ ap (λ l. others (track_along client track way) ++ l) (blocks_same others same track ways)
+
   pub blocks_by_step : (track : TrackState) (step : PathStep) (ways : List Path) → blocks_of client behind track (map (followed_by (path_of_step step)) ways) ≡ blocks_of client behind track ways
   blocks_by_step track step [] = refl
   blocks_by_step track step (way ∷ ways) =

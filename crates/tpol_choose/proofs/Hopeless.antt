@@ -16,12 +16,14 @@ use Rattle.tpol_goal.specs.Goals.{code_of_goal}
 use Rattle.tpol_name.specs.declared.sight.Sight.{Sight}
 use Rattle.tpol_tree.specs.declared.facts.Fact.{Fact}
 use Rattle.tpol_tree.specs.declared.path.Move.{Move}
+use Rattle.tpol_tree.specs.declared.path.Move.TheVariants.{Assert}
 use Rattle.tpol_tree.specs.declared.path.Path.{Path}
 use Rattle.tpm_bindings.specs.Facts.{allows_locality, asks_presence, code_in, common_localities, deadlines_of, codes_of, every_code, has_locality, in_assertion, is_in_time, is_presence, localities_of, locality_in, moves_of}
 use Rattle.tpm_bindings.specs.Held.{listed}
 use Rattle.tpm_bindings.specs.State.{SessionState}
 use Rattle.tpm_bindings.proofs.Merging.{any_move-push, each_move-push, each_of-push}
 use Rattle.tpm_rules.specs.Rule.{or_else, unless}
+use Rattle.tpol_choose.specs.declared.assert_move.AssertMove.{AssertMove}
 use Rattle.tpol_choose.specs.declared.block.Block.{Block}
 use Rattle.tpol_choose.specs.declared.block.Why.{Why}
 use Rattle.tpol_choose.specs.declared.block.Why.TheVariants.{Deferred}
@@ -30,7 +32,7 @@ use Rattle.tpol_choose.specs.Clients.{Client}
 use Rattle.tpol_choose.specs.Entities.{EntityAt}
 use Rattle.tpol_choose.specs.Goals.{Judged, broken_check, goal_block, judged, judged_block}
 use Rattle.tpol_choose.specs.Hopes.{is_hopeless, meets}
-use Rattle.tpol_choose.specs.Tracks.{TrackState, block_at_end, is_lost, track_after, track_along}
+use Rattle.tpol_choose.specs.Tracks.{TrackState, after_first, block_at_end, is_lost, track_after, track_along}
 
 -- ---- what stands in the way of the moves so far
 
@@ -149,6 +151,10 @@ either_stays false true c d f g h = absurd cc
 pub hopeless_after : (client : Client) (track : TrackState) (act : Move) → is_hopeless client track ≡ true → is_hopeless client (track_after client track act) ≡ true
 hopeless_after client track act =
     either_stays (is_lost track) (meets client track.session.facts) (is_lost (track_after client track act)) (meets client (track_after client track act).session.facts) (lost_after client track act) (still_unmet client track.session.facts _)
+
+pub hopeless_first : (client : Client) (track : TrackState) (first : Option AssertMove) → is_hopeless client track ≡ true → is_hopeless client (after_first client track first) ≡ true
+hopeless_first client track None hopeless = hopeless
+hopeless_first client track (Some step) hopeless = hopeless_after client track (Assert step.assertion.now) hopeless
 
 pub hopeless_along : (client : Client) (track : TrackState) (way : Path) → is_hopeless client track ≡ true → is_hopeless client (track_along client track way) ≡ true
 hopeless_along client track way =

@@ -14,7 +14,7 @@ share documents (suc levels) = 4 * (greatest documents * share documents levels)
 -- what comes behind a branch or a document
 abbrev pub load : List ApprovedDoc → Ahead → ℕ
 load documents Nothing = 0
-load documents (After' act rest before levels p ahead) =
+load documents (After' act first rest before levels p ahead) =
     4 * (weight rest.now * share documents levels) + load documents ahead + 1
 
 greatest_some : (documents : List ApprovedDoc) → 1 ≤ greatest documents

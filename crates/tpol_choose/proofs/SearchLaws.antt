@@ -35,10 +35,10 @@ use Rattle.tpol_choose.proofs.Counts.{IsCount, counted}
 use Rattle.tpol_choose.specs.Facts.{fresh_session}
 use Rattle.tpol_choose.specs.Hopes.{is_hopeless}
 use Rattle.tpol_choose.specs.Searches.{IsCounted, go_on, passed_more, search_ahead, search_end, search_ways}
-use Rattle.tpol_choose.specs.Tracks.{TrackState, block_at_end, fresh_track, track_after, track_along}
+use Rattle.tpol_choose.specs.Tracks.{TrackState, after_first, block_at_end, fresh_track, track_after, track_along}
 use Rattle.tpol_choose.proofs.Ends.{path_ends}
 use Rattle.tpol_choose.proofs.Going.{along_both, along_between, along_closed, along_move}
-use Rattle.tpol_choose.proofs.Hopeless.{hopeless_after, hopeless_along, hopeless_end, hopeless_outside}
+use Rattle.tpol_choose.proofs.Hopeless.{hopeless_after, hopeless_along, hopeless_end, hopeless_first, hopeless_outside}
 
 go_on_nowhere : (s : Search) → go_on s (λ n. Passed n) ≡ s
 go_on_nowhere (Found index) = refl
@@ -80,6 +80,13 @@ module _ (client : Client) (behind : TrackState → ℕ → Search) where
       ways_append track n (map (followed_by x) ys) (product xs ys)
       ∙ ap (λ s. go_on s (λ m. search_ways client behind track m (product xs ys))) (ways_followed track n x ys)
       ∙ go_on_same (search_ways client behind (track_along client track x) n ys) (λ m. search_ways client behind track m (product xs ys)) (λ m. search_ways client (λ t k. search_ways client behind t k ys) track m xs) (λ m. ways_product track m xs ys)
+
+  -- ways whose ends give the same
+  pub ways_same : (others : TrackState → ℕ → Search) → ((t : TrackState) (m : ℕ) → behind t m ≡ others t m) → (track : TrackState) (n : ℕ) (ways : List Path) → search_ways client behind track n ways ≡ search_ways client others track n ways
+  ways_same others same track n [] = refl
+  ways_same others same track n (way ∷ ways) =
+      ap (λ s. go_on s (λ m. search_ways client behind track m ways)) (same (track_along client track way) n)
+      ∙ go_on_same (others (track_along client track way) n) (λ m. search_ways client behind track m ways) (λ m. search_ways client others track m ways) (λ m. ways_same others same track m ways)
 
   pub ways_by_step : (track : TrackState) (n : ℕ) (step : PathStep) (ways : List Path) → search_ways client behind track n (map (followed_by (path_of_step step)) ways) ≡ search_ways client behind track n ways
   ways_by_step track n step [] = refl
@@ -147,8 +154,8 @@ module _ (client : Client) (documents : List ApprovedDoc) where
   pub ahead_hopeless : (ahead : Ahead) (track : TrackState) (n : ℕ) → is_hopeless client track ≡ true → search_ahead client documents ahead track n ≡ Passed (passed_more n (ways_ahead documents ahead))
   ahead_hopeless Nothing track n hopeless =
       ap (λ b. if b then Found n else Passed (passed_more n 1)) (hopeless_end client track hopeless)
-  ahead_hopeless (After' act rest before levels p ahead) track n hopeless =
-      elements_hopeless (search_ahead client documents ahead) (ways_ahead documents ahead) (ahead_hopeless ahead) levels rest.now before (track_after client track (move_of act)) n (hopeless_after client track (move_of act) hopeless)
+  ahead_hopeless (After' act first rest before levels p ahead) track n hopeless =
+      elements_hopeless (search_ahead client documents ahead) (ways_ahead documents ahead) (ahead_hopeless ahead) levels rest.now before (after_first client (track_after client track (move_of act)) first) n (hopeless_first client (track_after client track (move_of act)) first (hopeless_after client track (move_of act) hopeless))
 
   -- what the counts of two parts, each to 65,537, make
   pub counted_both : (first others : ℕ) (levels : ℕ) (elements : ClosedElements) (ahead : Ahead) → IsCount documents levels elements first → others ≡ min (ways_ahead documents ahead) 65537 → min (first * others) 65537 ≡ min ((extent_at (document_extent documents levels) documents elements).paths * ways_ahead documents ahead) 65537

@@ -9,10 +9,10 @@ use Rattle.tpol_tree.specs.declared.path.ApprovedDoc.{ApprovedDoc}
 -- each OR in it, at any depth, has at most 8 branches
 abbrev pub HasFewBranchesAhead : Ahead → Type 0
 HasFewBranchesAhead Nothing = ⊤
-HasFewBranchesAhead (After' act rest before levels p ahead) = HasFewBranches rest.now × HasFewBranchesAhead ahead
+HasFewBranchesAhead (After' act first rest before levels p ahead) = HasFewBranches rest.now × HasFewBranchesAhead ahead
 
 -- how many ways there are through it
 abbrev pub ways_ahead : List ApprovedDoc → Ahead → ℕ
 ways_ahead documents Nothing = 1
-ways_ahead documents (After' act rest before levels p ahead) =
+ways_ahead documents (After' act first rest before levels p ahead) =
     (extent_at (document_extent documents levels) documents rest.now).paths * ways_ahead documents ahead

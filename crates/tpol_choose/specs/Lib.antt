@@ -10,6 +10,7 @@ pub mod Goals
 pub mod Hopes
 pub mod Judges
 pub mod Keys
+pub mod Leads
 pub mod Lent
 pub mod Moves
 pub mod Outside

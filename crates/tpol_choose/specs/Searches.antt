@@ -7,7 +7,7 @@ use Rattle.tpol_choose.specs.declared.searching.Search.TheVariants.{Found, Passe
 use Rattle.tpol_base.specs.declared.digest.Digest32.{Digest32}
 use Rattle.tpol_choose.specs.Acts.{move_of}
 use Rattle.tpol_choose.specs.Clients.{Client}
-use Rattle.tpol_choose.specs.Tracks.{TrackState, block_at_end, track_after, track_along}
+use Rattle.tpol_choose.specs.Tracks.{TrackState, after_first, block_at_end, track_after, track_along}
 use Rattle.tpol_digest.specs.Positions.{element_list_ways}
 use Rattle.tpol_tree.specs.declared.closed.ClosedElements.{ClosedElements}
 use Rattle.tpol_tree.specs.declared.path.ApprovedDoc.{ApprovedDoc}
@@ -41,8 +41,8 @@ search_end client track passed =
 -- what comes behind a branch or a document
 abbrev pub search_ahead : Client → List ApprovedDoc → Ahead → TrackState → ℕ → Search
 search_ahead client documents Nothing track passed = search_end client track passed
-search_ahead client documents (After' act rest before levels p ahead) track passed =
-    search_ways client (search_ahead client documents ahead) (track_after client track (move_of act)) passed (element_list_ways documents levels rest.now before)
+search_ahead client documents (After' act first rest before levels p ahead) track passed =
+    search_ways client (search_ahead client documents ahead) (after_first client (track_after client track (move_of act)) first) passed (element_list_ways documents levels rest.now before)
 
 -- the rest of a list, where d is the digest before, and what comes behind it
 abbrev pub search_rest : Client → List ApprovedDoc → ℕ → ClosedElements → Digest32 → Ahead → TrackState → ℕ → Search

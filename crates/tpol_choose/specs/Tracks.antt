@@ -4,6 +4,7 @@ use Rattle.std.specs.List.{slice_get}
 use Rattle.tpm_bindings.specs.State.{SessionState}
 use Rattle.tpm_rules.specs.Rule.{or_else}
 use Rattle.tpm_rules.specs.Standing.{standing_of}
+use Rattle.tpol_choose.specs.declared.assert_move.AssertMove.{AssertMove}
 use Rattle.tpol_choose.specs.declared.block.Block.{Block}
 use Rattle.tpol_choose.specs.declared.track.Track.{Track}
 use Rattle.tpol_choose.specs.Blocks.{block_of, whole_block}
@@ -12,6 +13,7 @@ use Rattle.tpol_choose.specs.Facts.{fresh_session, session_after}
 use Rattle.tpol_choose.specs.Goals.{goal_block}
 use Rattle.tpol_choose.specs.Moves.{move_block}
 use Rattle.tpol_tree.specs.declared.path.Move.{Move}
+use Rattle.tpol_tree.specs.declared.path.Move.TheVariants.{Assert}
 use Rattle.tpol_tree.specs.declared.path.Path.{Path}
 
 -- the session, the number of its moves, the first thing that stood in the way, and whether it went outside
@@ -38,6 +40,11 @@ track_after client track act = record {
   block = block_with client track (counted track.done) act;
   outside = track.outside;
 }
+
+-- by the assertion that comes next, if one does
+abbrev pub after_first : Client → TrackState → Option AssertMove → TrackState
+after_first client track None = track
+after_first client track (Some step) = track_after client track (Assert step.assertion.now)
 
 -- a whole path further
 abbrev pub track_along : Client → TrackState → Path → TrackState

@@ -4,6 +4,7 @@ ghost use Rattle.std.specs.Prelude.{◌≡◌, min};
 ghost use Rattle.tpol_choose.specs.Ahead as spec;
 
 use crate::act::Act;
+use crate::assert_move::AssertMove;
 use tpol_base::Digest32;
 use tpol_digest::count_ways;
 use tpol_tree::{ApprovedDoc, ClosedElements};
@@ -11,14 +12,15 @@ use tpol_tree::{ApprovedDoc, ClosedElements};
 // One more than the greatest number of ways that are walked; no count goes past it.
 pub const COUNTED: u64 = 65_537;
 
-// What comes behind the branch, or the document, that is walked: the move that closes it, the rest of the list
-// that it stands in, with the digest before that rest, in which documents may be entered `levels` deep, and
-// what comes behind that.
+// What comes behind the branch, or the document, that is walked: the move that closes it, an assertion that may
+// stand next in the list that it stands in, made to a move once for all ways, the rest of that list, with the digest
+// before that rest, in which documents may be entered `levels` deep, and what comes behind that.
 #[derive(Clone, Copy)]
 pub enum Ahead<'a> {
     Nothing,
     After {
         act: Act<'a>,
+        first: Option<AssertMove<'a>>,
         rest: &'a ClosedElements,
         before: Digest32,
         levels: u8,

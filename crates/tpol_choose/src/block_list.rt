@@ -20,6 +20,7 @@ use crate::approving::{approval, outside_approval};
 use crate::assert_move::AssertMove;
 use crate::branch_digests::BranchDigests;
 use crate::client::{Client, GoalHashes};
+use crate::lead::Lead;
 use crate::or_move::OrMove;
 use crate::track::Track;
 use crate::walk::Walk;
@@ -144,10 +145,12 @@ fn push_element<'a>(
         ClosedElement::Or(branches) => {
             let digests = BranchDigests::of(branches, before);
             let or = OrMove::new(digests.as_slice());
+            let lead = Lead::of(rest, or.after);
             let behind = Ahead::After {
                 act: Act::Or(or),
-                rest: &*rest,
-                before: or.after,
+                first: lead.first,
+                rest: lead.rest,
+                before: lead.before,
                 levels: walk.levels,
                 ahead: &*ahead,
             };
@@ -250,6 +253,7 @@ fn push_documents<'a>(
         if let Some(act) = approval(element, document) {
             let behind = Ahead::After {
                 act,
+                first: None,
                 rest: &*rest,
                 before: after,
                 levels: walk.levels,
@@ -280,12 +284,14 @@ fn push_ahead<'a>(
         Ahead::Nothing => push_end(walk, &track, found),
         Ahead::After {
             act,
+            first,
             rest,
             before,
             levels,
             ahead,
         } => {
-            let next = track.after(&walk.client, act);
+            let closed = track.after(&walk.client, act);
+            let next = closed.after_first(&walk.client, first);
             let outer = Walk {
                 levels: *levels,
                 ..*walk

@@ -26,6 +26,7 @@ mod goal;
 mod goal_rules;
 mod indices;
 mod keys;
+mod lead;
 mod moves;
 mod one_path;
 mod or_move;

@@ -18,6 +18,7 @@ use crate::ahead::{Ahead, COUNTED, count_ahead};
 use crate::approving::approval;
 use crate::assert_move::AssertMove;
 use crate::branch_digests::BranchDigests;
+use crate::lead::Lead;
 use crate::or_move::OrMove;
 use crate::track::Track;
 use crate::walk::Walk;
@@ -114,10 +115,12 @@ fn search_element<'a>(
         ClosedElement::Or(branches) => {
             let digests = BranchDigests::of(branches, before);
             let or = OrMove::new(digests.as_slice());
+            let lead = Lead::of(rest, or.after);
             let behind = Ahead::After {
                 act: Act::Or(or),
-                rest: &*rest,
-                before: or.after,
+                first: lead.first,
+                rest: lead.rest,
+                before: lead.before,
                 levels: walk.levels,
                 ahead: &*ahead,
             };
@@ -220,6 +223,7 @@ fn search_documents<'a>(
         if let Some(act) = approval(element, document) {
             let behind = Ahead::After {
                 act,
+                first: None,
                 rest: &*rest,
                 before: after,
                 levels: walk.levels,
@@ -248,12 +252,14 @@ fn search_ahead<'a>(walk: &Walk<'_>, track: Track, ahead: &'a Ahead<'a>, passed:
         Ahead::Nothing => search_end(walk, &track, passed),
         Ahead::After {
             act,
+            first,
             rest,
             before,
             levels,
             ahead,
         } => {
-            let next = track.after(&walk.client, act);
+            let closed = track.after(&walk.client, act);
+            let next = closed.after_first(&walk.client, first);
             let outer = Walk {
                 levels: *levels,
                 ..*walk

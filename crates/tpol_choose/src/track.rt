@@ -8,6 +8,7 @@ ghost use Rattle.tpol_name.specs.Setups.{IsSight};
 
 use crate::Block;
 use crate::act::Act;
+use crate::assert_move::AssertMove;
 use crate::binding::bindings_after;
 use crate::client::Client;
 use crate::demands::meets;
@@ -60,6 +61,18 @@ impl Track {
             done: number,
             block: self.block_with(client, number, act),
             outside: self.outside,
+        }
+    }
+
+    // The same by the assertion that comes next, if one does.
+    pub fn after_first(self, client: &Client<'_>, first: &Option<AssertMove<'_>>) -> Track
+        requires sight { IsSight client.now.sight.now }
+        ensures { (track : TrackState) → IsTrack self track
+            → IsTrack result (spec.after_first (client_of_lent client.now) track first.now) }
+    {
+        match *first {
+            Some(step) => self.after(client, &Act::Assert(step)),
+            None => self,
         }
     }
 

@@ -15,11 +15,12 @@ use Rattle.tpol_digest.proofs.Weights.{weight, weight_of_element, weight_of_bran
 use Rattle.tpol_choose.specs.Acts.{move_of}
 use Rattle.tpol_choose.specs.Lent.{client_of_lent}
 use Rattle.tpol_choose.specs.BlockLists.{blocks_ahead, blocks_of, blocks_rest}
-use Rattle.tpol_choose.specs.Tracks.{IsTrack, gone_outside, track_after}
+use Rattle.tpol_choose.specs.Tracks.{IsTrack, TrackState, after_first, gone_outside, track_after}
 use Rattle.tpol_choose.proofs.Going.{along_nothing}
+use Rattle.tpol_choose.proofs.Leads.{lead_blocks, lead_few, lead_lighter}
 use Rattle.tpol_choose.proofs.Loads.{share, share_some, entered_lighter}
 use Rattle.tpol_choose.proofs.SearchLaws.{left, next_left, none_left}
-use Rattle.tpol_choose.proofs.BlockListLaws.{blocks_append, blocks_by_move, blocks_by_step, blocks_entered, blocks_one, blocks_one_move, blocks_outside, blocks_product}
+use Rattle.tpol_choose.proofs.BlockListLaws.{blocks_append, blocks_by_move, blocks_by_step, blocks_entered, blocks_one, blocks_one_move, blocks_outside, blocks_product, blocks_same}
 use Rattle.tpol_choose.proofs.block_list.+block_list.Goals as goal
 use Rattle.tpol_choose.proofs.block_list.+block_list.Goals.{push_documents-in-Some+in_ok-push_elements, push_documents-in_default}
 
@@ -74,7 +75,14 @@ push_element-returns-in-Or t c =
     let branches = c.in-Or.branches in
     let digests = branch_digests branches d in
     let ways = branch_ways documents levels branches 1 d in
+    let first = c.of-lead.result.first in
+    let before = c.of-lead.result.before in
+    let begins = c.of-lead.result.rest.now in
+    let behind = λ (s : TrackState). blocks_rest client documents levels begins before ahead (after_first client (track_after client s (Or c.new-or.result.digests.now)) first) in
+    let whole = λ (s : TrackState). blocks_rest client documents levels rest c.new-or.result.after ahead (track_after client s (Or c.new-or.result.digests.now)) in
+    let leads = λ (s : TrackState). lead_blocks client documents levels ahead (track_after client s (Or c.new-or.result.digests.now)) first rest c.new-or.result.after begins before c.of-lead.ensures in
     rw c.in-Or.is (λ state h. on_ok_weaker c.push_branches.result (λ e. e
+    ∙ ap (λ l. blocks ++ l) (blocks_same client behind whole leads state ways)
     ∙ ap (λ ds. blocks ++ blocks_of client (λ s. blocks_rest client documents levels rest c.new-or.result.after ahead (track_after client s (Or ds))) state ways) (c.new-or.ensures ∙ c.as_slice.ensures ∙ c.of-digests.ensures)
     ∙ ap (λ x. blocks ++ blocks_of client (λ s. blocks_rest client documents levels rest x ahead (track_after client s (Or digests))) state ways) (c.new-or.result.known ∙ ap or_digest (c.new-or.ensures ∙ c.as_slice.ensures ∙ c.of-digests.ensures))
     ∙ ap (λ l. blocks ++ l) (sym (blocks_by_move client (blocks_rest client documents levels rest (or_digest digests) ahead) state (Or digests) ways)
@@ -176,7 +184,9 @@ push_ahead-returns-in-Nothing t c = rw c.in-Nothing.is (λ state h. c.push_end.e
 pub push_ahead-returns-in-After : goal.push_ahead-returns-in-After
 push_ahead-returns-in-After t c =
     let client = client_of_lent c.args.walk.now.client in
-    rw c.in-After.is (λ state h. c.push_elements.ensures (track_after client state (move_of c.in-After.act)) (c.after-next.ensures state h))
+    rw c.in-After.is (λ state h.
+    let closed = track_after client state (move_of c.in-After.act) in
+    c.push_elements.ensures (after_first client closed c.in-After.first) (c.after_first-next.ensures closed (c.after-closed.ensures state h)))
 
 -- ---- the end, and what the calls ask for
 
@@ -211,7 +221,10 @@ pub push_element-push_branches-requires : goal.push_element-push_branches-requir
 push_element-push_branches-requires t c =
     let some = share_some c.args.walk.now.approvals.now c.args.walk.now.levels in
     let counts = rw c.in-Or.is at c.requires.branches in
-    (omega (arith, rw c.in-Or.is at c.decreases, some), (counts.1, (c.requires.approved, (c.requires.sight, (c.requires.rest, c.requires.ahead)))))
+    let lead = c.of-lead.result in
+    let lighter = lead_lighter (share c.args.walk.now.approvals.now c.args.walk.now.levels) lead.first c.args.rest.now c.new-or.result.after lead.rest.now lead.before c.of-lead.ensures in
+    let few = lead_few lead.first c.args.rest.now c.new-or.result.after lead.rest.now lead.before c.of-lead.ensures c.requires.rest in
+    (omega (arith, rw c.in-Or.is at c.decreases, some, lighter), (counts.1, (c.requires.approved, (c.requires.sight, (few, c.requires.ahead)))))
 
 pub push_element-push_approvals-requires : goal.push_element-push_approvals-requires
 push_element-push_approvals-requires t c =

@@ -1,4 +1,4 @@
-use Rattle.std.proofs.Common.{◌≡◌, ◌≢◌, ◌+◌, ◌*◌, ◌<◌, ◌++◌, length, map, subst, sym, ap, ◌∙◌, refl, inl, inr, arith}
+use Rattle.std.proofs.Common.{◌≡◌, ◌≢◌, ℕ, ◌+◌, ◌*◌, ◌<◌, ◌++◌, length, map, subst, sym, ap, ◌∙◌, refl, inl, inr, arith}
 use Rattle.tpol_tree.specs.declared.closed.ClosedBranch.{ClosedBranch}
 use Rattle.tpol_tree.specs.declared.closed.ClosedElement.TheVariants as closed
 use Rattle.tpol_tree.specs.declared.path.Move.TheVariants.{Assert, Or}
@@ -15,10 +15,11 @@ use Rattle.tpol_choose.specs.Acts.{move_of}
 use Rattle.tpol_choose.specs.Ahead.{ways_ahead}
 use Rattle.tpol_choose.specs.Lent.{client_of_lent}
 use Rattle.tpol_choose.specs.Searches.{search_ahead, search_rest, search_ways}
-use Rattle.tpol_choose.specs.Tracks.{IsTrack, track_after}
+use Rattle.tpol_choose.specs.Tracks.{IsTrack, TrackState, after_first, track_after}
 use Rattle.tpol_choose.proofs.Going.{along_nothing}
+use Rattle.tpol_choose.proofs.Leads.{lead_few, lead_lighter, lead_search}
 use Rattle.tpol_choose.proofs.Loads.{share, share_some, entered_lighter}
-use Rattle.tpol_choose.proofs.SearchLaws.{ahead_hopeless, elements_hopeless, entered, found_first, left, next_left, none_left, outside_hopeless, passed_first, ways_by_move, ways_by_step, ways_one, ways_one_move, ways_product}
+use Rattle.tpol_choose.proofs.SearchLaws.{ahead_hopeless, elements_hopeless, entered, found_first, left, next_left, none_left, outside_hopeless, passed_first, ways_by_move, ways_by_step, ways_one, ways_one_move, ways_product, ways_same}
 use Rattle.tpol_choose.proofs.searching.+searching.Goals as goal
 use Rattle.tpol_choose.proofs.searching.+searching.Goals.{search_documents-in-Some+in-Passed, search_documents-in_default}
 
@@ -82,8 +83,15 @@ search_element-returns-in-Or t c =
     let branches = c.in-Or.branches in
     let digests = branch_digests branches d in
     let ways = branch_ways documents levels branches 1 d in
+    let first = c.of-lead.result.first in
+    let before = c.of-lead.result.before in
+    let begins = c.of-lead.result.rest.now in
+    let behind = λ (s : TrackState) (m : ℕ). search_rest client documents levels begins before ahead (after_first client (track_after client s (Or c.new-or.result.digests.now)) first) m in
+    let whole = λ (s : TrackState) (m : ℕ). search_rest client documents levels rest c.new-or.result.after ahead (track_after client s (Or c.new-or.result.digests.now)) m in
+    let leads = λ (s : TrackState) (m : ℕ). lead_search client documents levels ahead (track_after client s (Or c.new-or.result.digests.now)) m first rest c.new-or.result.after begins before c.of-lead.ensures in
     rw c.in-Or.is (λ state h.
     c.search_branches.ensures state 1 h
+    ∙ ways_same client behind whole leads state passed ways
     ∙ ap (λ ds. search_ways client (λ s m. search_rest client documents levels rest c.new-or.result.after ahead (track_after client s (Or ds)) m) state passed ways) (c.new-or.ensures ∙ c.as_slice.ensures ∙ c.of-digests.ensures)
     ∙ ap (λ e. search_ways client (λ s m. search_rest client documents levels rest e ahead (track_after client s (Or digests)) m) state passed ways) (c.new-or.result.known ∙ ap or_digest (c.new-or.ensures ∙ c.as_slice.ensures ∙ c.of-digests.ensures))
     ∙ sym (ways_by_move client (search_rest client documents levels rest (or_digest digests) ahead) state passed (Or digests) ways)
@@ -243,7 +251,9 @@ search_ahead-returns-in-Nothing t c = rw c.in-Nothing.is (λ state h. c.search_e
 pub search_ahead-returns-in-After : goal.search_ahead-returns-in-After
 search_ahead-returns-in-After t c =
     let client = client_of_lent c.args.walk.now.client in
-    rw c.in-After.is (λ state h. c.search_elements.ensures (track_after client state (move_of c.in-After.act)) (c.after-next.ensures state h))
+    rw c.in-After.is (λ state h.
+    let closed = track_after client state (move_of c.in-After.act) in
+    c.search_elements.ensures (after_first client closed c.in-After.first) (c.after_first-next.ensures closed (c.after-closed.ensures state h)))
 
 -- ---- the end, and what the calls ask for
 
@@ -278,7 +288,10 @@ pub search_element-search_branches-requires : goal.search_element-search_branche
 search_element-search_branches-requires t c =
     let some = share_some c.args.walk.now.approvals.now c.args.walk.now.levels in
     let counts = rw c.in-Or.is at c.requires.branches in
-    (omega (arith, rw c.in-Or.is at c.decreases, some), (counts.1, (c.requires.approved, (c.requires.sight, (c.requires.rest, c.requires.ahead)))))
+    let lead = c.of-lead.result in
+    let lighter = lead_lighter (share c.args.walk.now.approvals.now c.args.walk.now.levels) lead.first c.args.rest.now c.new-or.result.after lead.rest.now lead.before c.of-lead.ensures in
+    let few = lead_few lead.first c.args.rest.now c.new-or.result.after lead.rest.now lead.before c.of-lead.ensures c.requires.rest in
+    (omega (arith, rw c.in-Or.is at c.decreases, some, lighter), (counts.1, (c.requires.approved, (c.requires.sight, (few, c.requires.ahead)))))
 
 pub search_element-search_approvals-requires : goal.search_element-search_approvals-requires
 search_element-search_approvals-requires t c =
