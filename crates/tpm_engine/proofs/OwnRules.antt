@@ -1,7 +1,6 @@
 -- The own rule of a policy command is that on its session, which is live.
-use Rattle.std.proofs.Common.{◌≡◌, ℕ, true, Option, None, Some, is_some, refl, ap, sym, ◌∙◌, if◌then◌else◌}
+use Rattle.std.proofs.Common.{◌≡◌, ℕ, Option, None, Some, is_some, ap, ◌∙◌, if◌then◌else◌}
 use Rattle.std.specs.Option.{option_and_then, option_map_or}
-use Rattle.std.proofs.lemmas.Option.{none-some}
 use Rattle.tpol_base.specs.ResponseCode.{rc_reference_h0}
 use Rattle.tpol_wire.specs.declared.command.Command.{Command}
 use Rattle.tpol_wire.specs.Handles.{policy_session_of}
@@ -10,7 +9,7 @@ use Rattle.tpm_rules.specs.NvAuthority.{nv_authority_rule}
 use Rattle.tpm_rules.specs.PolicyAuthorizeNv.{policy_authorize_nv_rule}
 use Rattle.tpm_rules.specs.Rule.{or_else}
 use Rattle.tpm_session.specs.Kept.{SessionView}
-use Rattle.tpm_session.specs.Slots.{is_live, session_at, state_at}
+use Rattle.tpm_session.specs.Slots.{session_at, state_at}
 use Rattle.tpm_session.proofs.Slots.{found-state}
 use Rattle.tpm_world.specs.Missing.{missing_index, rule_of_index}
 use Rattle.tpm_world.specs.Plain.{plain_rule}
@@ -23,7 +22,6 @@ use Rattle.tpm_engine.specs.Answers.{own_rule}
 use Rattle.tpm_engine.specs.PolicyCommands.{authorize_nv_rule, policy_command_rule, policy_rule}
 use Rattle.tpm_engine.specs.SessionCommands.{is_session_command, session_rule}
 use Rattle.tpm_engine.specs.Tables.{TableState}
-use Rattle.tpm_engine.proofs.Slotted.{not-found}
 use Rattle.tpm_engine.proofs.Stopping.{or_else-none}
 
 -- ---- by its session
@@ -38,12 +36,6 @@ pub found-rule : (tables : TableState) (command : Command) (own : ℕ × ℕ) (s
 found-rule tables command own session policy found =
     session-rule tables command own policy
     ∙ ap (λ (o : Option SessionState). option_map_or (λ state. policy_rule tables.world state command) o (Some rc_reference_h0)) (found-state tables.sessions own.0 session found).1
-
-pub missing-rule : (tables : TableState) (command : Command) (own : ℕ × ℕ) → policy_session_of command ≡ Some own → None ≡ session_at tables.sessions own.0
-    → policy_command_rule tables command ≡ Some rc_reference_h0
-missing-rule tables command own policy missing =
-    session-rule tables command own policy
-    ∙ ap (λ (o : Option SessionState). option_map_or (λ state. policy_rule tables.world state command) o (Some rc_reference_h0)) (not-found tables.sessions own.0 missing)
 
 -- ---- among the own rules
 

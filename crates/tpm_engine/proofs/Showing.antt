@@ -17,7 +17,7 @@ use Rattle.tpol_fields.specs.declared.ticket.Ticket.{Ticket}
 use Rattle.tpm_bindings.specs.Facts.{is_pcr}
 use Rattle.tpm_bindings.specs.State.{SessionState}
 use Rattle.tpm_context.specs.Saved.{AreApart}
-use Rattle.tpm_policy.specs.Asserted.{asserted, with_one_more}
+use Rattle.tpm_policy.specs.Asserted.{with_one_more}
 use Rattle.tpm_policy.specs.Judgments.{is_auth_ticket}
 use Rattle.tpm_rules.specs.PolicyTicket.{policy_ticket_rule}
 use Rattle.tpm_session.specs.Kept.{SessionView, counter_after, with_fact}
@@ -157,10 +157,6 @@ handle-stays command session after fact counter policy does = at (shown_by comma
     at : (o : Option Shown) → is_some o ≡ true → IfSome o (λ shown. after ≡ with_one_more session (fact shown) counter) → after.handle ≡ session.handle
     at None there h = absurd (false≢true there)
     at (Some shown) there h = ap (λ (s : SessionView). s.handle) h
-
--- a fact that is added where its rule holds
-pub one-more : (rule : Option ℕ) (session after : SessionView) (fact : Fact) (counter : ℕ) → rule ≡ None → after ≡ asserted rule session fact counter → after ≡ with_one_more session fact counter
-one-more rule session after fact counter none is = is ∙ ap (λ (r : Option ℕ). asserted r session fact counter) none
 
 -- the rule of PolicyTicket over what the world tells
 pub ticket-rule : (world : WorldState) (session : SessionState) (time count : ℕ) (proof : Digest32) (bytes : List ℕ) (timeout : ℕ) (cp_hash : Option Digest32) (policy_ref : List ℕ) (key : Name) (ticket : Ticket)

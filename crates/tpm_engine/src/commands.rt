@@ -83,7 +83,8 @@ impl Tables {
         requires room { room_stop self.old command ≡ None }
         requires rule { own_rule self.old command ≡ None }
         requires empty { facts ≡ first_facts command }
-        ensures tables { self.new ≡ after_deed number (command_deed command (succeeding self.old number command).reply) self.old }
+        ensures tables { self.new ≡ after_deed number
+            (command_deed command (succeeding self.old number command).reply) self.old }
     {
         if command.policy_session().is_some() {
             return self.show(alloc, number, command);
@@ -115,7 +116,8 @@ impl Tables {
         requires other { is_policy_command command.now ≡ false }
         requires rule { own_rule self.old command.now ≡ None }
         requires empty { facts ≡ first_facts command.now }
-        ensures tables { self.new ≡ after_deed number (command_deed command.now (succeeding self.old number command.now).reply) self.old }
+        ensures tables { self.new ≡ after_deed number
+            (command_deed command.now (succeeding self.old number command.now).reply) self.old }
     {
         if is_session_command(command) {
             return session_commands::carry_out(self, number, command, facts);

@@ -224,7 +224,8 @@ pub fn carry_out(alloc: Global, world: &World, session: &mut Session, number: u3
     requires room { length session.old.state.facts < 512 }
     requires rule { spec.policy_rule world.now session.old.state command ≡ None }
     ensures shown { IfSome (shown_by command) (λ shown. session.new ≡ with_one_more session.old
-        (shown.1 (moment world.now number session.old.state.start session.old.state.facts)) (kept_counter world.now command)) }
+        (shown.1 (moment world.now number session.old.state.start session.old.state.facts))
+        (kept_counter world.now command)) }
 {
     match command {
         Command::PolicyCpHash { digest, .. } => policy_cp_hash::carry_out(session, number, digest),

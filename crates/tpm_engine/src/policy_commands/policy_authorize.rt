@@ -31,7 +31,8 @@ pub fn rule(
     given: &PolicyAuthorize<'_>,
     policy_ref: &[u8],
 ) -> Result<(), Rc>
-    ensures rule { Obeys result (spec.authorize_rule world.now session.now.state given.now.approved policy_ref.now given.now.key given.now.ticket.now) }
+    ensures rule { Obeys result (spec.authorize_rule world.now session.now.state
+        given.now.approved policy_ref.now given.now.key given.now.ticket.now) }
 {
     let digest = verified_digest(given.ticket);
     let right = is_approval_ticket(
@@ -53,8 +54,10 @@ pub fn carry_out(
     policy_ref: Blob,
 )
     requires room { length session.old.state.facts < 512 }
-    requires rule { spec.authorize_rule world.now session.old.state given.now.approved policy_ref given.now.key given.now.ticket.now ≡ None }
-    ensures session { session.new ≡ with_one_more session.old (policy_authorize_fact number given.now.key policy_ref given.now.approved) 0 }
+    requires rule { spec.authorize_rule world.now session.old.state
+        given.now.approved policy_ref given.now.key given.now.ticket.now ≡ None }
+    ensures session { session.new ≡ with_one_more session.old
+        (policy_authorize_fact number given.now.key policy_ref given.now.approved) 0 }
 {
     match assert_authorize(
         session,

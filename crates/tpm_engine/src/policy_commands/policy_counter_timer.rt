@@ -31,7 +31,8 @@ pub fn carry_out(
 )
     requires room { length session.old.state.facts < 512 }
     requires rule { policy_counter_timer_rule (clock_of world.now) operand offset operation ≡ None }
-    ensures session { session.new ≡ with_one_more session.old (policy_counter_timer_fact number operand offset operation) 0 }
+    ensures session { session.new ≡ with_one_more session.old
+        (policy_counter_timer_fact number operand offset operation) 0 }
 {
     match assert_counter_timer(session, number, &world.clock(), operand, offset, operation) {
         Ok(()) => {}

@@ -21,7 +21,8 @@ pub fn rule(session: &Session) -> Result<(), Rc>
 pub fn carry_out(session: &mut Session, number: u32, object: Name, parent: Name, include: bool)
     requires room { length session.old.state.facts < 512 }
     requires rule { policy_duplication_select_rule session.old.state ≡ None }
-    ensures session { session.new ≡ with_one_more session.old (policy_duplication_select_fact number object parent include) 0 }
+    ensures session { session.new ≡ with_one_more session.old
+        (policy_duplication_select_fact number object parent include) 0 }
 {
     match assert_duplication(session, number, object, parent, include) {
         Ok(()) => {}

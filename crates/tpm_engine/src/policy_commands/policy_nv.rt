@@ -29,7 +29,8 @@ pub struct PolicyNv {
 // (TPM_RC_NV_UNINITIALIZED), that the offset (TPM_RC_VALUE, parameter 2) and the operand from there on (TPM_RC_SIZE,
 // parameter 1) lie within it, and that the comparison holds (TPM_RC_POLICY).
 pub fn rule(world: &World, given: &PolicyNv, operand: &[u8]) -> Result<(), Rc>
-    ensures rule { Obeys result (spec.nv_rule world.now given.now.authority given.now.index operand.now given.now.offset given.now.operation) }
+    ensures rule { Obeys result (spec.nv_rule world.now given.now.authority given.now.index
+        operand.now given.now.offset given.now.operation) }
 {
     match world.index(given.index) {
         Some(entry) => {
@@ -48,9 +49,11 @@ pub fn rule(world: &World, given: &PolicyNv, operand: &[u8]) -> Result<(), Rc>
 pub fn carry_out(world: &World, session: &mut Session, number: u32, given: &PolicyNv, operand: Blob)
     requires room { length session.old.state.facts < 512 }
     requires index { is_index given.now.index ≡ true }
-    requires rule { spec.nv_rule world.now given.now.authority given.now.index operand given.now.offset given.now.operation ≡ None }
+    requires rule { spec.nv_rule world.now given.now.authority given.now.index
+        operand given.now.offset given.now.operation ≡ None }
     ensures session { session.new ≡ with_one_more session.old
-        (fact_of number (Assert (Nv (name_at world.now given.now.index) operand given.now.offset given.now.operation)) None None) 0 }
+        (fact_of number (Assert (Nv (name_at world.now given.now.index)
+        operand given.now.offset given.now.operation)) None None) 0 }
 {
     let Some(entry) = world.index(given.index) else {
         unreachable!();

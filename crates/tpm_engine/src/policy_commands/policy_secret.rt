@@ -29,7 +29,8 @@ pub struct PolicySecret<'a> {
 // That a nonce which is given is the session's (TPM_RC_NONCE, parameter 1), that the deadline has not passed
 // (TPM_RC_EXPIRED, parameter 4), and that the slot takes the cpHashA (TPM_RC_CPHASH).
 pub fn rule(world: &World, session: &Session, given: &PolicySecret<'_>) -> Result<(), Rc>
-    ensures rule { Obeys result (policy_secret_rule session.now.state world.now.time given.now.nonce.now given.now.cp_hash given.now.expiration) }
+    ensures rule { Obeys result (policy_secret_rule session.now.state world.now.time
+        given.now.nonce.now given.now.cp_hash given.now.expiration) }
 {
     policy_secret_rule(
         &session.standing(),
@@ -49,10 +50,11 @@ pub fn carry_out(
     policy_ref: Blob,
 )
     requires room { length session.old.state.facts < 512 }
-    requires rule { policy_secret_rule session.old.state world.now.time given.now.nonce.now given.now.cp_hash given.now.expiration ≡ None }
+    requires rule { policy_secret_rule session.old.state world.now.time
+        given.now.nonce.now given.now.cp_hash given.now.expiration ≡ None }
     ensures session { session.new ≡ with_one_more session.old
-        (policy_secret_fact number session.old.state.start (name_at world.now given.now.entity) given.now.nonce.now given.now.cp_hash
-        policy_ref given.now.expiration) 0 }
+        (policy_secret_fact number session.old.state.start (name_at world.now given.now.entity)
+        given.now.nonce.now given.now.cp_hash policy_ref given.now.expiration) 0 }
 {
     match assert_secret(
         session,
@@ -78,8 +80,8 @@ pub fn reply(
     policy_ref: &[u8],
 ) -> Result<Reply, NoMemory>
     requires early { start ≤ 2 ^ 63 }
-    ensures reply { IfOk result (λ reply. reply ≡ spec.secret_reply world.now start given.now.entity given.now.nonce.now given.now.cp_hash
-        policy_ref.now given.now.expiration) }
+    ensures reply { IfOk result (λ reply. reply ≡ spec.secret_reply world.now start
+        given.now.entity given.now.nonce.now given.now.cp_hash policy_ref.now given.now.expiration) }
 {
     let timeout = timeout_of(start, given.nonce, given.expiration);
     let name = world.name_of(given.entity);

@@ -35,8 +35,8 @@ pub fn rule(
     given: &PolicySigned<'_>,
     policy_ref: &[u8],
 ) -> Result<(), Rc>
-    ensures rule { Obeys result (spec.signed_rule world.now session.now.state given.now.key given.now.nonce.now given.now.cp_hash
-        policy_ref.now given.now.expiration given.now.signature) }
+    ensures rule { Obeys result (spec.signed_rule world.now session.now.state given.now.key
+        given.now.nonce.now given.now.cp_hash policy_ref.now given.now.expiration given.now.signature) }
 {
     let Some(object) = world.object(given.key) else {
         return Err(missing_object());
@@ -69,11 +69,11 @@ pub fn carry_out(
     policy_ref: Blob,
 )
     requires room { length session.old.state.facts < 512 }
-    requires rule { spec.signed_rule world.now session.old.state given.now.key given.now.nonce.now given.now.cp_hash
-        policy_ref given.now.expiration given.now.signature ≡ None }
+    requires rule { spec.signed_rule world.now session.old.state given.now.key
+        given.now.nonce.now given.now.cp_hash policy_ref given.now.expiration given.now.signature ≡ None }
     ensures session { session.new ≡ with_one_more session.old
-        (policy_signed_fact number session.old.state.start (name_at world.now given.now.key) given.now.nonce.now given.now.cp_hash
-        policy_ref given.now.expiration) 0 }
+        (policy_signed_fact number session.old.state.start (name_at world.now given.now.key)
+        given.now.nonce.now given.now.cp_hash policy_ref given.now.expiration) 0 }
 {
     let Some(object) = world.object(given.key) else {
         unreachable!();
@@ -104,8 +104,8 @@ pub fn reply(
     policy_ref: &[u8],
 ) -> Result<Reply, NoMemory>
     requires early { start ≤ 2 ^ 63 }
-    ensures reply { IfOk result (λ reply. reply ≡ spec.signed_reply world.now start given.now.key given.now.nonce.now given.now.cp_hash
-        policy_ref.now given.now.expiration) }
+    ensures reply { IfOk result (λ reply. reply ≡ spec.signed_reply world.now start
+        given.now.key given.now.nonce.now given.now.cp_hash policy_ref.now given.now.expiration) }
 {
     let timeout = timeout_of(start, given.nonce, given.expiration);
     let name = world.name_of(given.key);

@@ -30,7 +30,8 @@ pub fn rule(
     given: &PolicyTicket<'_>,
     policy_ref: &[u8],
 ) -> Result<(), Rc>
-    ensures rule { Obeys result (spec.ticket_rule world.now session.now.state given.now.timeout given.now.cp_hash policy_ref.now given.now.key given.now.ticket.now) }
+    ensures rule { Obeys result (spec.ticket_rule world.now session.now.state
+        given.now.timeout given.now.cp_hash policy_ref.now given.now.key given.now.ticket.now) }
 {
     let shown = AuthTicket {
         deadline: given.timeout,
@@ -60,9 +61,11 @@ pub fn carry_out(
     policy_ref: Blob,
 )
     requires room { length session.old.state.facts < 512 }
-    requires rule { spec.ticket_rule world.now session.old.state given.now.timeout given.now.cp_hash policy_ref given.now.key given.now.ticket.now ≡ None }
+    requires rule { spec.ticket_rule world.now session.old.state
+        given.now.timeout given.now.cp_hash policy_ref given.now.key given.now.ticket.now ≡ None }
     ensures session { session.new ≡ with_one_more session.old
-        (policy_ticket_fact number given.now.ticket.now.tag given.now.timeout given.now.key policy_ref given.now.cp_hash) 0 }
+        (policy_ticket_fact number given.now.ticket.now.tag given.now.timeout given.now.key
+        policy_ref given.now.cp_hash) 0 }
 {
     match assert_ticket(
         session,

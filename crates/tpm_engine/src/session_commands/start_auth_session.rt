@@ -40,7 +40,8 @@ pub fn reply(tables: &Tables, number: u32) -> Reply
 pub fn carry_out(tables: &mut Tables, number: u32, facts: Facts)
     requires rule { spec.start_rule tables.old ≡ None }
     requires empty { facts ≡ [] }
-    ensures tables { tables.new ≡ after_deed number (started_by (spell_reply (spec.started_reply tables.old number) None)) tables.old }
+    ensures tables { tables.new ≡ after_deed number
+        (started_by (spell_reply (spec.started_reply tables.old number) None)) tables.old }
 {
     let nonce = tables.world.nonce(number);
     let taken = tables.saved.slots();

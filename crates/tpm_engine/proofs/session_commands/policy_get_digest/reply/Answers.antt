@@ -15,13 +15,17 @@ use Rattle.tpm_engine.proofs.session_commands.policy_get_digest.reply.Goals as g
 pub returns-in-None : goal.returns-in-None
 returns-in-None c =
     let none = not-found c.args.tables.now.sessions c.args.session (c.in-None.ensures ∙ ap (λ (t : TableState). session_at t.sessions c.args.session) c.tables.view_is) in
-    ap PolicyGetDigest
-    (digests.same_digest _ zero_digest refl ∙ sym (ap (λ (o : Option SessionState). option_map_or policy_digest_of o zero_digest) none))
+    record {
+      reply = ap PolicyGetDigest
+          (digests.same_digest _ zero_digest refl ∙ sym (ap (λ (o : Option SessionState). option_map_or policy_digest_of o zero_digest) none));
+    }
 
 -- src/session_commands/policy_get_digest.rt
 pub returns-in-Some : goal.returns-in-Some
 returns-in-Some c =
     let found = c.in-Some.ensures ∙ ap (λ (t : TableState). session_at t.sessions c.args.session) c.tables.view_is in
-    ap PolicyGetDigest
-    (c.digest.ensures
-    ∙ sym (ap (λ (o : Option SessionState). option_map_or policy_digest_of o zero_digest) (found-state c.args.tables.now.sessions c.args.session c.in-Some.session.now found).1))
+    record {
+      reply = ap PolicyGetDigest
+          (c.digest.ensures
+          ∙ sym (ap (λ (o : Option SessionState). option_map_or policy_digest_of o zero_digest) (found-state c.args.tables.now.sessions c.args.session c.in-Some.session.now found).1));
+    }

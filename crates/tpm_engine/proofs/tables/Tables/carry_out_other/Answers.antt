@@ -8,18 +8,22 @@ use Rattle.tpm_engine.proofs.Slotted.{tables_of}
 use Rattle.tpm_engine.proofs.tables.Tables.carry_out_other.Goals as goal
 
 -- src/commands.rt
-pub returns-then-is_session_command-clause-tables : goal.returns-then-is_session_command-clause-tables
-returns-then-is_session_command-clause-tables c =
-    subst (λ (deed : Deed). c.carry_out.new.tables ≡ after_deed c.args.number deed c.args.self.now)
-    (session-deed c.args.self.now c.args.number c.args.command.now (sym c.is_session_command.ensures ∙ c.if-is_session_command.true))
-    c.carry_out.ensures.tables
+pub returns-then-is_session_command : goal.returns-then-is_session_command
+returns-then-is_session_command c =
+    record {
+      tables = subst (λ (deed : Deed). c.carry_out.new.tables ≡ after_deed c.args.number deed c.args.self.now)
+          (session-deed c.args.self.now c.args.number c.args.command.now (sym c.is_session_command.ensures ∙ c.if-is_session_command.true))
+          c.carry_out.ensures.tables;
+    }
 
 -- src/commands.rt
-pub returns-clause-tables : goal.returns-clause-tables
-returns-clause-tables c =
+pub returns : goal.returns
+returns c =
     let inside = c.self.inside in
     let tables = tables_of inside.world inside.sessions inside.saved in
-    ap (λ (world : WorldState). tables_of world inside.sessions inside.saved) c.carry_out-2.ensures.world
-    ∙ (plain-deed tables c.args.number c.args.command.now (succeeding tables c.args.number c.args.command.now).reply c.requires.other
-    (sym c.is_session_command.ensures ∙ c.if-is_session_command.false)
-    ∙ ap (λ (t : TableState). after_deed c.args.number (command_deed c.args.command.now (succeeding t c.args.number c.args.command.now).reply) t) c.self.view_is)
+    record {
+      tables = ap (λ (world : WorldState). tables_of world inside.sessions inside.saved) c.carry_out-2.ensures.world
+          ∙ (plain-deed tables c.args.number c.args.command.now (succeeding tables c.args.number c.args.command.now).reply c.requires.other
+          (sym c.is_session_command.ensures ∙ c.if-is_session_command.false)
+          ∙ ap (λ (t : TableState). after_deed c.args.number (command_deed c.args.command.now (succeeding t c.args.number c.args.command.now).reply) t) c.self.view_is);
+    }

@@ -9,10 +9,11 @@ use Rattle.tpm_engine.proofs.tables.Tables.session_area.Goals as goal
 pub returns : goal.returns
 returns c =
     let state = c.args.session.now.state in
+    let exchange = c.args.exchange.now in
     ap Some
-    (authorizing.session-area c.args.self.now c.args.number c.args.command.now c.args.reply.now c.args.area.now (entity_of c.args.entity.now) state
+    (authorizing.session-area c.args.self.now exchange.number exchange.command.now exchange.reply.now exchange.area.now (entity_of c.args.entity.now) state
     c.nonce-nonce.result c.last_auth-last.result c.auth_value-value.result.now c.code_of.result _ _
-    (c.nonce-nonce.ensures.nonce ∙ ap (λ (t : TableState). nonce_of_event t.world.seed c.args.number) c.self.view_is)
+    (c.nonce-nonce.ensures.nonce ∙ ap (λ (t : TableState). nonce_of_event t.world.seed exchange.number) c.self.view_is)
     (c.last_auth-last.ensures state.facts c.bindings.ensures.value)
     c.auth_value-value.ensures.value
     c.code_of.ensures

@@ -2,27 +2,15 @@ use Rattle.std.proofs.Common.{◌≡◌, ℕ, List, None, Some, ap, subst, sym, 
 use Rattle.tpm_context.specs.Saved.{AreApart}
 use Rattle.tpm_bindings.specs.State.{SessionState}
 use Rattle.std.specs.Prelude.{Option}
-use Rattle.std.proofs.lemmas.Option.{none-some}
-use Rattle.tpol_base.specs.ResponseCode.{rc_reference_h0}
 use Rattle.tpm_session.specs.Slots.{IsSlotHandle, content_at, state_at, with_state}
 use Rattle.tpm_session.proofs.Slots.{content-emptied, found-state}
 use Rattle.tpm_engine.specs.Deeds.{after_deed, command_deed}
 use Rattle.tpm_engine.specs.PolicyCommands.{policy_command_rule}
 use Rattle.tpm_engine.specs.Tables.{TableState}
-use Rattle.tpm_engine.proofs.OwnRules.{found-rule, missing-rule}
+use Rattle.tpm_engine.proofs.OwnRules.{found-rule}
 use Rattle.tpm_engine.proofs.Showing.{handle-stays, live-found, shown-tables}
 use Rattle.tpm_engine.proofs.Slotted.{apart-emptied, apart-written, tables_of, unsaved}
 use Rattle.tpm_engine.proofs.tables.Tables.show.Goals as goal
-
--- src/commands.rt
-pub unreachable-in-None : goal.unreachable-in-None
-unreachable-in-None c =
-    let inside = c.self.inside in
-    let tables = tables_of inside.world inside.sessions inside.saved in
-    let own : ℕ × ℕ = (c.in-Some.handle, c.in-Some.field-0-1) in
-    absurd (none-some rc_reference_h0
-    (sym (ap (λ (t : TableState). policy_command_rule t c.args.command) c.self.view_is ∙ c.requires.rule)
-    ∙ missing-rule tables c.args.command own (sym c.in-Some.ensures.session) c.in-None.ensures.session))
 
 -- src/commands.rt
 pub carry_out-requires-clause-rule : goal.carry_out-requires-clause-rule
@@ -69,15 +57,18 @@ invariant_of-self c =
     (apart-written c.take_out.new.self inside.saved after.handle (Some after.state) emptied none)
 
 -- src/commands.rt
-pub returns-clause-tables : goal.returns-clause-tables
-returns-clause-tables c reply =
+pub returns : goal.returns
+returns c =
     let session = c.in-Some-take_out.session in
     let inside = c.self.inside in
     let after = c.carry_out.new.session in
     let own : ℕ × ℕ = (c.in-Some.handle, c.in-Some.field-0-1) in
     let tables = tables_of inside.world inside.sessions inside.saved in
-    ap (λ (slots : List (Option SessionState)). tables_of inside.world slots inside.saved)
-    (c.put_back.ensures ∙ ap (λ (slots : List (Option SessionState)). with_state slots after.handle (Some after.state)) c.in-Some-take_out.ensures.slots)
-    ∙ (shown-tables tables c.args.number c.args.command reply own session after
-    c.self.invariant (sym c.in-Some.ensures.session) c.in-Some-take_out.ensures.session c.carry_out.ensures.shown
-    ∙ ap (λ (t : TableState). after_deed c.args.number (command_deed c.args.command reply) t) c.self.view_is)
+    record {
+      tables =
+          λ (reply : List ℕ). ap (λ (slots : List (Option SessionState)). tables_of inside.world slots inside.saved)
+          (c.put_back.ensures ∙ ap (λ (slots : List (Option SessionState)). with_state slots after.handle (Some after.state)) c.in-Some-take_out.ensures.slots)
+          ∙ (shown-tables tables c.args.number c.args.command reply own session after
+          c.self.invariant (sym c.in-Some.ensures.session) c.in-Some-take_out.ensures.session c.carry_out.ensures.shown
+          ∙ ap (λ (t : TableState). after_deed c.args.number (command_deed c.args.command reply) t) c.self.view_is);
+    }
