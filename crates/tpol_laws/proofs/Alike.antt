@@ -1,8 +1,9 @@
 -- Sessions that rules cannot tell apart: the same rules hold of both.
-use Rattle.std.proofs.Common.{◌≡◌, ℕ, ◌+◌, ◌==◌, ◌&&◌, ◌||◌, not, Bool, true, List, [], ◌∷◌, ◌++◌, fold, map, length, nat_eq, bit_and, unsigned_abs, refl, ap, sym, ◌∙◌, arith}
+use Rattle.std.proofs.Common.{◌≡◌, ℕ, ◌+◌, ◌==◌, ◌&&◌, ◌||◌, not, Bool, true, false, List, [], ◌∷◌, ◌++◌, fold, map, length, nat_eq, nat_le, bit_and, unsigned_abs, refl, ap, sym, ◌∙◌, arith}
 use Rattle.std.specs.Prelude.{ℤ, Option, Some, None, if◌then◌else◌}
 use Rattle.std.specs.Bool.{beq}
-use Rattle.std.specs.List.{list_any}
+use Rattle.std.specs.List.{list_all, list_any}
+use Rattle.std.proofs.lemmas.Bool.Decides.{nat_tests}
 use Rattle.std.proofs.lemmas.Slice.Eq.{bytes_eq-Decides}
 use Rattle.tpol_base.specs.declared.digest.Digest32.{Digest32}
 use Rattle.tpol_base.specs.ResponseCode.{of_parameter, rc_command_code, rc_cphash, rc_expired, rc_hash, rc_nonce, rc_nv_uninitialized, rc_pcr_changed, rc_range, rc_signature, rc_value}
@@ -16,7 +17,7 @@ use Rattle.tpol_tree.specs.declared.facts.Fact.{Fact}
 use Rattle.tpol_tree.specs.declared.path.Move.{Move}
 use Rattle.tpol_tree.specs.declared.path.Move.TheVariants.{Assert, Or, Approve, ApproveNv}
 use Rattle.tpm_bindings.specs.declared.last_auth.LastAuth.{LastAuth}
-use Rattle.tpm_bindings.specs.Facts.{auth_in, auths_of, code_in, codes_of, cp_hash_in, cp_hashes_of, deadlines_of, in_assertion, is_before, is_pcr, is_presence, limits_of, localities_of, locality_in, moves_of, name_hash_in, name_hashes_of, parent_hash_in, parent_hashes_of, written_in, written_of}
+use Rattle.tpm_bindings.specs.Facts.{auth_in, auths_of, code_in, codes_of, cp_hash_in, cp_hashes_of, deadlines_of, in_assertion, is_before, is_in_time, is_pcr, is_presence, limits_of, localities_of, locality_in, moves_of, name_hash_in, name_hashes_of, parent_hash_in, parent_hashes_of, written_in, written_of}
 use Rattle.tpol_base.specs.Digest.{is_same_digest as same_digest}
 use Rattle.tpm_bindings.specs.Held.{all_are, any_of, each_of, listed}
 use Rattle.tpm_bindings.specs.State.{SessionState}
@@ -50,7 +51,6 @@ pub record Reads : Type 0 where
   pub auths : List LastAuth
   pub presence : Bool
   pub limits : List Digest32
-  pub deadlines : List ℕ
   pub digest : Digest32
 
 abbrev pub reads : List Fact → Reads
@@ -64,7 +64,6 @@ reads facts = record {
   auths = auths_of (moves_of facts);
   presence = list_any is_presence (moves_of facts);
   limits = limits_of facts;
-  deadlines = deadlines_of facts;
   digest = digest_of_moves (moves_of facts);
 }
 
@@ -89,10 +88,6 @@ any-bound f same (fact ∷ facts) =
 limits-bound : (facts : List Fact) → limits_of (map bind_of facts) ≡ limits_of facts
 limits-bound [] = refl
 limits-bound (fact ∷ facts) = ap (λ rest. listed fact.cp_hash ++ rest) (limits-bound facts)
-
-deadlines-bound : (facts : List Fact) → deadlines_of (map bind_of facts) ≡ deadlines_of facts
-deadlines-bound [] = refl
-deadlines-bound (fact ∷ facts) = ap (λ rest. listed fact.deadline ++ rest) (deadlines-bound facts)
 
 code-bound : (assertion : Assertion) → code_in (bound_assertion assertion) ≡ code_in assertion
 code-bound (assertions.Pcr mask digest values) = refl
@@ -150,7 +145,6 @@ reads-bound facts =
     let auths = each-bound (in_assertion auth_in) (in-bound auth_in auth-bound) facts in
     let presence = any-bound is_presence presence-bound facts in
     let limits = limits-bound facts in
-    let deadlines = deadlines-bound facts in
     let digest = digest-bound zero_digest facts in
     λ i. record {
       codes = codes i;
@@ -162,7 +156,6 @@ reads-bound facts =
       auths = auths i;
       presence = presence i;
       limits = limits i;
-      deadlines = deadlines i;
       digest = digest i;
     }
 
@@ -190,6 +183,40 @@ from-start start (byte ∷ bytes) whole = refl
 deadline-same : (start : ℕ) (nonce : Digest32) (expiration : ℤ) → deadline_of start nonce.bytes expiration ≡ deadline_from start expiration
 deadline-same start nonce expiration =
     ap (λ n. if unsigned_abs expiration == 0 then None else Some (n + milliseconds expiration)) (from-start start nonce.bytes nonce.whole)
+
+-- which has not passed at its start
+pub before-deadline : (start : ℕ) (nonce : Digest32) (expiration : ℤ) → is_before start (deadline_of start nonce.bytes expiration) ≡ true
+before-deadline start nonce expiration = ap (is_before start) (deadline-same start nonce expiration) ∙ at (unsigned_abs expiration == 0)
+  where
+    later : nat_le start (start + milliseconds expiration) ≡ true
+    later = grind (arith, nat_tests)
+
+    at : (b : Bool) → is_before start (if b then None else Some (start + milliseconds expiration)) ≡ true
+    at true = refl
+    at false = later
+
+-- ---- one more fact
+
+first-in-time : (deadline : Option ℕ) (rest : List ℕ) (time : ℕ) → list_all (nat_le time) (listed deadline ++ rest) ≡ (is_before time deadline && list_all (nat_le time) rest)
+first-in-time None rest time = refl
+first-in-time (Some n) rest time = refl
+
+both-true : (b : Bool) → (b && true) ≡ b
+both-true true = refl
+both-true false = refl
+
+three : (a b c : Bool) → (a && (b && c)) ≡ ((a && b) && c)
+three true b c = refl
+three false b c = refl
+
+-- all are in time where those before are and the last is
+pub more-in-time : (facts : List Fact) (fact : Fact) (time : ℕ) → is_in_time (facts ++ fact ∷ []) time ≡ (is_in_time facts time && is_before time fact.deadline)
+more-in-time [] fact time = first-in-time fact.deadline [] time ∙ both-true (is_before time fact.deadline)
+more-in-time (first ∷ facts) fact time =
+    first-in-time first.deadline (deadlines_of (facts ++ fact ∷ [])) time
+    ∙ ap (λ b. is_before time first.deadline && b) (more-in-time facts fact time)
+    ∙ three (is_before time first.deadline) (is_in_time facts time) (is_before time fact.deadline)
+    ∙ ap (λ b. b && is_before time fact.deadline) (sym (first-in-time first.deadline (deadlines_of facts) time))
 
 -- ---- rules
 
@@ -239,7 +266,7 @@ module _ (kept chosen : SessionState) (alike : AreAlike kept chosen) where
   pcr-alike counter selected given =
       ap (λ (first : Option ℕ). or_else (unless (is_counter_now first counter) rc_pcr_changed) (unless (is_digest_or_none selected given) (rc_value + of_parameter 1))) alike.counter
 
-  optional-alike : (cp_hash : Option Digest32) → takes_optional_cp_hash kept.facts cp_hash ≡ takes_optional_cp_hash chosen.facts cp_hash
+  pub optional-alike : (cp_hash : Option Digest32) → takes_optional_cp_hash kept.facts cp_hash ≡ takes_optional_cp_hash chosen.facts cp_hash
   optional-alike None = refl
   optional-alike (Some digest) = ap (λ (r : Reads). takes_cp r digest) same
 

@@ -54,6 +54,7 @@ use Rattle.tpol_laws.specs.Acts.{Course, Run, Turn, after_act, answer_in, event_
 use Rattle.tpol_laws.specs.Runs.{IsRun}
 use Rattle.tpol_laws.proofs.Answered.{done-deed, done-use, own-passed, read-back}
 use Rattle.tpol_laws.proofs.Fit.{fits-verify, object-handle}
+use Rattle.tpol_laws.proofs.HeldTickets.{none-for-approval}
 use Rattle.tpol_laws.proofs.Kept.{Held, idles}
 use Rattle.tpol_laws.proofs.Moved.{Moved, after_sent, carried-out, chooser-now, move-sends, shown-moved, stands-live}
 use Rattle.tpol_laws.proofs.Named.{object-found}
@@ -125,6 +126,7 @@ module _ (run : Run) (is : IsRun run) (first past : List Event) (session : Sessi
         unsaved = ap (λ (h : Held). h.sequence) idle.held ∙ on.unsaved;
         nonce = ap (λ (h : Held). h.state.nonce) idle.held ∙ on.nonce;
         alike = subst (λ (s : SessionState). AreAlike s chosen) (sym (ap (λ (h : Held). h.state) idle.held)) on.alike;
+        since = on.since;
         world = idle.world ∙ on.world;
       } in
       let heard : goes_on session sent done (move_heard None (Approve key policy_ref approved signature) (done + 1) (answer_of (reply_reading (number_of_code codes.VerifySignature) (answer_in run past (verify_of object policy_ref approved signature)).reply))) ≡ Moving session (sent + 1) (Some it.ticket) done =
@@ -137,7 +139,7 @@ module _ (run : Run) (is : IsRun run) (first past : List Event) (session : Sessi
             ∙ ap (λ (w : WorldState). verification.ticket_of w (approval_hash approved policy_ref) object) on.world;
         moved = record {
           past = event_in run past (verify_of object policy_ref approved signature) ∷ past;
-          is = move-sends run is.directory is.tickets past session sent None done (Approve key policy_ref approved signature) at
+          is = move-sends run is.directory past session sent None done (Approve key policy_ref approved signature) at (none-for-approval run.plan.tickets key policy_ref approved signature)
               ∙ ap (after_sent run past session sent None done (Some (Approve key policy_ref approved signature))) same
               ∙ ap (λ (s : Standing). record { past = event_in run past (verify_of object policy_ref approved signature) ∷ past; standing = s }) heard;
           stands = stands;
@@ -163,7 +165,7 @@ authorized-moved run is first past session sent done chosen on few key policy_re
     let same : verification.ticket_of (view_of run.setup past).world (approval_hash approved policy_ref) object ≡ ticket =
     ap (λ (w : WorldState). verification.ticket_of w (approval_hash approved policy_ref) object) on.world ∙ sym made in
     subst (Moved run first session (sent + 1) None (done + 1) (session_after (sight_after run.setup first) chosen (Approve key policy_ref approved signature)))
-    (sym (move-sends run is.directory is.tickets past session sent (Some ticket) done (Approve key policy_ref approved signature) at))
+    (sym (move-sends run is.directory past session sent (Some ticket) done (Approve key policy_ref approved signature) at (none-for-approval run.plan.tickets key policy_ref approved signature)))
     (shown-moved run first past session chosen on (Approve key policy_ref approved signature) (commands.PolicyAuthorize session.handle approved policy_ref key ticket) sent_by.fits sent_by.area sent done (Some ticket) sent_by.policy refl
     (subst (λ (c : Client). Passes (view_of run.setup past) run.locality session.handle (session_state run.setup past session.handle) c chosen (Approve key policy_ref approved signature) (commands.PolicyAuthorize session.handle approved policy_ref key ticket)) now
     (subst (λ (t : Ticket). Passes (view_of run.setup past) run.locality session.handle (session_state run.setup past session.handle) (client_on (view_of run.setup past).world free run.plan.grants run.plan.goal run.locality) chosen (Approve key policy_ref approved signature) (commands.PolicyAuthorize session.handle approved policy_ref key t)) same passes)))

@@ -42,6 +42,7 @@ use Rattle.tpol_tree.specs.Bounds.{HasClosedBounds}
 use Rattle.tpol_laws.specs.Acts.{Run}
 use Rattle.tpol_laws.specs.Runs.{IsBegun}
 use Rattle.tpol_laws.specs.Told.{AreBlocksOf, BeginsNowhere, BeginsOn, IsSighted, RunOf, before_begin, begins, behind_begin, chosen_for, paths_for, sight_at_begin}
+use Rattle.tpol_laws.specs.HeldTickets.{TicketHasBounds}
 use Rattle.tpol_laws.proofs.Finds.{all-at, find-each}
 use Rattle.tpol_laws.proofs.Followed.{any, allows-any}
 use Rattle.tpol_laws.proofs.Prints.{IsBehind, IsOther, Spares, all-spare, found-begun}
@@ -246,7 +247,7 @@ module _ (staged : StagedScene) (run : RunOf staged.script) (is : IsStaged stage
       record {
         setup = is.setup;
         directory = is.directory;
-        tickets = refl;
+        tickets = All-nil TicketHasBounds;
         grants = grants-at staged.scenario.clients run.client is.grants;
         moves = named.moves;
         short = named.short;

@@ -5,6 +5,7 @@ use Rattle.std.specs.Prelude.{⊤, All, Option, Some, None, is_none, slice_get, 
 use Rattle.std.proofs.lemmas.Bool.{false≢true}
 use Rattle.std.proofs.lemmas.Bool.Decides.{nat_tests}
 use Rattle.std.proofs.lemmas.Option.{same_Some}
+use Rattle.std.proofs.lemmas.List.Elements.{All-nil}
 use Rattle.tpm_engine.specs.declared.event.Event.{Event}
 use Rattle.tpm_engine.specs.SessionCommands.{start_rule}
 use Rattle.tpm_engine.specs.Sights.{sight_after}
@@ -25,6 +26,7 @@ use Rattle.tpol_laws.specs.BlindRuns.{BlindChanceAt, BlindCourse, BlindRun, HasB
 use Rattle.tpol_laws.specs.GoalBytes.{goal_bytes}
 use Rattle.tpol_laws.specs.PathCommands.{commands_along, commands_of_moves}
 use Rattle.tpol_laws.specs.Runs.{IsBegun}
+use Rattle.tpol_laws.specs.HeldTickets.{TicketHasBounds}
 use Rattle.tpol_laws.proofs.BlindPaths.{IsFirst, commands_to, is-first, none-tried, path-at, rest-at, tried-here, tried-later}
 use Rattle.tpol_laws.proofs.BlindStarts.{Enters, IsClosed, IsDenied, IsEntered, refused-enters, started-enters, starts-or-denied}
 use Rattle.tpol_laws.proofs.BlindTurns.{ComesByChance, IsBlindServed, Mirrored, TryEnds, next-after, over-stays, trying, try-ends, try-served, turns-add}
@@ -135,7 +137,7 @@ module _ (mirrored : Mirrored) (run : BlindRun) (begins : IsBlindBegun run) (off
       record {
         setup = begins.setup;
         directory = begins.directory;
-        tickets = refl;
+        tickets = All-nil TicketHasBounds;
         grants = begins.grants;
         moves = subst (λ (p : Path). All MoveHasBounds p.moves) (sym same) (all-at (λ (p : Path). All MoveHasBounds p.moves) run.plan.paths place path begins.moves at);
         short = subst (λ (p : Path). length p.moves ≤ 512) (sym same) (all-at (λ (p : Path). length p.moves ≤ 512) run.plan.paths place path begins.short at);
@@ -178,7 +180,7 @@ module _ (mirrored : Mirrored) (run : BlindRun) (begins : IsBlindBegun run) (off
             let within : in_path.turns ≤ used + 1 = in_path.within in
             let open_there : first_block (plan_at run.plan place).path (sight_after run.setup first) run.plan.grants run.plan.goal run.locality ≡ None =
             ap (λ (p : Path). first_block p (sight_after run.setup first) run.plan.grants run.plan.goal run.locality) same ∙ none-of _ opens in
-            let served = open-served along (begun-along place path at) (complete tries) first in_path.past in_path.session in_path.sent in_path.stands open_there in
+            let served = open-served along (begun-along place path at) refl (complete tries) first in_path.past in_path.session in_path.sent in_path.stands open_there in
             served-from run first in_path.turns (commands_of_moves (plan_at run.plan place).path.moves + 1) total (trying in_path.past in_path.session in_path.sent place None 0 in_path.tries) (place + 1) given in_path.is
             (omega (arith, within, long, enough))
             (try-served mirrored run (commands_of_moves (plan_at run.plan place).path.moves + 1) in_path.past in_path.session in_path.sent place None 0 in_path.tries given served)
@@ -190,7 +192,7 @@ module _ (mirrored : Mirrored) (run : BlindRun) (begins : IsBlindBegun run) (off
             let in_path = entered tries in
             let blocked_there = ap (λ (p : Path). first_block p (sight_after run.setup first) run.plan.grants run.plan.goal run.locality) same ∙ blocked in
             try-ends mirrored run (commands_of_moves (plan_at run.plan place).path.moves + 1) first in_path.past in_path.session in_path.sent place None 0 in_path.tries
-            (blocked-ends along (begun-along place path at) (complete tries) first in_path.past in_path.session in_path.sent in_path.stands offsets rule block blocked_there)
+            (blocked-ends along (begun-along place path at) refl (complete tries) first in_path.past in_path.session in_path.sent in_path.stands offsets rule block blocked_there)
 
         behind : (tries : tried path ≡ true) → (found : Option ℕ) (most : ℕ)
             → TryEnds run first (entered tries).session (commands_of_moves (plan_at run.plan place).path.moves + 1) place (trying (entered tries).past (entered tries).session (entered tries).sent place None 0 (entered tries).tries)

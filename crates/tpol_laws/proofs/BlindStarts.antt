@@ -62,7 +62,7 @@ Enters run first used (Some next) = IsEntered run first used next
 stands-along : (run : BlindRun) (place next : ℕ) (first past : List Event) (session : Session) → Stands (run_of_try run place) first past session (fresh_session (sight_after run.setup first))
     → Stands (run_of_try run next) first past session (fresh_session (sight_after run.setup first))
 stands-along run place next first past session on =
-    record { slot = on.slot; held = on.held; unsaved = on.unsaved; nonce = on.nonce; alike = on.alike; world = on.world }
+    record { slot = on.slot; held = on.held; unsaved = on.unsaved; nonce = on.nonce; alike = on.alike; since = on.since; world = on.world }
 
 keeps-along : (run : BlindRun) (place next : ℕ) (first past : List Event) (session : Session) → Keeps (run_of_try run place) first past session → Keeps (run_of_try run next) first past session
 keeps-along run place next first past session on =

@@ -45,7 +45,7 @@ act-open run first number chosen act rest opens behind = λ i. or_else (block_of
 
 -- ---- move after move
 
-module _ (run : Run) (is : IsRun run) (begins : IsBegun run) (offsets : HasShortOffset run.plan.goal) (first : List Event) where
+module _ (run : Run) (is : IsRun run) (begins : IsBegun run) (none : run.plan.tickets ≡ []) (offsets : HasShortOffset run.plan.goal) (first : List Event) where
   -- what a run comes to from here, within as many turns
   abbrev Comes : ℕ → List Event → Session → ℕ → ℕ → ℕ → SessionState → List Move → Type 0
   Comes turns past session sent done number chosen rest = IsOpen run first number chosen rest ⊎ HasChance run turns (on_path past session sent None done)
@@ -65,7 +65,7 @@ module _ (run : Run) (is : IsRun run) (begins : IsBegun run) (offsets : HasShort
       → Comes turns later session (sent + 1) (done + 1) (number + 1) (session_after (sight_after run.setup first) chosen act) rest)
       → SucceedsAfter run (suc turns) (on_path past session sent None done) → Comes (suc turns) past session sent done number chosen (act ∷ rest)
   plain-comes turns past session sent done number chosen act rest ahead other goes succeeds =
-      by (plain-goes run is first past session sent done chosen ahead.stands (has-room run first past session done chosen act rest ahead past ahead.stands) act at other
+      by (plain-goes run is none first past session sent done chosen ahead.stands (has-room run first past session done chosen act rest ahead past ahead.stands) act at other
       (all-at MoveHasBounds run.plan.path.moves done act is.moves at) (known-of run is past session sent done act at) turns next)
     where
       at : slice_get run.plan.path.moves done ≡ Some act
@@ -156,17 +156,17 @@ pub run-of : (run : Run) → IsBegun run → is_complete run.plan ≡ true → I
 run-of run begins complete = record { setup = begins.setup; directory = begins.directory; tickets = begins.tickets; grants = begins.grants; moves = begins.moves; complete = complete }
 
 -- a run that succeeds had an open path, or a chance
-run-comes : (run : Run) (first : List Event) (turns : ℕ) → IsBegun run → HasShortOffset run.plan.goal → is_complete run.plan ≡ true → SucceedsAfter run turns (begun first)
+run-comes : (run : Run) (first : List Event) (turns : ℕ) → IsBegun run → run.plan.tickets ≡ [] → HasShortOffset run.plan.goal → is_complete run.plan ≡ true → SucceedsAfter run turns (begun first)
     → (first_block run.plan.path (sight_after run.setup first) run.plan.grants run.plan.goal run.locality ≡ None) ⊎ HasChance run turns (begun first)
 unfolding first_block
-run-comes run first zero begins offsets complete succeeds = absurd (not-begun run first succeeds)
-run-comes run first (suc turns) begins offsets complete succeeds =
+run-comes run first zero begins none offsets complete succeeds = absurd (not-begun run first succeeds)
+run-comes run first (suc turns) begins none offsets complete succeeds =
     let next = next-turn run turns (begun first) succeeds in
     let rule = start-goes run first turns next in
     let start = start-moved run first rule in
     let inside = no-outside run.plan.path.outside (both (not run.plan.path.outside) (list_all (is_known_move run.plan.directory run.plan.grants) run.plan.path.moves) complete).0 in
     by (start-moved run first rule) (whole-open run first inside rule)
-    (moves-come run (run-of run begins complete) begins offsets first run.plan.path.moves turns start.moved.past start.session 1 0 1 (fresh_session (sight_after run.setup first)) (all-ahead run first start begins.short)
+    (moves-come run (run-of run begins complete) begins none offsets first run.plan.path.moves turns start.moved.past start.session 1 0 1 (fresh_session (sight_after run.setup first)) (all-ahead run first start begins.short)
     (subst (SucceedsAfter run turns) start.moved.is next))
   where
     by : (start : Begun run first) → whole_block (sight_after run.setup first) run.plan.path.outside ≡ None
@@ -176,9 +176,9 @@ run-comes run first (suc turns) begins offsets complete succeeds =
     by start whole (inr chance) = inr (chance-later run turns (begun first) (subst (HasChance run turns) (sym start.moved.is) chance))
 
 -- one that was blocked had a chance
-pub blocked-chance : (run : Run) (first : List Event) (turns : ℕ) (block : Block) → IsBegun run → HasShortOffset run.plan.goal → is_complete run.plan ≡ true
+pub blocked-chance : (run : Run) (first : List Event) (turns : ℕ) (block : Block) → IsBegun run → run.plan.tickets ≡ [] → HasShortOffset run.plan.goal → is_complete run.plan ≡ true
     → first_block run.plan.path (sight_after run.setup first) run.plan.grants run.plan.goal run.locality ≡ Some block → SucceedsAfter run turns (begun first) → HasChance run turns (begun first)
-blocked-chance run first turns block begins offsets complete blocked succeeds = by (run-comes run first turns begins offsets complete succeeds)
+blocked-chance run first turns block begins none offsets complete blocked succeeds = by (run-comes run first turns begins none offsets complete succeeds)
   where
     by : (first_block run.plan.path (sight_after run.setup first) run.plan.grants run.plan.goal run.locality ≡ None) ⊎ HasChance run turns (begun first) → HasChance run turns (begun first)
     by (inl opens) = absurd (none-some block (sym opens ∙ blocked))

@@ -191,7 +191,7 @@ module _ (setup : Setup) (is : IsSetup setup) (tables : TableState) (of : IsKept
 
 module _ (setup : Setup) (is : IsSetup setup) (tables : TableState) (of : IsKept setup tables.world) (free locality : ℕ) (plan : Plan) (directory : plan.directory ≡ directory_of setup)
     (session : Session) (sent : ℕ) (slot : IsSlotHandle session.handle) (kept chosen : SessionState) (live : state_at tables.sessions session.handle ≡ Some kept)
-    (alike : AreAlike kept chosen) (auth : auth_of_path plan.path.moves ≡ (last_auth kept.facts))
+    (alike : AreAlike kept chosen) (since : chosen.start ≡ tables.world.time) (auth : auth_of_path plan.path.moves ≡ (last_auth kept.facts))
     (found : Judged) (sees : judged (sight_of tables.world free) plan.goal ≡ Some found) (at : IsGoalAt setup tables free plan.goal found)
     (first : first_stop tables locality (goal_command plan session sent) ≡ None) where
   abbrev area : AuthArea
@@ -228,7 +228,7 @@ module _ (setup : Setup) (is : IsSetup setup) (tables : TableState) (of : IsKept
   before-none : broken_before_auth chosen (goal_use (client_of (sight_of tables.world free) plan.grants plan.goal locality) found.found) (auth_policy_of entity) ≡ None
   before-none =
       ap (λ (u : Use). broken_before_auth chosen u (auth_policy_of entity)) (sym (use-same setup tables free locality plan session sent found at))
-      ∙ sym (before-alike kept chosen alike (occasion_of tables locality command entity) (auth_policy_of entity)) ∙ proved.0
+      ∙ sym (before-alike kept chosen alike (occasion_of tables locality command entity) (sym since) (auth_policy_of entity)) ∙ proved.0
 
   rule-none : found.rule ≡ None
   rule-none = sym (shape-rule tables plan.goal area ∙ at.rule area) ∙ own-passed tables locality command first

@@ -1,5 +1,5 @@
 -- What the machine carries out of a run nothing blocks for its chooser: the start, a move, an approval, the goal.
-use Rattle.std.proofs.Common.{◌≡◌, ◌<◌, ◌⊎◌, inl, inr, ℕ, zero, suc, ◌+◌, Bool, true, false, not, List, length, nat_eq, refl, ap, sym, subst, ◌∙◌, arith}
+use Rattle.std.proofs.Common.{◌≡◌, ◌<◌, ◌⊎◌, inl, inr, ℕ, zero, suc, ◌+◌, Bool, true, false, not, List, [], length, nat_eq, refl, ap, sym, subst, ◌∙◌, arith}
 use Rattle.std.specs.Prelude.{Option, Some, None, is_some, option_map, slice_get, if◌then◌else◌}
 use Rattle.std.specs.Option.{option_or}
 use Rattle.std.proofs.lemmas.Bool.{false≢true}
@@ -53,7 +53,7 @@ use Rattle.tpol_laws.specs.Runs.{IsBegun, IsRun}
 use Rattle.tpol_laws.proofs.Answered.{own-passed, refusal-read}
 use Rattle.tpol_laws.proofs.Codes.{HasCode, policy-own-coded, rules-coded, start-coded, verify-coded}
 use Rattle.tpol_laws.proofs.Fit.{fits-start, fits-verify, object-handle, value-short}
-use Rattle.tpol_laws.proofs.Moved.{Moved, after_sent, chooser-now, plain-moved, stands-live, turn-sends}
+use Rattle.tpol_laws.proofs.Moved.{Moved, after_sent, chooser-now, plain-moved, stands-live, turn-sends, time-now}
 use Rattle.tpol_laws.proofs.Standing.{Stands, chooser_of, judged_after}
 use Rattle.tpol_laws.proofs.Step.{is-of}
 use Rattle.std.proofs.lemmas.Bool.Decides.{nat_tests}
@@ -73,6 +73,7 @@ use Rattle.tpol_laws.proofs.Named.{object-found}
 use Rattle.tpol_laws.proofs.Own.{IsOwn, own-is-policy, own-move}
 use Rattle.tpol_laws.proofs.Passing.{client_on}
 use Rattle.tpol_laws.proofs.Seen.{object-line, see-object, some-map}
+use Rattle.tpol_laws.proofs.HeldTickets.{none-for-approval, none-without, usable-without}
 
 -- ---- a move that needs no ticket
 
@@ -90,10 +91,10 @@ chance-at run directory past session sent done act at chance =
     subst (ChanceOf run past session sent None) (sym at)
     (subst (λ (d : List DirEntry). SignsByChance run.plan.grants (world_at run.setup past) (command_of_move d run.plan.grants session None act)) (sym directory) chance)
 
-pub plain-step : (run : Run) → IsRun run → (first past : List Event) (session : Session) (sent done : ℕ) (chosen : SessionState) → Stands run first past session chosen → length (session_state run.setup past session.handle).facts < 512
+pub plain-step : (run : Run) → IsRun run → run.plan.tickets ≡ [] → (first past : List Event) (session : Session) (sent done : ℕ) (chosen : SessionState) → Stands run first past session chosen → length (session_state run.setup past session.handle).facts < 512
     → (act : Move) → slice_get run.plan.path.moves done ≡ Some act → is_verification None act ≡ false → MoveHasBounds act → is_known_move (directory_of run.setup) run.plan.grants act ≡ true
     → first_stop (view_of run.setup past) run.locality (command_of_move (directory_of run.setup) run.plan.grants session None act) ≡ None → Goes run first past session sent done chosen act ⊎ IsByChance run (on_path past session sent None done)
-plain-step run is first past session sent done chosen on few act at other bounds known unstopped =
+plain-step run is none first past session sent done chosen on few act at other bounds known unstopped =
     let free = free_count (view_of run.setup first).sessions (bits_of (view_of run.setup first).saved) in
     by (move-opens run.setup is.setup (view_of run.setup past) (is-of run.setup past) free run.plan.grants run.plan.goal run.locality session.handle (session_state run.setup past session.handle)
     (stands-live run first past session chosen on) session.nonce on.nonce chosen on.alike act other known unstopped)
@@ -103,16 +104,16 @@ plain-step run is first past session sent done chosen on few act at other bounds
         → Goes run first past session sent done chosen act ⊎ IsByChance run (on_path past session sent None done)
     by (inl opens) =
         let now = subst (λ (c : Client). move_block c chosen act ≡ None) (chooser-now run first past on.world) opens in
-        inl (record { opens = now; moved = plain-moved run is first past session sent done chosen on few act at other bounds known now })
+        inl (record { opens = now; moved = plain-moved run is first (usable-without run.setup first run.plan.tickets none) past session sent done chosen on few act at other bounds known now })
     by (inr chance) = inr (chance-at run is.directory past session sent done act at chance)
 
-pub plain-goes : (run : Run) → IsRun run → (first past : List Event) (session : Session) (sent done : ℕ) (chosen : SessionState) → Stands run first past session chosen → length (session_state run.setup past session.handle).facts < 512
+pub plain-goes : (run : Run) → IsRun run → run.plan.tickets ≡ [] → (first past : List Event) (session : Session) (sent done : ℕ) (chosen : SessionState) → Stands run first past session chosen → length (session_state run.setup past session.handle).facts < 512
     → (act : Move) → slice_get run.plan.path.moves done ≡ Some act → is_verification None act ≡ false → MoveHasBounds act → is_known_move (directory_of run.setup) run.plan.grants act ≡ true
     → (turns : ℕ) → SucceedsAfter run turns (after_act run (on_path past session sent None done) Turn) → Goes run first past session sent done chosen act ⊎ IsByChance run (on_path past session sent None done)
-plain-goes run is first past session sent done chosen on few act at other bounds known turns succeeds =
+plain-goes run is none first past session sent done chosen on few act at other bounds known turns succeeds =
     let made = own-move run.setup is.setup (view_of run.setup past).world (is-of run.setup past) run.plan.grants is.grants session.handle session.nonce on.slot None act tt bounds known other in
-    plain-step run is first past session sent done chosen on few act at other bounds known
-    (move-unstopped run is.directory is.tickets past session sent None done act at (command_of_move (directory_of run.setup) run.plan.grants session None act) refl made.fits
+    plain-step run is none first past session sent done chosen on few act at other bounds known
+    (move-unstopped run is.directory past session sent None done act at (none-without run.plan none act) (command_of_move (directory_of run.setup) run.plan.grants session None act) refl made.fits
     (own-coded run past session.handle act (command_of_move (directory_of run.setup) run.plan.grants session None act) made) turns succeeds)
 
 -- ---- an approval
@@ -173,7 +174,7 @@ pub verify-goes : (run : Run) → IsRun run → (first past : List Event) (sessi
 verify-goes run is first past session sent done chosen on key policy_ref approved signature at known turns succeeds =
     let can = verifiable run is past session key policy_ref approved signature known in
     verify-step run is first past session sent done chosen on key policy_ref approved signature at known
-    (move-unstopped run is.directory is.tickets past session sent None done (Approve key policy_ref approved signature) at (command_of_move (directory_of run.setup) run.plan.grants session None (Approve key policy_ref approved signature)) refl can.fits can.coded turns succeeds)
+    (move-unstopped run is.directory past session sent None done (Approve key policy_ref approved signature) at (none-for-approval run.plan.tickets key policy_ref approved signature) (command_of_move (directory_of run.setup) run.plan.grants session None (Approve key policy_ref approved signature)) refl can.fits can.coded turns succeeds)
 
 -- its second turn, with the ticket
 pub record Authorized (run : Run) (first past : List Event) (session : Session) (sent done : ℕ) (chosen : SessionState) (ticket : Ticket) (act : Move) : Type 0 where
@@ -204,7 +205,7 @@ pub authorize-goes : (run : Run) → IsRun run → (first past : List Event) (se
 authorize-goes run is first past session sent done chosen on few key policy_ref approved signature at bounds known object shown verified ticket fits made turns succeeds =
     let own = own-move run.setup is.setup (view_of run.setup past).world (is-of run.setup past) run.plan.grants is.grants session.handle session.nonce on.slot (Some ticket) (Approve key policy_ref approved signature) fits bounds known refl in
     authorize-step run is first past session sent done chosen on few key policy_ref approved signature at bounds known object shown verified ticket fits made
-    (move-unstopped run is.directory is.tickets past session sent (Some ticket) done (Approve key policy_ref approved signature) at (commands.PolicyAuthorize session.handle approved policy_ref key ticket) refl own.fits
+    (move-unstopped run is.directory past session sent (Some ticket) done (Approve key policy_ref approved signature) at (none-for-approval run.plan.tickets key policy_ref approved signature) (commands.PolicyAuthorize session.handle approved policy_ref key ticket) refl own.fits
     (own-coded run past session.handle (Approve key policy_ref approved signature) (commands.PolicyAuthorize session.handle approved policy_ref key ticket) own) turns succeeds)
 
 -- ---- the goal
@@ -247,7 +248,7 @@ module _ (run : Run) (is : IsBegun run) (offsets : HasShortOffset run.plan.goal)
       let it = goal-found run.setup is.setup (view_of run.setup past) (is-kept run.setup past) free run.plan.goal is.among in
       let there = goal-at run.setup is.setup (view_of run.setup past) (is-kept run.setup past) free run.plan.goal it.value is.fits is.among it.is in
       by (goal-opens run.setup is.setup (view_of run.setup past) (is-kept run.setup past) free run.locality run.plan is.directory session sent on.slot (session_state run.setup past session.handle) (judged_after run first run.plan.path.moves)
-      (stands-live run first past session (judged_after run first run.plan.path.moves) on) on.alike (auth-kept run first past session on) it.value it.is there unstopped)
+      (stands-live run first past session (judged_after run first run.plan.path.moves) on) on.alike (on.since ∙ time-now run first past on.world) (auth-kept run first past session on) it.value it.is there unstopped)
     where
       by : (goal_block (client_on (view_of run.setup past).world free run.plan.grants run.plan.goal run.locality) (judged_after run first run.plan.path.moves) ≡ None)
           ⊎ IsProvedByChance run.plan (view_of run.setup past).world (session_state run.setup past session.handle).nonce session sent

@@ -1,5 +1,5 @@
 -- A run that succeeds later: the machine carries out its next command.
-use Rattle.std.proofs.Common.{◌≡◌, ◌≤◌, ◌⊎◌, inl, inr, ℕ, zero, suc, ◌+◌, true, List, [], ◌∷◌, length, replicate, ap, sym, subst, ◌∙◌, arith}
+use Rattle.std.proofs.Common.{◌≡◌, ◌≤◌, ◌⊎◌, inl, inr, ℕ, zero, suc, ◌+◌, true, List, ◌∷◌, length, replicate, ap, sym, subst, ◌∙◌, arith}
 use Rattle.std.specs.Prelude.{Option, Some, None, slice_get, ⊤}
 use Rattle.std.proofs.lemmas.Bool.{false≢true}
 use Rattle.std.proofs.lemmas.Option.{none-some, same_Some, slice_get_within}
@@ -15,6 +15,7 @@ use Rattle.tpol_driver.specs.Answers.{answer_of}
 use Rattle.tpol_driver.specs.Commands.{command_of_move}
 use Rattle.tpol_driver.specs.Driving.{Closing, Moving, Over, Standing, Starting, goes_on, move_heard, sends}
 use Rattle.tpol_driver.specs.States.{is_over}
+use Rattle.tpol_driver.specs.Tickets.{ticket_for}
 use Rattle.tpol_name.specs.Directories.{directory_of}
 use Rattle.tpol_tree.specs.declared.path.Move.{Move}
 use Rattle.tpol_wire.specs.declared.auth_area.ReplyAuth.{ReplyAuth}
@@ -123,16 +124,16 @@ refused-move : (session : Session) (sent done : ℕ) (ticket : Option Ticket) (a
 refused-move session sent done ticket act number code is =
     subst (λ (read : Option (Reply × Option ReplyAuth)). HasFailed (goes_on session sent done (move_heard ticket act (done + 1) (answer_of read)))) (sym (refusal-read number code is)) tt
 
--- before a move that succeeds later, its command is not stopped
-pub move-unstopped : (run : Run) → run.plan.directory ≡ directory_of run.setup → run.plan.tickets ≡ [] → (past : List Event) (session : Session) (sent : ℕ) (ticket : Option Ticket) (done : ℕ) (act : Move) → slice_get run.plan.path.moves done ≡ Some act
-    → (command : Command) → command_of_move (directory_of run.setup) run.plan.grants session ticket act ≡ command
+-- before a move that succeeds later, and that no ticket stands for, its command is not stopped
+pub move-unstopped : (run : Run) → run.plan.directory ≡ directory_of run.setup → (past : List Event) (session : Session) (sent : ℕ) (ticket : Option Ticket) (done : ℕ) (act : Move) → slice_get run.plan.path.moves done ≡ Some act
+    → ticket_for run.plan.tickets act ≡ None → (command : Command) → command_of_move (directory_of run.setup) run.plan.grants session ticket act ≡ command
     → FitsCommand command → HasCode (own_rule (view_of run.setup past) command)
     → (turns : ℕ) → SucceedsAfter run turns (after_act run (on_path past session sent ticket done) Turn) → first_stop (view_of run.setup past) run.locality command ≡ None
-move-unstopped run directory tickets past session sent ticket done act at command same fits own turns succeeds =
+move-unstopped run directory past session sent ticket done act at none command same fits own turns succeeds =
     unstopped-by run past command fits own
     (λ bytes. goes_on session sent done (move_heard ticket act (done + 1) (answer_of (reply_reading (number_of_code (code_of_command command)) bytes))))
     (refused-move session sent done ticket act (number_of_code (code_of_command command))) turns
-    (subst (SucceedsAfter run turns) (move-sends run directory tickets past session sent ticket done act at ∙ ap (after_sent run past session sent ticket done (Some act)) same) succeeds)
+    (subst (SucceedsAfter run turns) (move-sends run directory past session sent ticket done act at none ∙ ap (after_sent run past session sent ticket done (Some act)) same) succeeds)
 
 -- a run that stands before a move does not succeed yet
 pub not-yet : (run : Run) (past : List Event) (session : Session) (sent : ℕ) (ticket : Option Ticket) (done : ℕ) (act : Move) → slice_get run.plan.path.moves done ≡ Some act

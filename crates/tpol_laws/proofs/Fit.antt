@@ -197,6 +197,12 @@ module _ (session : ℕ) (own : IsHandle is_policy_session session) where
   fits-authorize approved policy_ref key ticket short name fits =
       record { handles = ((own.low, own.kind), tt); area = tt; parameters = (tt, (short, (name-fits key name, (fits, tt)))) }
 
+  pub fits-ticket : (deadline : ℕ) (cp_hash : Option Digest32) (policy_ref : List ℕ) (key : Name) (ticket : Ticket) → deadline < 2 ^ 64 → length policy_ref ≤ 64 → NameHasBounds key → TicketFits ticket
+      → FitsCommand (commands.PolicyTicket session deadline cp_hash policy_ref key ticket)
+  unfolding ValuesFit Fits
+  fits-ticket deadline cp_hash policy_ref key ticket few short name fits =
+      record { handles = ((own.low, own.kind), tt); area = tt; parameters = ((few, refl), (tt, (short, (name-fits key name, (fits, tt))))) }
+
   pub fits-signed : (key : ℕ) (nonce : Digest32) (cp_hash : Option Digest32) (policy_ref : List ℕ) (expiration : ℤ) (signature : Digest32) → IsHandle is_object key → length policy_ref ≤ 64 → FitsSigned w32 expiration
       → FitsCommand (commands.PolicySigned key session nonce.bytes cp_hash policy_ref expiration signature)
   unfolding ValuesFit Fits

@@ -80,7 +80,7 @@ use Rattle.tpol_laws.proofs.GoalShape.{shape-entity, shape-reply, shape-rule}
 use Rattle.tpol_laws.proofs.GoalUses.{area-fits, no-password, use-same}
 use Rattle.tpol_laws.proofs.Heard.{IsAcceptance}
 use Rattle.tpol_laws.proofs.Lasting.{IsKept, is-kept}
-use Rattle.tpol_laws.proofs.Moved.{carried-out, chooser-now, stands-live}
+use Rattle.tpol_laws.proofs.Moved.{carried-out, chooser-now, stands-live, time-now}
 use Rattle.tpol_laws.proofs.Passing.{client_on}
 use Rattle.tpol_laws.proofs.Standing.{ServesGoal, Stands, judged_after}
 
@@ -118,7 +118,7 @@ module _ (setup : Setup) (is : IsSetup setup) (tables : TableState) (of : IsKept
     (short : length (goal_secret plan) ≤ 32) (fits : IsGoal plan.goal)
     (among : IsGoalAmong (map (λ (o : ObjectEntry). o.handle) setup.objects) (map (λ (i : IndexEntry). i.public.index) setup.indices) plan.goal)
     (session : Session) (sent : ℕ) (slot : IsSlotHandle session.handle) (kept chosen : SessionState) (live : state_at tables.sessions session.handle ≡ Some kept) (nonce : kept.nonce ≡ session.nonce)
-    (alike : AreAlike kept chosen) (auth : auth_of_path plan.path.moves ≡ (last_auth kept.facts))
+    (alike : AreAlike kept chosen) (since : chosen.start ≡ tables.world.time) (auth : auth_of_path plan.path.moves ≡ (last_auth kept.facts))
     (shown : IsOpen (client_of (sight_of tables.world free) plan.grants plan.goal locality) chosen (judged (sight_of tables.world free) plan.goal)) where
   goal-is : IsGoalAt setup tables free plan.goal shown.found
   goal-is = goal-at setup is tables of free plan.goal shown.found fits among shown.is
@@ -162,7 +162,7 @@ module _ (setup : Setup) (is : IsSetup setup) (tables : TableState) (of : IsKept
 
   broken-none : broken_check tables locality command area entity kept ≡ None
   broken-none =
-      no-check kept chosen alike (occasion_of tables locality command entity) (auth_policy_of entity) (is_planned plan.grants shown.found.found) (proves (field_of tables command area kept) (auth_value_of entity))
+      no-check kept chosen alike (occasion_of tables locality command entity) (sym since) (auth_policy_of entity) (is_planned plan.grants shown.found.found) (proves (field_of tables command area kept) (auth_value_of entity))
       (ap (λ (u : Use). first_broken_check chosen u (auth_policy_of entity) (is_planned plan.grants shown.found.found)) (use-same setup tables free locality plan session sent shown.found goal-is) ∙ shown.checks)
       (λ right. field-right plan session sent shown.found.found goal-is.handle goal-is.value (last_auth kept.facts) (cp_hash tables.world command) kept.nonce auth nonce driven-same right)
 
@@ -253,10 +253,11 @@ serves-goal run is first past session sent on none =
     let live = stands-live run first past session (judged_after run first run.plan.path.moves) on in
     let now = subst (λ (c : Client). goal_block c (judged_after run first run.plan.path.moves) ≡ None) (sym (chooser-now run first past on.world)) none in
     let shown = opens (client_on (view_of run.setup past).world free run.plan.grants run.plan.goal run.locality) (judged_after run first run.plan.path.moves) (judged (sight_of (view_of run.setup past).world free) run.plan.goal) now in
+    let since = on.since ∙ time-now run first past on.world in
     let auth = auth-kept run first past session on in
     let short = value-short run.plan.grants.secrets (entity_of_goal run.plan.goal) is.grants.secrets in
-    let stops = nothing-stops run.setup is.setup tables (is-kept run.setup past) free run.locality (next_number past) run.plan is.directory short is.fits is.among session sent on.slot kept chosen live on.nonce on.alike auth shown in
-    let fits = command-fits run.setup is.setup tables (is-kept run.setup past) free run.locality (next_number past) run.plan is.directory short is.fits is.among session sent on.slot kept chosen live on.nonce on.alike auth shown in
+    let stops = nothing-stops run.setup is.setup tables (is-kept run.setup past) free run.locality (next_number past) run.plan is.directory short is.fits is.among session sent on.slot kept chosen live on.nonce on.alike since auth shown in
+    let fits = command-fits run.setup is.setup tables (is-kept run.setup past) free run.locality (next_number past) run.plan is.directory short is.fits is.among session sent on.slot kept chosen live on.nonce on.alike since auth shown in
     ap (λ (a : Answered). goal_heard run.plan sent (answer_of (reply_reading (number_of_code (code_of_command (goal_command run.plan session sent))) a.reply))) (carried-out run past (goal_command run.plan session sent) fits stops)
-    ∙ heard-served run.setup is.setup tables (is-kept run.setup past) free run.locality (next_number past) run.plan is.directory short is.fits is.among session sent on.slot kept chosen live on.nonce on.alike auth shown
+    ∙ heard-served run.setup is.setup tables (is-kept run.setup past) free run.locality (next_number past) run.plan is.directory short is.fits is.among session sent on.slot kept chosen live on.nonce on.alike since auth shown
     ∙ ap ends.Served (gives-world run past session sent)

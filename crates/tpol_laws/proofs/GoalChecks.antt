@@ -1,7 +1,6 @@
 -- The deferred checks of sessions that rules cannot tell apart, and of one session by two judges of the value.
-use Rattle.std.proofs.Common.{◌≡◌, ℕ, ◌&&◌, ◌||◌, not, Bool, true, List, fold, Option, None, Some, nat_eq, nat_le, bit_and, refl, ap, sym, ◌∙◌}
+use Rattle.std.proofs.Common.{◌≡◌, ℕ, ◌&&◌, ◌||◌, not, Bool, true, List, fold, Option, None, Some, nat_eq, bit_and, refl, ap, sym, subst, ◌∙◌}
 use Rattle.std.specs.Bool.{beq}
-use Rattle.std.specs.List.{list_all}
 use Rattle.std.specs.Str.{bytes_eq}
 use Rattle.tpol_base.specs.declared.check.Check.TheVariants.{PcrChanged, PolicyFail, Expired, CommandCode, RoleNeedsCode, Locality, Presence, Hashes, NvWritten, AuthValue}
 use Rattle.tpol_tree.specs.declared.facts.Fact.{Fact}
@@ -30,13 +29,19 @@ asked-plain : (facts : List Fact) (written : Option Bool) → is_written_as_aske
 asked-plain facts None = refl
 asked-plain facts (Some written) = refl
 
-module _ (kept chosen : SessionState) (alike : AreAlike kept chosen) (occasion : Use) where
+module _ (kept chosen : SessionState) (alike : AreAlike kept chosen) (occasion : Use) (still : occasion.time ≡ chosen.start) where
+  -- the time of the use is that at which the session began
+  in-time : is_in_time kept.facts occasion.time ≡ is_in_time chosen.facts occasion.time
+  in-time = subst (λ (t : ℕ). is_in_time kept.facts t ≡ is_in_time chosen.facts t) (sym still) alike.in_time
+
   digest-alike : (policy : List ℕ) → broken_digest kept occasion policy ≡ broken_digest chosen occasion policy
   digest-alike policy =
       ap (λ (first : Option ℕ). or_else (unless (is_counter_now first occasion.pcr_counter) PcrChanged)
       (or_else (unless (bytes_eq (policy_digest_of kept).bytes policy) PolicyFail) (unless (is_in_time kept.facts occasion.time) Expired))) alike.counter
       ∙ ap (λ (r : Reads). or_else (unless (is_counter_now chosen.counter occasion.pcr_counter) PcrChanged)
-      (or_else (unless (bytes_eq r.digest.bytes policy) PolicyFail) (unless (list_all (nat_le occasion.time) r.deadlines) Expired))) (same-reads kept chosen alike)
+      (or_else (unless (bytes_eq r.digest.bytes policy) PolicyFail) (unless (is_in_time kept.facts occasion.time) Expired))) (same-reads kept chosen alike)
+      ∙ ap (λ (timely : Bool). or_else (unless (is_counter_now chosen.counter occasion.pcr_counter) PcrChanged)
+      (or_else (unless (bytes_eq (policy_digest_of chosen).bytes policy) PolicyFail) (unless timely Expired))) in-time
 
   command-alike : broken_command kept occasion ≡ broken_command chosen occasion
   command-alike =
@@ -76,11 +81,11 @@ is-proved chosen occasion policy planned none =
     (parts.0, unless-none (planned (last_auth chosen.facts)) AuthValue parts.1)
 
 -- where the value is right for who plans, it is right for the machine: no check is broken
-pub no-check : (kept chosen : SessionState) → AreAlike kept chosen → (occasion : Use) (policy : List ℕ) (planned made : LastAuth → Bool)
+pub no-check : (kept chosen : SessionState) → AreAlike kept chosen → (occasion : Use) → occasion.time ≡ chosen.start → (policy : List ℕ) (planned made : LastAuth → Bool)
     → first_broken_check chosen occasion policy planned ≡ None
     → (planned (last_auth kept.facts) ≡ true → made (last_auth kept.facts) ≡ true)
     → first_broken_check kept occasion policy made ≡ None
-no-check kept chosen alike occasion policy planned made none right =
+no-check kept chosen alike occasion still policy planned made none right =
     let parts = is-proved chosen occasion policy planned none in
-    ap (λ first. or_else first (unless (made (last_auth kept.facts)) AuthValue)) (before-alike kept chosen alike occasion policy ∙ parts.0)
+    ap (λ first. or_else first (unless (made (last_auth kept.facts)) AuthValue)) (before-alike kept chosen alike occasion still policy ∙ parts.0)
     ∙ ap (λ b. unless b AuthValue) (right (ap planned (auth-alike kept chosen alike) ∙ parts.1))

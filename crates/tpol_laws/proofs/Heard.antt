@@ -16,6 +16,8 @@ use Rattle.tpol_driver.specs.Answers.{answer_of, answer_of_reply}
 use Rattle.tpol_driver.specs.Commands.{command_of_move, key_handle, start_command}
 use Rattle.tpol_driver.specs.Driving.{Closing, Moving, Over, Standing, Starting, goes_on, heard_on_path, is_verification, move_heard, next_command, sends, start_heard, verified}
 use Rattle.tpol_driver.specs.Plans.{is_known_move}
+use Rattle.tpol_driver.specs.declared.tickets.HeldTicket.{HeldTicket}
+use Rattle.tpol_driver.specs.Tickets.{ticket_command, ticket_for}
 use Rattle.tpol_goal.specs.Entities.{object_of_name}
 use Rattle.tpol_hash.specs.Sha256.{sha256_digest}
 use Rattle.tpol_name.specs.declared.entries.DirEntry.{DirEntry}
@@ -50,13 +52,14 @@ use Rattle.tpm_engine.specs.Views.{next_number, view_of}
 use Rattle.tpol_laws.specs.Acts.{Act, Run, after_acts, answer_in, begun, succeeds, turned}
 use Rattle.tpol_laws.specs.Others.{AreOthersApart, AreSecretsOnWritten, HasGoneOn, place_of}
 use Rattle.tpol_laws.specs.Runs.{IsRun}
-use Rattle.tpol_laws.proofs.NoTickets.{plain-command}
+use Rattle.tpol_laws.specs.HeldTickets.{TicketHasBounds}
 use Rattle.tpol_laws.proofs.Answered.{IsByPassword, on-answer, own-passed, read-back, stop-fails}
 use Rattle.tpol_laws.proofs.Finds.{all-at}
 use Rattle.tpol_laws.proofs.Fit.{fits-start}
 use Rattle.tpol_laws.proofs.Starts.{started}
 use Rattle.tpol_laws.proofs.Own.{IsOwn, own-move}
 use Rattle.tpol_laws.proofs.Step.{IsOn, IsOnPath, acts-on, is-of, known-at, some-ticket, verifies, verify-fits}
+use Rattle.tpol_laws.proofs.HeldTickets.{found-each, found-stands, held-command, own-ticket, plain-command, stands-other}
 
 -- a reply that is no refusal
 abbrev pub IsAcceptance : Reply → Type 0
@@ -238,12 +241,24 @@ module _ (run : Run) (is : IsRun run) (past : List Event) (own : ℕ) (nonce : D
       left : ((x : Move) × (done < length run.plan.path.moves) × (slice_get run.plan.path.moves done ≡ Some x) × (get_or run.plan.path.moves done x ≡ x)) ⊎ ((length run.plan.path.moves ≤ done) × (slice_get run.plan.path.moves done ≡ None)) → ⊥
       left (inl found) = none-some found.0 (sym at ∙ found.2)
       left (inr beyond) = absurd (omega (arith, within, beyond.0))
-  path-goes ticket (Some act) at within on success =
-      subst (λ (c : Command). is_success (answer_in run past c).outcome ≡ true
-      → HasGoneOn own done (place_of (heard_on_path run.plan (record { handle = own; nonce = nonce }) sent ticket done (Some act) (answer_of (reply_reading (number_of_code (code_of_command c)) (answer_in run past c).reply)))))
-      (sym (plain-command run.plan is.tickets (record { handle = own; nonce = nonce }) ticket act))
-      (subst (λ (d : List DirEntry). is_known_move d run.plan.grants act ≡ true → Goes d ticket act) (sym is.directory)
-      (move-goes ticket act on (all-at MoveHasBounds run.plan.path.moves done act is.moves at)) (known-at run is past own nonce sent done act at)) success
+  path-goes ticket (Some act) at within on success = by (ticket_for run.plan.tickets act) refl
+    where
+      by : (o : Option HeldTicket) → ticket_for run.plan.tickets act ≡ o
+          → HasGoneOn own done (place_of (heard_on_path run.plan (record { handle = own; nonce = nonce }) sent ticket done (Some act) (answer_of (reply_reading (number_of_code (code_of_command (next_command run.plan (record { handle = own; nonce = nonce }) sent ticket (Some act))))
+          (answer_in run past (next_command run.plan (record { handle = own; nonce = nonce }) sent ticket (Some act))).reply))))
+      by None none =
+          subst (λ (c : Command). is_success (answer_in run past c).outcome ≡ true
+          → HasGoneOn own done (place_of (heard_on_path run.plan (record { handle = own; nonce = nonce }) sent ticket done (Some act) (answer_of (reply_reading (number_of_code (code_of_command c)) (answer_in run past c).reply)))))
+          (sym (plain-command run.plan (record { handle = own; nonce = nonce }) ticket act none))
+          (subst (λ (d : List DirEntry). is_known_move d run.plan.grants act ≡ true → Goes d ticket act) (sym is.directory)
+          (move-goes ticket act on (all-at MoveHasBounds run.plan.path.moves done act is.moves at)) (known-at run is past own nonce sent done act at)) success
+      by (Some held) found =
+          let stands = found-stands run.plan.tickets act held found in
+          let made = own-ticket (view_of run.setup past).world own nonce on.slot held (found-each TicketHasBounds run.plan.tickets act held is.tickets found) act stands (all-at MoveHasBounds run.plan.path.moves done act is.moves at) in
+          subst (λ (c : Command). is_success (answer_in run past c).outcome ≡ true
+          → HasGoneOn own done (place_of (heard_on_path run.plan (record { handle = own; nonce = nonce }) sent ticket done (Some act) (answer_of (reply_reading (number_of_code (code_of_command c)) (answer_in run past c).reply)))))
+          (sym (held-command run.plan (record { handle = own; nonce = nonce }) ticket act held found))
+          (own-heard ticket act (ticket_command (record { handle = own; nonce = nonce }) held) (stands-other held ticket act stands) made) success
 
 -- ---- a run on its path
 

@@ -39,11 +39,11 @@ mod GoalShape
 mod GoalUses
 mod Goes
 mod Heard
+mod HeldTickets
 mod Kept
 mod Lasting
 mod Moved
 mod Named
-mod NoTickets
 mod OneTry
 mod Owing
 mod Own
@@ -63,6 +63,7 @@ mod Staged
 mod Standing
 mod Starts
 mod Step
+mod TicketPasses
 mod Told
 mod ToldBlind
 mod Unlike

@@ -1,5 +1,5 @@
 -- One turn of a run that stands where its chooser does: its session starts, an approval is verified, a move is made.
-use Rattle.std.proofs.Common.{◌≡◌, ◌<◌, ◌≤◌, ◌-◌, ℕ, ◌+◌, true, false, List, [], ◌∷◌, ◌++◌, length, nat_le, nat_lt, refl, ap, sym, subst, ◌∙◌, arith}
+use Rattle.std.proofs.Common.{◌≡◌, ◌<◌, ◌≤◌, ◌-◌, ℕ, ◌+◌, ◌&&◌, true, false, All, List, [], ◌∷◌, ◌++◌, length, nat_le, nat_lt, refl, ap, sym, subst, ◌∙◌, arith}
 use Rattle.std.specs.Prelude.{Option, Some, None, slice_get, if◌then◌else◌}
 use Rattle.std.specs.Option.{option_map_or}
 use Rattle.std.proofs.lemmas.Bool.Decides.{nat_tests}
@@ -11,10 +11,12 @@ use Rattle.tpol_choose.specs.Facts.{counter_after, fact_of_move, session_after}
 use Rattle.tpol_choose.specs.Moves.{move_block}
 use Rattle.tpol_digest.specs.Laws.{MoveHasBounds}
 use Rattle.tpol_driver.specs.declared.session.Session.{Session}
+use Rattle.tpol_driver.specs.declared.tickets.HeldTicket.{HeldTicket}
 use Rattle.tpol_driver.specs.Answers.{answer_of}
 use Rattle.tpol_driver.specs.Commands.{command_of_move}
 use Rattle.tpol_driver.specs.Driving.{Moving, Standing, goes_on, heard_on_path, is_verification, move_heard, next_command}
 use Rattle.tpol_driver.specs.Plans.{is_known_move}
+use Rattle.tpol_driver.specs.Tickets.{ticket_command, ticket_for}
 use Rattle.tpol_name.specs.declared.entries.DirEntry.{DirEntry}
 use Rattle.tpol_name.specs.declared.sight.Sight.{Sight}
 use Rattle.tpol_name.specs.Directories.{directory_of}
@@ -26,7 +28,7 @@ use Rattle.tpol_wire.specs.declared.command.Command.{Command}
 use Rattle.tpol_fields.specs.declared.ticket.Ticket.{Ticket}
 use Rattle.tpol_wire.specs.Commands.{FitsCommand, code_of_command, spelling}
 use Rattle.tpol_wire.specs.ReplyReading.{reply_reading}
-use Rattle.tpm_bindings.specs.Facts.{is_pcr}
+use Rattle.tpm_bindings.specs.Facts.{is_before, is_pcr}
 use Rattle.tpm_bindings.specs.State.{SessionState}
 use Rattle.tpm_session.specs.Kept.{counter_after as first_counter, with_fact}
 use Rattle.tpm_session.specs.Slots.{IsSlotHandle, bits_of, free_count, state_at}
@@ -41,16 +43,18 @@ use Rattle.tpm_engine.specs.Sights.{sight_after}
 use Rattle.tpm_engine.specs.Views.{live_at, live_slot, next_number, session_state, view_of, world_at}
 use Rattle.tpm_engine.proofs.Lookups.{content-table, is_slot_handle}
 use Rattle.tpol_laws.specs.Acts.{Course, Run, Turn, after_act, answer_in, event_in}
+use Rattle.tpol_laws.specs.HeldTickets.{IsUsable, TicketHasBounds}
 use Rattle.tpol_laws.specs.Runs.{IsRun}
-use Rattle.tpol_laws.proofs.NoTickets.{plain-command}
-use Rattle.tpol_laws.proofs.Alike.{pcr-bound}
+use Rattle.tpol_laws.proofs.Alike.{more-in-time, pcr-bound}
 use Rattle.tpol_laws.proofs.Answered.{IsByPassword, done-deed, done-use, on-answer, password-use, read-back}
 use Rattle.tpol_laws.proofs.Heard.{heard-stands, policy-heard}
+use Rattle.tpol_laws.proofs.HeldTickets.{found-each, found-stands, held-command, own-ticket, plain-command}
 use Rattle.tpol_laws.proofs.Kept.{Held, shows-on}
 use Rattle.tpol_laws.proofs.Own.{own-move}
 use Rattle.tpol_laws.proofs.Passing.{Passes, client_on, move-passes}
 use Rattle.tpol_laws.proofs.Standing.{AreAlike, Stands, bind_of, chooser_of}
 use Rattle.tpol_laws.proofs.Step.{is-of}
+use Rattle.tpol_laws.proofs.TicketPasses.{IsTaken, taken, ticket-passes}
 
 -- ---- a command that nothing stops
 
@@ -87,6 +91,11 @@ unfolding sight_after view_of
 chooser-now run first past same =
     ap (λ (w : WorldState). client_on w (free_count (view_of run.setup first).sessions (bits_of (view_of run.setup first).saved)) run.plan.grants run.plan.goal run.locality) same
 
+-- and its time is the machine's
+pub time-now : (run : Run) (first past : List Event) → world_at run.setup past ≡ world_at run.setup first → (sight_after run.setup first).time ≡ (view_of run.setup past).world.time
+unfolding sight_after view_of
+time-now run first past same = ap (λ (w : WorldState). w.time) (sym same)
+
 -- ---- one more fact
 
 fact-pcr : (sight : Sight) (session : SessionState) (act : Move) → is_pcr (fact_of_move sight session act).act ≡ is_pcr act
@@ -94,15 +103,17 @@ fact-pcr sight session (Assert (Secret entity policy_ref cp_hash expiration)) = 
 fact-pcr sight session (Assert (Signed key policy_ref cp_hash expiration)) = refl
 fact-pcr sight session act = refl
 
-pub more-alike : (kept chosen : SessionState) (sight : Sight) (act : Move) (fact : Fact) (counter : ℕ) → AreAlike kept chosen → bind_of fact ≡ bind_of (fact_of_move sight chosen act) → counter ≡ sight.pcr_counter
+pub more-alike : (kept chosen : SessionState) (sight : Sight) (act : Move) (fact : Fact) (counter : ℕ) → AreAlike kept chosen → bind_of fact ≡ bind_of (fact_of_move sight chosen act)
+    → is_before chosen.start fact.deadline ≡ is_before chosen.start (fact_of_move sight chosen act).deadline → counter ≡ sight.pcr_counter
     → AreAlike (with_fact kept fact counter) (session_after sight chosen act)
-more-alike kept chosen sight act fact counter alike same now =
+more-alike kept chosen sight act fact counter alike same timely now =
     let new = fact_of_move sight chosen act in
     let pcrs : is_pcr fact.act ≡ is_pcr act = sym (pcr-bound fact.act) ∙ ap (λ (f : Fact). is_pcr f.act) same ∙ pcr-bound (fact_of_move sight chosen act).act ∙ fact-pcr sight chosen act in
     record {
       start = alike.start;
       binds = map-append bind_of kept.facts (fact ∷ []) ∙ (λ i. alike.binds i ++ same i ∷ []) ∙ sym (map-append bind_of chosen.facts (new ∷ []));
       counter = counters kept.counter chosen.counter alike.counter pcrs;
+      in_time = more-in-time kept.facts fact chosen.start ∙ (λ i. alike.in_time i && timely i) ∙ sym (more-in-time chosen.facts new chosen.start);
     }
   where
     at : (o : Option ℕ) → is_pcr fact.act ≡ is_pcr act → first_counter o fact.act counter ≡ counter_after sight.pcr_counter o act
@@ -111,6 +122,12 @@ more-alike kept chosen sight act fact counter alike same now =
 
     counters : (a b : Option ℕ) → a ≡ b → is_pcr fact.act ≡ is_pcr act → first_counter a fact.act counter ≡ counter_after sight.pcr_counter b act
     counters a b e pcrs = ap (λ (o : Option ℕ). first_counter o fact.act counter) e ∙ at b pcrs
+
+-- ---- a ticket that the machine takes at the begin it takes now
+
+taken-now : (run : Run) (first past : List Event) (held : HeldTicket) → world_at run.setup past ≡ world_at run.setup first → IsUsable run.setup first held → IsTaken run.setup (view_of run.setup past).world held
+unfolding view_of
+taken-now run first past held same usable = subst (λ (w : WorldState). IsTaken run.setup w held) (sym same) (taken run.setup first held usable)
 
 -- ---- where a turn leads
 
@@ -132,15 +149,25 @@ pub turn-sends : (run : Run) (past : List Event) (session : Session) (sent : ℕ
     ≡ after_sent run past session sent ticket done (slice_get run.plan.path.moves done) (next_command run.plan session sent ticket (slice_get run.plan.path.moves done))
 turn-sends run past session sent ticket done = refl
 
--- with the directory of the setup, and no tickets
-pub move-sends : (run : Run) → run.plan.directory ≡ directory_of run.setup → run.plan.tickets ≡ [] → (past : List Event) (session : Session) (sent : ℕ) (ticket : Option Ticket) (done : ℕ) (act : Move) → slice_get run.plan.path.moves done ≡ Some act
+-- with the directory of the setup, where no ticket stands for the move
+pub move-sends : (run : Run) → run.plan.directory ≡ directory_of run.setup → (past : List Event) (session : Session) (sent : ℕ) (ticket : Option Ticket) (done : ℕ) (act : Move) → slice_get run.plan.path.moves done ≡ Some act
+    → ticket_for run.plan.tickets act ≡ None
     → after_act run (record { past = past; standing = Moving session sent ticket done }) Turn
     ≡ after_sent run past session sent ticket done (Some act) (command_of_move (directory_of run.setup) run.plan.grants session ticket act)
-move-sends run directory tickets past session sent ticket done act at =
+move-sends run directory past session sent ticket done act at none =
     turn-sends run past session sent ticket done
     ∙ ap (λ (o : Option Move). after_sent run past session sent ticket done o (next_command run.plan session sent ticket o)) at
-    ∙ ap (λ (c : Command). after_sent run past session sent ticket done (Some act) c) (plain-command run.plan tickets session ticket act)
+    ∙ ap (λ (c : Command). after_sent run past session sent ticket done (Some act) c) (plain-command run.plan session ticket act none)
     ∙ ap (λ (d : List DirEntry). after_sent run past session sent ticket done (Some act) (command_of_move d run.plan.grants session ticket act)) directory
+
+-- and where one does
+pub ticket-sends : (run : Run) (past : List Event) (session : Session) (sent : ℕ) (ticket : Option Ticket) (done : ℕ) (act : Move) → slice_get run.plan.path.moves done ≡ Some act
+    → (held : HeldTicket) → ticket_for run.plan.tickets act ≡ Some held
+    → after_act run (record { past = past; standing = Moving session sent ticket done }) Turn ≡ after_sent run past session sent ticket done (Some act) (ticket_command session held)
+ticket-sends run past session sent ticket done act at held found =
+    turn-sends run past session sent ticket done
+    ∙ ap (λ (o : Option Move). after_sent run past session sent ticket done o (next_command run.plan session sent ticket o)) at
+    ∙ ap (λ (c : Command). after_sent run past session sent ticket done (Some act) c) (held-command run.plan session ticket act held found)
 
 -- ---- a policy command
 
@@ -166,7 +193,8 @@ module _ (run : Run) (first past : List Event) (session : Session) (chosen : Ses
         unsaved = ap (λ (h : Held). h.sequence) shows.held ∙ on.unsaved;
         nonce = ap (λ (h : Held). h.state.nonce) shows.held ∙ on.nonce;
         alike = subst (λ (s : SessionState). AreAlike s (session_after (sight_after run.setup first) chosen act)) (sym (ap (λ (h : Held). h.state) shows.held))
-            (more-alike (session_state run.setup past session.handle) chosen (sight_after run.setup first) act _ (world_at run.setup past).pcrs.counter on.alike (passes.same (next_number past)) (ap (λ (w : WorldState). w.pcrs.counter) on.world));
+            (more-alike (session_state run.setup past session.handle) chosen (sight_after run.setup first) act _ (world_at run.setup past).pcrs.counter on.alike (passes.same (next_number past)) (passes.in_time (next_number past)) (ap (λ (w : WorldState). w.pcrs.counter) on.world));
+        since = on.since;
         world = shows.world ∙ on.world;
       }
 
@@ -182,19 +210,37 @@ module _ (run : Run) (first past : List Event) (session : Session) (chosen : Ses
         stands = shown-stands passes;
       }
 
--- a move that needs no ticket
-pub plain-moved : (run : Run) → IsRun run → (first past : List Event) (session : Session) (sent done : ℕ) (chosen : SessionState) → Stands run first past session chosen → length (session_state run.setup past session.handle).facts < 512
+-- a move that is no approval, by its own command or by a ticket that the machine takes
+pub plain-moved : (run : Run) → IsRun run → (first : List Event) → All (IsUsable run.setup first) run.plan.tickets → (past : List Event) (session : Session) (sent done : ℕ) (chosen : SessionState) → Stands run first past session chosen
+    → length (session_state run.setup past session.handle).facts < 512
     → (act : Move) → slice_get run.plan.path.moves done ≡ Some act → is_verification None act ≡ false → MoveHasBounds act → is_known_move (directory_of run.setup) run.plan.grants act ≡ true
     → move_block (chooser_of run first) chosen act ≡ None
     → Moved run first session (sent + 1) None (done + 1) (session_after (sight_after run.setup first) chosen act) (after_act run (record { past = past; standing = Moving session sent None done }) Turn)
-plain-moved run is first past session sent done chosen on few act at other bounds known opens =
-    let free = free_count (view_of run.setup first).sessions (bits_of (view_of run.setup first).saved) in
-    let now = chooser-now run first past on.world in
-    let made = own-move run.setup is.setup (view_of run.setup past).world (is-of run.setup past) run.plan.grants is.grants session.handle session.nonce on.slot None act tt bounds known other in
-    let command = command_of_move (directory_of run.setup) run.plan.grants session None act in
-    let passes = move-passes run.setup is.setup (view_of run.setup past) (is-of run.setup past) free run.plan.grants run.plan.goal run.locality session.handle on.slot (session_state run.setup past session.handle)
-    (stands-live run first past session chosen on) few session.nonce on.nonce chosen on.alike act other
-    (subst (λ (c : Client). move_block c chosen act ≡ None) (sym now) opens) in
-    subst (Moved run first session (sent + 1) None (done + 1) (session_after (sight_after run.setup first) chosen act)) (sym (move-sends run is.directory is.tickets past session sent None done act at))
-    (shown-moved run first past session chosen on act command made.fits made.area sent done None made.policy other
-    (subst (λ (c : Client). Passes (view_of run.setup past) run.locality session.handle (session_state run.setup past session.handle) c chosen act command) now passes))
+plain-moved run is first usable past session sent done chosen on few act at other bounds known opens = by (ticket_for run.plan.tickets act) refl
+  where
+    by : (o : Option HeldTicket) → ticket_for run.plan.tickets act ≡ o
+        → Moved run first session (sent + 1) None (done + 1) (session_after (sight_after run.setup first) chosen act) (after_act run (record { past = past; standing = Moving session sent None done }) Turn)
+    by None none =
+        let free = free_count (view_of run.setup first).sessions (bits_of (view_of run.setup first).saved) in
+        let now = chooser-now run first past on.world in
+        let opens_now = subst (λ (c : Client). move_block c chosen act ≡ None) (sym now) opens in
+        let made = own-move run.setup is.setup (view_of run.setup past).world (is-of run.setup past) run.plan.grants is.grants session.handle session.nonce on.slot None act tt bounds known other in
+        let command = command_of_move (directory_of run.setup) run.plan.grants session None act in
+        let passes = move-passes run.setup is.setup (view_of run.setup past) (is-of run.setup past) free run.plan.grants run.plan.goal run.locality session.handle on.slot (session_state run.setup past session.handle)
+        (stands-live run first past session chosen on) few session.nonce on.nonce chosen on.alike act other opens_now in
+        subst (Moved run first session (sent + 1) None (done + 1) (session_after (sight_after run.setup first) chosen act)) (sym (move-sends run is.directory past session sent None done act at none))
+        (shown-moved run first past session chosen on act command made.fits made.area sent done None made.policy other
+        (subst (λ (c : Client). Passes (view_of run.setup past) run.locality session.handle (session_state run.setup past session.handle) c chosen act command) now passes))
+    by (Some held) found =
+        let free = free_count (view_of run.setup first).sessions (bits_of (view_of run.setup first).saved) in
+        let now = chooser-now run first past on.world in
+        let opens_now = subst (λ (c : Client). move_block c chosen act ≡ None) (sym now) opens in
+        let stands = found-stands run.plan.tickets act held found in
+        let made = own-ticket (view_of run.setup past).world session.handle session.nonce on.slot held (found-each TicketHasBounds run.plan.tickets act held is.tickets found) act stands bounds in
+        let command = ticket_command session held in
+        let takes = taken-now run first past held on.world (found-each (IsUsable run.setup first) run.plan.tickets act held usable found) in
+        let passes = ticket-passes run.setup is.setup (view_of run.setup past) (is-of run.setup past) free run.plan.grants run.plan.goal run.locality session.handle on.slot (session_state run.setup past session.handle)
+        (stands-live run first past session chosen on) few session.nonce chosen on.alike (on.since ∙ time-now run first past on.world) held takes act stands opens_now in
+        subst (Moved run first session (sent + 1) None (done + 1) (session_after (sight_after run.setup first) chosen act)) (sym (ticket-sends run past session sent None done act at held found))
+        (shown-moved run first past session chosen on act command made.fits made.area sent done None made.policy other
+        (subst (λ (c : Client). Passes (view_of run.setup past) run.locality session.handle (session_state run.setup past session.handle) c chosen act command) now passes))

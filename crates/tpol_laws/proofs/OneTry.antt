@@ -27,8 +27,9 @@ use Rattle.tpol_laws.proofs.Goal.{serves-goal}
 use Rattle.tpol_laws.proofs.Refused.{EndsBy, moves-try}
 use Rattle.tpol_laws.proofs.Served.{Ahead, ServedAfter, moves-served, open-moves}
 use Rattle.tpol_laws.proofs.Standing.{Stands, chooser_of}
+use Rattle.tpol_laws.proofs.HeldTickets.{usable-without}
 
-module _ (run : Run) (begins : IsBegun run) (complete : is_complete run.plan ≡ true) (first past : List Event) (session : Session) (sent : ℕ)
+module _ (run : Run) (begins : IsBegun run) (none : run.plan.tickets ≡ []) (complete : is_complete run.plan ≡ true) (first past : List Event) (session : Session) (sent : ℕ)
     (on : Stands run first past session (fresh_session (sight_after run.setup first))) where
   runs : IsRun run
   runs = run-of run begins complete
@@ -44,7 +45,7 @@ module _ (run : Run) (begins : IsBegun run) (complete : is_complete run.plan ≡
       → ServedAfter run first (commands_of_moves run.plan.path.moves + 1) (on_path past session sent None 0)
   open-served opens =
       let all : commands_of_moves run.plan.path.moves + 1 ≤ commands_of_moves run.plan.path.moves + 1 = omega arith in
-      moves-served run runs first (serves-goal run begins first) run.plan.path.moves (commands_of_moves run.plan.path.moves + 1) past session sent 0 1 (fresh_session (sight_after run.setup first))
+      moves-served run runs first (usable-without run.setup first run.plan.tickets none) (serves-goal run begins first) run.plan.path.moves (commands_of_moves run.plan.path.moves + 1) past session sent 0 1 (fresh_session (sight_after run.setup first))
       (record { ahead = ahead; opens = open-moves run first opens }) all
 
   pub blocked-ends : HasShortOffset run.plan.goal → start_rule (view_of run.setup first) ≡ None → (block : Block)
@@ -52,7 +53,7 @@ module _ (run : Run) (begins : IsBegun run) (complete : is_complete run.plan ≡
       → EndsBy run first session (commands_of_moves run.plan.path.moves + 1) (on_path past session sent None 0)
   unfolding first_block
   blocked-ends offsets rule block blocked =
-      by (moves-try run runs begins offsets first run.plan.path.moves past session sent 0 1 (fresh_session (sight_after run.setup first)) ahead refl)
+      by (moves-try run runs begins none offsets first run.plan.path.moves past session sent 0 1 (fresh_session (sight_after run.setup first)) ahead refl)
     where
       by : (moves_block (chooser_of run first) 1 (fresh_session (sight_after run.setup first)) run.plan.path.moves ≡ None) ⊎ EndsBy run first session (commands_of_moves run.plan.path.moves + 1) (on_path past session sent None 0)
           → EndsBy run first session (commands_of_moves run.plan.path.moves + 1) (on_path past session sent None 0)

@@ -82,7 +82,7 @@ object-range handle low high =
     let object : nat_eq (handle / 2 ^ 24) 0x80 ≡ true = grind (arith, nat_tests, low, high) in
     rw (pcr, index, session, permanent, object) refl
 
-object-name-at : (setup : Setup) (world : WorldState) (name : Name) (handle : ℕ) → IsOf setup world → FoundObject setup name handle → name_at world handle ≡ name
+pub object-name-at : (setup : Setup) (world : WorldState) (name : Name) (handle : ℕ) → IsOf setup world → FoundObject setup name handle → name_at world handle ≡ name
 object-name-at setup world name handle of found =
     ap (λ (kind : Option HandleKind). name_of_entity handle (entity_of_kind world handle kind)) (object-range handle found.low found.high)
     ∙ ap (λ (o : Option ObjectEntry). name_of_entity handle (option_map Object o)) (ap (object_of handle) of.objects ∙ found.is)
@@ -96,7 +96,7 @@ index-name-at setup world name handle entry of found there written =
     ∙ written-name handle world.indices found.entry entry it there written
     ∙ found.named
 
-hierarchy-name-at : (world : WorldState) (handle : ℕ) → is_hierarchy handle ≡ true → name_at world handle ≡ Handle handle
+pub hierarchy-name-at : (world : WorldState) (handle : ℕ) → is_hierarchy handle ≡ true → name_at world handle ≡ Handle handle
 hierarchy-name-at world handle h = at (nat_eq handle rh_owner) refl (nat_eq handle rh_endorsement) refl (nat_eq handle rh_lockout) refl h
   where
     at : (a : Bool) → nat_eq handle rh_owner ≡ a → (b : Bool) → nat_eq handle rh_endorsement ≡ b → (c : Bool) → nat_eq handle rh_lockout ≡ c

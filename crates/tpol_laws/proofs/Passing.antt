@@ -1,7 +1,7 @@
 -- What nothing blocks for a chooser the machine carries out: each kind of move, by its command, and the fact that
 -- the session is shown binds what the chooser's does.
 use Rattle.std.proofs.Common.{◌≡◌, ◌<◌, ℕ, true, false, List, [], ◌∷◌, length, refl, ap, sym, subst, ◌∙◌}
-use Rattle.std.specs.Prelude.{ℤ, Option, Some, None, option_map, unwrap_or}
+use Rattle.std.specs.Prelude.{ℤ, pos, Option, Some, None, option_map, unwrap_or}
 use Rattle.std.specs.Option.{option_map_or}
 use Rattle.std.proofs.lemmas.Bool.{false≢true}
 use Rattle.std.proofs.lemmas.Option.{none-some}
@@ -41,6 +41,7 @@ use Rattle.tpol_wire.specs.declared.command.Command.{Command}
 use Rattle.tpol_wire.specs.declared.command.Command.TheVariants as commands
 use Rattle.tpm_auth.specs.Signatures.{signature_of, signed_hash}
 use Rattle.tpm_auth.specs.Tickets.{verified_ticket}
+use Rattle.tpm_bindings.specs.Facts.{is_before}
 use Rattle.tpm_bindings.specs.Merged.{fact_of}
 use Rattle.tpm_bindings.specs.State.{SessionState}
 use Rattle.tpm_pcr.specs.Pcrs.{selection_digest}
@@ -75,12 +76,14 @@ use Rattle.tpol_laws.proofs.SameKeys.{same-mac}
 use Rattle.tpol_laws.proofs.Seen.{ReadBy, SeenEntity, SeenIndex, SeenObject, index-handle, name-as-is, read-by, reader-handle, see-entity, see-index, see-object}
 use Rattle.tpol_laws.proofs.Unstopped.{entity-there, password-passes, plain-unstopped, policy-unstopped, session-there}
 
--- nothing stops the command, and the session is shown a fact that binds what the move does
+-- nothing stops the command, and the session is shown a fact that binds what the move does, with a deadline that has
+-- passed at the session's start where the move's has
 pub record Passes (tables : TableState) (locality own : ℕ) (kept : SessionState) (client : Client) (chosen : SessionState) (act : Move) (command : Command) : Type 0 where
   pub first : first_stop tables locality command ≡ None
   pub fact : Moment → Fact
   pub shows : shown_by command ≡ Some (own, fact)
   pub same : (number : ℕ) → bind_of (fact (moment tables.world number kept.start kept.facts)) ≡ bind_of (fact_of_move client.sight chosen act)
+  pub in_time : (number : ℕ) → is_before chosen.start (fact (moment tables.world number kept.start kept.facts)).deadline ≡ is_before chosen.start (fact_of_move client.sight chosen act).deadline
 
 -- who chooses by the machine as it is
 abbrev pub client_on : WorldState → ℕ → Grants → Goal → ℕ → Client
@@ -162,6 +165,7 @@ module _ (setup : Setup) (is : IsSetup setup) (tables : TableState) (of : IsOf s
         shows = refl;
         same = λ number. ap (λ (n : Name). bind_of (fact_of 0 (Assert (assertions.Nv n operand offset operation)) None None))
             (written-named name entry seen (unless-none _ _ (or_else-none _ _ read.rule).0));
+        in_time = λ number. refl;
       }
 
   authorize_nv-passes : (name : Name) (approved : Digest32) (entry : IndexEntry) → SeenIndex setup tables.world name entry
@@ -181,6 +185,7 @@ module _ (setup : Setup) (is : IsSetup setup) (tables : TableState) (of : IsOf s
         shows = refl;
         same = λ number. ap (λ (n : Name). bind_of (fact_of 0 (ApproveNv n approved) None None))
             (written-named name entry seen (unless-none _ _ (or_else-none _ _ read.rule).0));
+        in_time = λ number. refl;
       }
 
   -- ---- PolicySecret
@@ -202,7 +207,8 @@ module _ (setup : Setup) (is : IsSetup setup) (tables : TableState) (of : IsOf s
             (secret-alike kept chosen alike nonce owns tables.world.time cp_hash expiration ∙ parts.1);
         fact = _;
         shows = refl;
-        same = λ number i. record { event = 0; act = Assert (assertions.Secret (names i) policy_ref cp_hash expiration); cp_hash = cp_hash; deadline = deadlines i };
+        same = λ number i. record { event = 0; act = Assert (assertions.Secret (names i) policy_ref cp_hash (pos 0)); cp_hash = cp_hash; deadline = None };
+        in_time = λ number. ap (is_before chosen.start) deadlines;
       }
 
   -- ---- PolicySigned
@@ -240,7 +246,8 @@ module _ (setup : Setup) (is : IsSetup setup) (tables : TableState) (of : IsOf s
             ∙ parts.1);
         fact = _;
         shows = refl;
-        same = λ number i. record { event = 0; act = Assert (assertions.Signed (names i) policy_ref cp_hash expiration); cp_hash = cp_hash; deadline = deadlines i };
+        same = λ number i. record { event = 0; act = Assert (assertions.Signed (names i) policy_ref cp_hash (pos 0)); cp_hash = cp_hash; deadline = None };
+        in_time = λ number. ap (is_before chosen.start) deadlines;
       }
 
   -- ---- PolicyAuthorize, with the ticket of its approval
@@ -258,6 +265,7 @@ module _ (setup : Setup) (is : IsSetup setup) (tables : TableState) (of : IsOf s
         fact = _;
         shows = refl;
         same = λ number. refl;
+        in_time = λ number. refl;
       }
 
   -- ---- the assertions on the session alone, and PolicyPCR
@@ -273,13 +281,15 @@ module _ (setup : Setup) (is : IsSetup setup) (tables : TableState) (of : IsOf s
         fact = _;
         shows = refl;
         same = λ number. ap (λ (d : Digest32). bind_of (fact_of 0 (Assert (assertions.Pcr mask d [])) None None)) same;
+        in_time = λ number. refl;
       }
 
   -- one whose rule reads the session alone
   plain-passes : (act : Move) (command : Command) (fact : Moment → Fact) → shown_by command ≡ Some (own, fact)
       → ((number : ℕ) → bind_of (fact (moment tables.world number kept.start kept.facts)) ≡ bind_of (fact_of_move (sight_of tables.world free) chosen act))
+      → ((number : ℕ) → is_before chosen.start (fact (moment tables.world number kept.start kept.facts)).deadline ≡ is_before chosen.start (fact_of_move (sight_of tables.world free) chosen act).deadline)
       → first_stop tables locality command ≡ None → Passed act command
-  plain-passes act command fact shows same first = record { first = first; fact = fact; shows = shows; same = same }
+  plain-passes act command fact shows same timely first = record { first = first; fact = fact; shows = shows; same = same; in_time = timely }
 
   assertion-passes : (assertion : Assertion) → assertion_block (client_on tables.world free grants goal locality) chosen assertion ≡ None
       → Passed (Assert assertion) (command_of_assertion (directory_of setup) grants (record { handle = own; nonce = nonce }) assertion)
@@ -321,25 +331,25 @@ module _ (setup : Setup) (is : IsSetup setup) (tables : TableState) (of : IsOf s
       on-object None e h = absurd (none-some _ (sym h))
       on-object (Some object) e h = on-key object (see-object setup is tables.world of free name object e) (granted grants.keys object.handle) refl h
   assertion-passes (assertions.CounterTimer operand offset operation) h =
-      plain-passes _ _ _ refl (λ number. refl) (plain-unstopped tables locality own kept live few slot (commands.PolicyCounterTimer own operand offset operation) refl refl refl (unanswered _ h))
+      plain-passes _ _ _ refl (λ number. refl) (λ number. refl) (plain-unstopped tables locality own kept live few slot (commands.PolicyCounterTimer own operand offset operation) refl refl refl (unanswered _ h))
   assertion-passes (assertions.CommandCode code) h =
-      plain-passes _ _ _ refl (λ number. refl) (plain-unstopped tables locality own kept live few slot (commands.PolicyCommandCode own code) refl refl refl (code-alike kept chosen alike code ∙ unanswered _ h))
+      plain-passes _ _ _ refl (λ number. refl) (λ number. refl) (plain-unstopped tables locality own kept live few slot (commands.PolicyCommandCode own code) refl refl refl (code-alike kept chosen alike code ∙ unanswered _ h))
   assertion-passes (assertions.Locality localities) h =
-      plain-passes _ _ _ refl (λ number. refl) (plain-unstopped tables locality own kept live few slot (commands.PolicyLocality own localities) refl refl refl (locality-alike kept chosen alike localities ∙ unanswered _ h))
+      plain-passes _ _ _ refl (λ number. refl) (λ number. refl) (plain-unstopped tables locality own kept live few slot (commands.PolicyLocality own localities) refl refl refl (locality-alike kept chosen alike localities ∙ unanswered _ h))
   assertion-passes (assertions.CpHash digest) h =
-      plain-passes _ _ _ refl (λ number. refl) (plain-unstopped tables locality own kept live few slot (commands.PolicyCpHash own digest) refl refl refl (cp_hash-alike kept chosen alike digest ∙ unanswered _ h))
+      plain-passes _ _ _ refl (λ number. refl) (λ number. refl) (plain-unstopped tables locality own kept live few slot (commands.PolicyCpHash own digest) refl refl refl (cp_hash-alike kept chosen alike digest ∙ unanswered _ h))
   assertion-passes (assertions.NameHash digest) h =
-      plain-passes _ _ _ refl (λ number. refl) (plain-unstopped tables locality own kept live few slot (commands.PolicyNameHash own digest) refl refl refl (name_hash-alike kept chosen alike digest ∙ unanswered _ h))
+      plain-passes _ _ _ refl (λ number. refl) (λ number. refl) (plain-unstopped tables locality own kept live few slot (commands.PolicyNameHash own digest) refl refl refl (name_hash-alike kept chosen alike digest ∙ unanswered _ h))
   assertion-passes (assertions.NvWritten written) h =
-      plain-passes _ _ _ refl (λ number. refl) (plain-unstopped tables locality own kept live few slot (commands.PolicyNvWritten own written) refl refl refl (written-alike kept chosen alike written ∙ unanswered _ h))
+      plain-passes _ _ _ refl (λ number. refl) (λ number. refl) (plain-unstopped tables locality own kept live few slot (commands.PolicyNvWritten own written) refl refl refl (written-alike kept chosen alike written ∙ unanswered _ h))
   assertion-passes assertions.AuthValue h =
-      plain-passes _ _ _ refl (λ number. refl) (plain-unstopped tables locality own kept live few slot (commands.PolicyAuthValue own) refl refl refl refl)
+      plain-passes _ _ _ refl (λ number. refl) (λ number. refl) (plain-unstopped tables locality own kept live few slot (commands.PolicyAuthValue own) refl refl refl refl)
   assertion-passes assertions.Password h =
-      plain-passes _ _ _ refl (λ number. refl) (plain-unstopped tables locality own kept live few slot (commands.PolicyPassword own) refl refl refl refl)
+      plain-passes _ _ _ refl (λ number. refl) (λ number. refl) (plain-unstopped tables locality own kept live few slot (commands.PolicyPassword own) refl refl refl refl)
   assertion-passes assertions.PhysicalPresence h =
-      plain-passes _ _ _ refl (λ number. refl) (plain-unstopped tables locality own kept live few slot (commands.PolicyPhysicalPresence own) refl refl refl refl)
+      plain-passes _ _ _ refl (λ number. refl) (λ number. refl) (plain-unstopped tables locality own kept live few slot (commands.PolicyPhysicalPresence own) refl refl refl refl)
   assertion-passes (assertions.Duplication object parent include) h =
-      plain-passes _ _ _ refl (λ number. refl) (plain-unstopped tables locality own kept live few slot (commands.PolicyDuplicationSelect own object parent include) refl refl refl (duplication-alike kept chosen alike ∙ unanswered _ h))
+      plain-passes _ _ _ refl (λ number. refl) (λ number. refl) (plain-unstopped tables locality own kept live few slot (commands.PolicyDuplicationSelect own object parent include) refl refl refl (duplication-alike kept chosen alike ∙ unanswered _ h))
 
   authorize_nv-found : (name : Name) (approved : Digest32) (o : Option IndexEntry) → index_in_sight (sight_of tables.world free) name ≡ o → index_block (client_on tables.world free grants goal locality) codes.PolicyAuthorizeNv (policy_authorize_nv_rule chosen) o ≡ None
       → Passed (ApproveNv name approved) (commands.PolicyAuthorizeNv (index_authority (directory_of setup) grants name) (index_handle (directory_of setup) name) own (password_area grants (index_authority (directory_of setup) grants name)))
@@ -356,6 +366,6 @@ module _ (setup : Setup) (is : IsSetup setup) (tables : TableState) (of : IsOf s
       → Passed act (command_of_move (directory_of setup) grants (record { handle = own; nonce = nonce }) None act)
   move-passes (Assert assertion) other h = assertion-passes assertion h
   move-passes (Or digests) other h =
-      plain-passes _ _ _ refl (λ number. refl) (plain-unstopped tables locality own kept live few slot (commands.PolicyOr own digests) refl refl refl (or-alike kept chosen alike digests ∙ unanswered _ h))
+      plain-passes _ _ _ refl (λ number. refl) (λ number. refl) (plain-unstopped tables locality own kept live few slot (commands.PolicyOr own digests) refl refl refl (or-alike kept chosen alike digests ∙ unanswered _ h))
   move-passes (Approve key policy_ref approved signature) other h = absurd (false≢true (sym other))
   move-passes (ApproveNv index approved) other h = authorize_nv-found index approved (index_in_sight (sight_of tables.world free) index) refl h

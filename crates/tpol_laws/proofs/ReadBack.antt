@@ -14,6 +14,8 @@ use Rattle.tpol_driver.specs.Commands.{command_of_move, key_handle, start_comman
 use Rattle.tpol_driver.specs.Driving.{Closing, Drive, Ends, Moving, Over, Sends, Standing, Starting, after_goal, goal_heard, goes_on, heard_on_path, is_verification, move_heard, next_command, sends, start_heard, verified}
 use Rattle.tpol_driver.specs.GoalUse.{auth_of_path, goal_command}
 use Rattle.tpol_driver.specs.Plans.{is_complete, is_known_move}
+use Rattle.tpol_driver.specs.declared.tickets.HeldTicket.{HeldTicket}
+use Rattle.tpol_driver.specs.Tickets.{ticket_for}
 use Rattle.tpol_fields.specs.declared.ticket.Ticket.{Ticket}
 use Rattle.tpol_goal.specs.Entities.{object_of_name}
 use Rattle.tpol_goal.specs.Goals.{HasShortOffset, entity_of_goal}
@@ -36,6 +38,7 @@ use Rattle.tpm_engine.specs.Views.{next_number, view_of}
 use Rattle.tpm_session.specs.Slots.{IsSlotHandle}
 use Rattle.tpol_laws.specs.Acts.{Act, Other, Run, Turn, after_acts, answer_in, begun, turned}
 use Rattle.tpol_laws.specs.Runs.{IsBegun, IsRun}
+use Rattle.tpol_laws.specs.HeldTickets.{TicketHasBounds}
 use Rattle.tpol_laws.proofs.Answered.{on-answer, own-passed, read-back, refusal-read, stop-code}
 use Rattle.tpol_laws.proofs.BlockedGoal.{goal-fits, goal-found}
 use Rattle.tpol_laws.proofs.Codes.{first-coded, rules-coded}
@@ -43,10 +46,10 @@ use Rattle.tpol_laws.proofs.Finds.{all-at}
 use Rattle.tpol_laws.proofs.Fit.{fits-flush, fits-start, session-handle, value-short}
 use Rattle.tpol_laws.proofs.GoalUses.{area-fits}
 use Rattle.tpol_laws.proofs.Lasting.{is-kept}
-use Rattle.tpol_laws.proofs.NoTickets.{plain-command}
 use Rattle.tpol_laws.proofs.Own.{TicketIsFit, own-move}
 use Rattle.tpol_laws.proofs.Starts.{Start, started}
 use Rattle.tpol_laws.proofs.Step.{is-of, known-at, some-ticket, verifies, verify-fits}
+use Rattle.tpol_laws.proofs.HeldTickets.{found-each, found-stands, held-command, own-ticket, plain-command, stands-other}
 
 -- ---- what is known of where a run stands
 
@@ -130,15 +133,25 @@ module _ (run : Run) (is : IsRun run) (past : List Event) where
   move-goes session sent done None (ApproveNv index approved) slot fit bounds known = own-goes session sent done None (ApproveNv index approved) slot fit bounds known refl
   move-goes session sent done (Some ticket) act slot fit bounds known = own-goes session sent done (Some ticket) act slot fit bounds known refl
 
-  -- the plan has the setup's directory, and no tickets
+  -- the plan has the setup's directory, and a ticket may stand for the move
   path-goes : (session : Session) (sent done : ℕ) (ticket : Option Ticket) (act : Move) → IsSlotHandle session.handle → TicketIsFit ticket → slice_get run.plan.path.moves done ≡ Some act
       → MoveGoes session sent done ticket act (next_command run.plan session sent ticket (Some act))
-  path-goes session sent done ticket act slot fit at =
-      let bounds = all-at MoveHasBounds run.plan.path.moves done act is.moves at in
-      let known = known-at run is past session.handle session.nonce sent done act at in
-      subst (MoveGoes session sent done ticket act) (sym (plain-command run.plan is.tickets session ticket act))
-      (subst (λ (d : List DirEntry). is_known_move d run.plan.grants act ≡ true → MoveGoes session sent done ticket act (command_of_move d run.plan.grants session ticket act)) (sym is.directory)
-      (move-goes session sent done ticket act slot fit bounds) known)
+  path-goes session sent done ticket act slot fit at = by (ticket_for run.plan.tickets act) refl
+    where
+      bounds : MoveHasBounds act
+      bounds = all-at MoveHasBounds run.plan.path.moves done act is.moves at
+
+      by : (o : Option HeldTicket) → ticket_for run.plan.tickets act ≡ o → MoveGoes session sent done ticket act (next_command run.plan session sent ticket (Some act))
+      by None none =
+          let known = known-at run is past session.handle session.nonce sent done act at in
+          subst (MoveGoes session sent done ticket act) (sym (plain-command run.plan session ticket act none))
+          (subst (λ (d : List DirEntry). is_known_move d run.plan.grants act ≡ true → MoveGoes session sent done ticket act (command_of_move d run.plan.grants session ticket act)) (sym is.directory)
+          (move-goes session sent done ticket act slot fit bounds) known)
+      by (Some held) found =
+          let stands = found-stands run.plan.tickets act held found in
+          let made = own-ticket (view_of run.setup past).world session.handle session.nonce slot held (found-each TicketHasBounds run.plan.tickets act held is.tickets found) act stands bounds in
+          subst (MoveGoes session sent done ticket act) (sym (held-command run.plan session ticket act held found))
+          (made.fits, moved-knows session sent done (done + 1) ticket act _ (stands-other held ticket act stands) slot)
 
   next-knows : (session : Session) (sent done : ℕ) (ticket : Option Ticket) (act : Option Move) → IsSlotHandle session.handle → TicketIsFit ticket → slice_get run.plan.path.moves done ≡ act
       → Knows (heard_on_path run.plan session sent ticket done act (answer_of (reply_reading (number_of_code (code_of_command (next_command run.plan session sent ticket act))) (answer_in run past (next_command run.plan session sent ticket act)).reply)))

@@ -26,6 +26,7 @@ use Rattle.tpol_driver.specs.Commands.{command_of_move}
 use Rattle.tpol_driver.specs.Driving.{Closing, Standing, after_goal, goal_heard, goes_on, is_verification, move_heard, next_command, stage_of_move}
 use Rattle.tpol_driver.specs.GoalUse.{goal_command}
 use Rattle.tpol_driver.specs.Plans.{is_known_move}
+use Rattle.tpol_driver.specs.Tickets.{ticket_for}
 use Rattle.tpol_fields.specs.declared.ticket.Ticket.{Ticket}
 use Rattle.tpol_name.specs.Directories.{directory_of}
 use Rattle.tpol_tree.specs.declared.path.Move.{Move}
@@ -56,6 +57,7 @@ use Rattle.tpol_laws.proofs.Restarted.{Keeps}
 use Rattle.tpol_laws.proofs.Served.{Ahead, has-room, known-of, next-ahead, next-at}
 use Rattle.tpol_laws.proofs.Standing.{Stands, chooser_of, judged_after}
 use Rattle.tpol_laws.proofs.Step.{is-of}
+use Rattle.tpol_laws.proofs.HeldTickets.{none-for-approval, none-without}
 
 -- ---- a refusal
 
@@ -119,11 +121,11 @@ denied-move session sent done ticket act number code is =
 module _ (run : Run) (is : IsRun run) (first : List Event) where
   -- the next command of a move is carried out, or the run is refused
   move-unstopped-or : (past : List Event) (session : Session) → Keeps run first past session → (sent : ℕ) (ticket : Option Ticket) (done : ℕ) (act : Move) → slice_get run.plan.path.moves done ≡ Some act
-      → (command : Command) → command_of_move (directory_of run.setup) run.plan.grants session ticket act ≡ command → FitsCommand command → HasCode (own_rule (view_of run.setup past) command)
+      → ticket_for run.plan.tickets act ≡ None → (command : Command) → command_of_move (directory_of run.setup) run.plan.grants session ticket act ≡ command → FitsCommand command → HasCode (own_rule (view_of run.setup past) command)
       → (first_stop (view_of run.setup past) run.locality command ≡ None) ⊎ IsRefused run first session (after_act run (on_path past session sent ticket done) Turn)
-  move-unstopped-or past session on sent ticket done act at command same fits own =
+  move-unstopped-or past session on sent ticket done act at none command same fits own =
       subst (λ course. (first_stop (view_of run.setup past) run.locality command ≡ None) ⊎ IsRefused run first session course)
-      (sym (move-sends run is.directory is.tickets past session sent ticket done act at ∙ ap (after_sent run past session sent ticket done (Some act)) same))
+      (sym (move-sends run is.directory past session sent ticket done act at none ∙ ap (after_sent run past session sent ticket done (Some act)) same))
       (unstopped-or run first past session on command fits own (stage_of_move ticket act (done + 1))
       (λ bytes. goes_on session sent done (move_heard ticket act (done + 1) (answer_of (reply_reading (number_of_code (code_of_command command)) bytes))))
       (λ code is_code. denied-move session sent done ticket act (number_of_code (code_of_command command)) code is_code))
@@ -182,7 +184,7 @@ some-command : (act : Move) → 1 ≤ commands_of_move act
 some-command (Approve key policy_ref approved signature) = omega arith
 some-command act = omega arith
 
-module _ (run : Run) (is : IsRun run) (begins : IsBegun run) (offsets : HasShortOffset run.plan.goal) (first : List Event) where
+module _ (run : Run) (is : IsRun run) (begins : IsBegun run) (none : run.plan.tickets ≡ []) (offsets : HasShortOffset run.plan.goal) (first : List Event) where
   abbrev Tries : List Event → Session → ℕ → ℕ → ℕ → SessionState → List Move → Type 0
   Tries past session sent done number chosen rest = IsOpen run first number chosen rest ⊎ EndsBy run first session (commands_of_moves rest + 1) (on_path past session sent None done)
 
@@ -211,7 +213,7 @@ module _ (run : Run) (is : IsRun run) (begins : IsBegun run) (offsets : HasShort
       → Tries later session (sent + 1) (done + 1) (number + 1) (session_after (sight_after run.setup first) chosen act) rest)
       → Tries past session sent done number chosen (act ∷ rest)
   plain-tries past session sent done number chosen act rest ahead start other goes =
-      by (move-unstopped-or run is first past session (keeps-of run first past session chosen ahead.stands start) sent None done act at
+      by (move-unstopped-or run is first past session (keeps-of run first past session chosen ahead.stands start) sent None done act at (none-without run.plan none act)
       (command_of_move (directory_of run.setup) run.plan.grants session None act) refl made.fits (own-coded run past session.handle act (command_of_move (directory_of run.setup) run.plan.grants session None act) made))
     where
       at : slice_get run.plan.path.moves done ≡ Some act
@@ -238,7 +240,7 @@ module _ (run : Run) (is : IsRun run) (begins : IsBegun run) (offsets : HasShort
 
       by : (first_stop (view_of run.setup past) run.locality (command_of_move (directory_of run.setup) run.plan.grants session None act) ≡ None) ⊎ IsRefused run first session (after_act run (on_path past session sent None done) Turn)
           → Tries past session sent done number chosen (act ∷ rest)
-      by (inl none) = stepped (plain-step run is first past session sent done chosen ahead.stands (has-room run first past session done chosen act rest ahead past ahead.stands) act at other bounds known none)
+      by (inl carried) = stepped (plain-step run is none first past session sent done chosen ahead.stands (has-room run first past session done chosen act rest ahead past ahead.stands) act at other bounds known carried)
       by (inr refused) = inr (more run first session 1 (commands_of_moves (act ∷ rest) + 1) (on_path past session sent None done) (omega (arith, some-command act)) (ends-next run first session 0 (on_path past session sent None done) refused))
 
   approve-tries : (past : List Event) (session : Session) (sent done number : ℕ) (chosen : SessionState) (key : Name) (policy_ref : List ℕ) (approved signature : Digest32) (rest : List Move)
@@ -247,7 +249,7 @@ module _ (run : Run) (is : IsRun run) (begins : IsBegun run) (offsets : HasShort
       → Tries later session (sent + 1 + 1) (done + 1) (number + 1) (session_after (sight_after run.setup first) chosen (Approve key policy_ref approved signature)) rest)
       → Tries past session sent done number chosen (Approve key policy_ref approved signature ∷ rest)
   approve-tries past session sent done number chosen key policy_ref approved signature rest ahead start goes =
-      by (move-unstopped-or run is first past session (keeps-of run first past session chosen ahead.stands start) sent None done (Approve key policy_ref approved signature) at
+      by (move-unstopped-or run is first past session (keeps-of run first past session chosen ahead.stands start) sent None done (Approve key policy_ref approved signature) at (none-for-approval run.plan.tickets key policy_ref approved signature)
       (command_of_move (directory_of run.setup) run.plan.grants session None (Approve key policy_ref approved signature)) refl can.fits can.coded)
     where
       at : slice_get run.plan.path.moves done ≡ Some (Approve key policy_ref approved signature)
@@ -293,7 +295,7 @@ module _ (run : Run) (is : IsRun run) (begins : IsBegun run) (offsets : HasShort
           let own = own-move run.setup is.setup (view_of run.setup step.ticketed.moved.past).world (is-of run.setup step.ticketed.moved.past) run.plan.grants is.grants session.handle session.nonce step.ticketed.moved.stands.slot
           (Some step.ticketed.ticket) (Approve key policy_ref approved signature) step.ticketed.fits bounds known refl in
           second step (move-unstopped-or run is first step.ticketed.moved.past session (keeps-of run first step.ticketed.moved.past session chosen step.ticketed.moved.stands start) (sent + 1) (Some step.ticketed.ticket) done
-          (Approve key policy_ref approved signature) at (commands.PolicyAuthorize session.handle approved policy_ref key step.ticketed.ticket) refl own.fits
+          (Approve key policy_ref approved signature) at (none-for-approval run.plan.tickets key policy_ref approved signature) (commands.PolicyAuthorize session.handle approved policy_ref key step.ticketed.ticket) refl own.fits
           (own-coded run step.ticketed.moved.past session.handle (Approve key policy_ref approved signature) (commands.PolicyAuthorize session.handle approved policy_ref key step.ticketed.ticket) own))
 
       by : (first_stop (view_of run.setup past) run.locality (command_of_move (directory_of run.setup) run.plan.grants session None (Approve key policy_ref approved signature)) ≡ None)

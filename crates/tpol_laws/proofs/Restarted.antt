@@ -14,6 +14,7 @@ use Rattle.tpol_fields.specs.Kinds.{Fits}
 use Rattle.tpol_wire.specs.Replies.{FitsReply, spell_reply}
 use Rattle.tpol_wire.specs.ReplyReading.{reply_reading}
 use Rattle.tpol_wire.proofs.ReplyLaws.{reply_read}
+use Rattle.tpm_bindings.specs.Facts.{is_in_time}
 use Rattle.tpm_bindings.specs.State.{SessionState}
 use Rattle.tpm_rules.specs.Rule.{or_else, unless}
 use Rattle.tpm_engine.specs.declared.stop.Stop.{Stop}
@@ -96,7 +97,9 @@ restarted run first past session on =
           start = ap (λ (h : Held). h.state.start) it.held ∙ on.start;
           binds = ap (λ (h : Held). map bind_of h.state.facts) it.held;
           counter = ap (λ (h : Held). h.state.counter) it.held;
+          in_time = ap (λ (h : Held). is_in_time h.state.facts (sight_after run.setup first).time) it.held;
         };
+        since = refl;
         world = it.world ∙ on.world;
       };
     }

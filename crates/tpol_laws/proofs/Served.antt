@@ -1,5 +1,6 @@
--- A run whose path nothing blocks is served, where only its own turns come and there are enough of them.
-use Rattle.std.proofs.Common.{◌≡◌, ◌≤◌, ◌<◌, ℕ, zero, suc, ◌+◌, Bool, true, false, not, List, [], ◌∷◌, length, map, nat_eq, refl, ap, sym, subst, ◌∙◌, arith, length-append, zero-add, replicate}
+-- A run whose path nothing blocks is served, where the machine takes its tickets, only its own turns come, and there are
+-- enough of them.
+use Rattle.std.proofs.Common.{◌≡◌, ◌≤◌, ◌<◌, ℕ, zero, suc, ◌+◌, Bool, true, false, not, All, List, [], ◌∷◌, length, map, nat_eq, refl, ap, sym, subst, ◌∙◌, arith, length-append, zero-add, replicate}
 use Rattle.std.specs.Prelude.{Option, Some, None, is_some, slice_get, if◌then◌else◌}
 use Rattle.std.specs.Option.{option_or}
 use Rattle.std.proofs.lemmas.Bool.{false≢true}
@@ -46,6 +47,7 @@ use Rattle.tpm_engine.proofs.Stopping.{map-none, or_else-none, unless-none}
 use Rattle.tpol_laws.specs.Acts.{Course, Run, Turn, after_act, after_acts, answer_in, begun, event_in}
 use Rattle.tpol_laws.specs.GoalBytes.{goal_bytes}
 use Rattle.tpol_laws.specs.PathCommands.{commands_along, commands_of_moves}
+use Rattle.tpol_laws.specs.HeldTickets.{IsUsable}
 use Rattle.tpol_laws.specs.Runs.{IsBegun, IsRun}
 use Rattle.tpol_laws.proofs.Answered.{done-deed, done-use, read-back}
 use Rattle.tpol_laws.proofs.Approved.{approve-moved}
@@ -126,7 +128,8 @@ start-moved run first rule =
           unsaved = ap (λ (h : Held). h.sequence) begun_by.held;
           nonce = ap (λ (h : Held). h.state.nonce) begun_by.held ∙ sym start.is.fresh;
           alike = subst (λ (s : SessionState). AreAlike s (fresh_session (sight_after run.setup first))) (sym (ap (λ (h : Held). h.state) begun_by.held))
-              (record { start = refl; binds = refl; counter = refl });
+              (record { start = refl; binds = refl; counter = refl; in_time = refl });
+          since = refl;
           world = begun_by.world;
         };
       };
@@ -231,14 +234,14 @@ pub known-of : (run : Run) → IsRun run → (past : List Event) (session : Sess
 known-of run is past session sent done act at =
     subst (λ (d : List DirEntry). is_known_move d run.plan.grants act ≡ true) is.directory (known-at run is past session.handle session.nonce sent done act at)
 
-module _ (run : Run) (is : IsRun run) (first : List Event) (serve : ServesGoal run first) where
+module _ (run : Run) (is : IsRun run) (first : List Event) (usable : All (IsUsable run.setup first) run.plan.tickets) (serve : ServesGoal run first) where
   -- a turn by a move that needs no ticket, and then the others
   plain-turn : (turns : ℕ) (past : List Event) (session : Session) (sent done number : ℕ) (chosen : SessionState) (act : Move) (rest : List Move) → Left run first past session done number chosen (act ∷ rest) → is_verification None act ≡ false
       → ((later : List Event) → Left run first later session (done + 1) (number + 1) (session_after (sight_after run.setup first) chosen act) rest → ServedAfter run first turns (record { past = later; standing = Moving session (sent + 1) None (done + 1) }))
       → ServedAfter run first (suc turns) (record { past = past; standing = Moving session sent None done })
   plain-turn turns past session sent done number chosen act rest left other goes =
       let at = next-at run first past session done chosen (act ∷ rest) left.ahead in
-      let moved = plain-moved run is first past session sent done chosen left.ahead.stands (has-room run first past session done chosen act rest left.ahead past left.ahead.stands) act at other
+      let moved = plain-moved run is first usable past session sent done chosen left.ahead.stands (has-room run first past session done chosen act rest left.ahead past left.ahead.stands) act at other
       (all-at MoveHasBounds run.plan.path.moves done act is.moves at) (known-of run is past session sent done act at) (act-open run first past session done number chosen act rest left) in
       one-turn run first turns (record { past = past; standing = Moving session sent None done })
       (subst (ServedAfter run first turns) (sym moved.is) (goes moved.past (next-left run first past session done number chosen act rest left moved.past moved.stands)))
@@ -300,10 +303,10 @@ unfolding first_block
 open-moves run first opens =
     (or_else-none (whole_block (chooser_of run first).sight run.plan.path.outside) (moves_block (chooser_of run first) 1 (fresh_session (sight_after run.setup first)) run.plan.path.moves) opens).1
 
-pub path-served : (run : Run) (first : List Event) (turns : ℕ) → IsBegun run
+pub path-served : (run : Run) (first : List Event) (turns : ℕ) → IsBegun run → All (IsUsable run.setup first) run.plan.tickets
     → first_block run.plan.path (sight_after run.setup first) run.plan.grants run.plan.goal run.locality ≡ None → commands_along run.plan.path ≤ turns → ServedAfter run first turns (begun first)
-path-served run first zero is opens enough = absurd (omega (arith, enough))
-path-served run first (suc turns) is opens enough =
+path-served run first zero is usable opens enough = absurd (omega (arith, enough))
+path-served run first (suc turns) is usable opens enough =
     let left : commands_of_moves run.plan.path.moves + 1 ≤ turns = omega (arith, enough) in
     let runs : IsRun run = record {
       setup = is.setup;
@@ -316,5 +319,5 @@ path-served run first (suc turns) is opens enough =
     let start = start-moved run first (open-starts run first opens) in
     one-turn run first turns (begun first)
     (subst (ServedAfter run first turns) (sym start.moved.is)
-    (moves-served run runs first (serves-goal run is first) run.plan.path.moves turns start.moved.past start.session 1 0 1 (fresh_session (sight_after run.setup first))
+    (moves-served run runs first usable (serves-goal run is first) run.plan.path.moves turns start.moved.past start.session 1 0 1 (fresh_session (sight_after run.setup first))
     (record { ahead = all-ahead run first start is.short; opens = open-moves run first opens }) left))

@@ -27,13 +27,15 @@ pub use Rattle.tpol_laws.proofs.Binds.{AreAlike, bind_of, bound_assertion, bound
 -- ---- where the run stands
 
 -- After these events, the first of which lie before the run's begin: the session is live, its nonce is the one
--- that the driver knows, it is like the one that was judged, and the world is as it was.
+-- that the driver knows, it is like the one that was judged, which starts at the time of the begin, and the world is as it
+-- was.
 pub record Stands (run : Run) (first past : List Event) (session : Session) (chosen : SessionState) : Type 0 where
   pub slot : IsSlotHandle session.handle
   pub held : is_held past session.handle ≡ true
   pub unsaved : sequence_of past session.handle ≡ None
   pub nonce : (session_state run.setup past session.handle).nonce ≡ session.nonce
   pub alike : AreAlike (session_state run.setup past session.handle) chosen
+  pub since : chosen.start ≡ (sight_after run.setup first).time
   pub world : world_at run.setup past ≡ world_at run.setup first
 
 -- who judged the path, at the begin

@@ -23,6 +23,8 @@ use Rattle.tpol_driver.specs.Answers.{answer_of, answer_of_reply}
 use Rattle.tpol_driver.specs.Commands.{command_of_move, key_handle, or_null, start_command}
 use Rattle.tpol_driver.specs.Driving.{Closing, Moving, Over, Standing, Starting, after_goal, goal_heard, goes_on, heard_on_path, is_verification, move_heard, next_command, sends, start_heard, verified}
 use Rattle.tpol_driver.specs.Plans.{is_known_move}
+use Rattle.tpol_driver.specs.declared.tickets.HeldTicket.{HeldTicket}
+use Rattle.tpol_driver.specs.Tickets.{ticket_command, ticket_for}
 use Rattle.tpol_goal.specs.Entities.{object_of_name}
 use Rattle.tpol_hash.specs.Sha256.{sha256_digest}
 use Rattle.tpol_name.specs.declared.entries.DirEntry.{DirEntry}
@@ -63,7 +65,7 @@ use Rattle.tpm_engine.specs.Views.{facts_of, indices_of, is_held, moment_of, nex
 use Rattle.tpol_laws.specs.Acts.{Act, Course, Other, Run, Turn, after_act, after_acts, answer_in, begun, event_in, turned}
 use Rattle.tpol_laws.specs.Others.{AreOthersApart, AreSecretsOnWritten, AsksWritten, LeavesAlone, SendsOnWritten, TurnsOnWritten, place_of}
 use Rattle.tpol_laws.specs.Runs.{IsRun}
-use Rattle.tpol_laws.proofs.NoTickets.{plain-command}
+use Rattle.tpol_laws.specs.HeldTickets.{TicketHasBounds}
 use Rattle.tpol_laws.proofs.After.{HasShown, Stays, has-shown, has-started, stays, touches, touches_by_use}
 use Rattle.tpol_laws.proofs.Answered.{done-deed, done-use, on-answer, own-passed, password-use, read-back, refusal-read, stop-code}
 use Rattle.tpol_laws.proofs.Calm.{others-stay}
@@ -74,6 +76,7 @@ use Rattle.tpol_laws.proofs.Lasting.{areas-same}
 use Rattle.tpol_laws.proofs.Named.{object-found}
 use Rattle.tpol_laws.proofs.Own.{IsOf, IsOwn, TicketIsFit, own-is-policy, own-move, rule-passed, ruled}
 use Rattle.tpol_laws.proofs.Starts.{started}
+use Rattle.tpol_laws.proofs.HeldTickets.{found-each, found-stands, held-command, own-ticket, plain-command, stands-other}
 
 -- ---- the machine's world
 
@@ -330,12 +333,24 @@ module _ (run : Run) (is : IsRun run) (past : List Event) (own : ℕ) (nonce : D
   path-turn ticket None at on asks =
       goal-on run (event_in run past (next_command run.plan (record { handle = own; nonce = nonce }) sent ticket None) ∷ past) own
       (goal_heard run.plan sent (answer_of (reply_reading (number_of_code (code_of_command (next_command run.plan (record { handle = own; nonce = nonce }) sent ticket None))) (answer_in run past (next_command run.plan (record { handle = own; nonce = nonce }) sent ticket None)).reply)))
-  path-turn ticket (Some act) at on asks =
-      subst (λ (c : Command). AsksWritten (indices_of run.setup past) c
-      → IsOn run (event_in run past c ∷ past)
-      (heard_on_path run.plan (record { handle = own; nonce = nonce }) sent ticket done (Some act) (answer_of (reply_reading (number_of_code (code_of_command c)) (answer_in run past c).reply))))
-      (sym (plain-command run.plan is.tickets (record { handle = own; nonce = nonce }) ticket act))
-      (move-in run.plan.directory (sym is.directory) ticket act at on (all-at MoveHasBounds run.plan.path.moves done act is.moves at) (known-at act at)) asks
+  path-turn ticket (Some act) at on asks = by (ticket_for run.plan.tickets act) refl
+    where
+      by : (o : Option HeldTicket) → ticket_for run.plan.tickets act ≡ o
+          → IsOn run (event_in run past (next_command run.plan (record { handle = own; nonce = nonce }) sent ticket (Some act)) ∷ past)
+          (heard_on_path run.plan (record { handle = own; nonce = nonce }) sent ticket done (Some act) (answer_of (reply_reading (number_of_code (code_of_command (next_command run.plan (record { handle = own; nonce = nonce }) sent ticket (Some act)))) (answer_in run past (next_command run.plan (record { handle = own; nonce = nonce }) sent ticket (Some act))).reply)))
+      by None none =
+          subst (λ (c : Command). AsksWritten (indices_of run.setup past) c
+          → IsOn run (event_in run past c ∷ past)
+          (heard_on_path run.plan (record { handle = own; nonce = nonce }) sent ticket done (Some act) (answer_of (reply_reading (number_of_code (code_of_command c)) (answer_in run past c).reply))))
+          (sym (plain-command run.plan (record { handle = own; nonce = nonce }) ticket act none))
+          (move-in run.plan.directory (sym is.directory) ticket act at on (all-at MoveHasBounds run.plan.path.moves done act is.moves at) (known-at act at)) asks
+      by (Some held) found =
+          let stands = found-stands run.plan.tickets act held found in
+          let made = own-ticket (view_of run.setup past).world own nonce on.slot held (found-each TicketHasBounds run.plan.tickets act held is.tickets found) act stands (all-at MoveHasBounds run.plan.path.moves done act is.moves at) in
+          subst (λ (c : Command). IsOn run (event_in run past c ∷ past)
+          (heard_on_path run.plan (record { handle = own; nonce = nonce }) sent ticket done (Some act) (answer_of (reply_reading (number_of_code (code_of_command c)) (answer_in run past c).reply))))
+          (sym (held-command run.plan (record { handle = own; nonce = nonce }) ticket act held found))
+          (own-turn run is past own nonce sent done ticket act (ticket_command (record { handle = own; nonce = nonce }) held) (number_of_code codes.PolicyTicket) at on (stands-other held ticket act stands) made tt)
 
 -- ---- the start
 

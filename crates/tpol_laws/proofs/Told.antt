@@ -31,6 +31,7 @@ use Rattle.tpol_laws.specs.Acts.{Turn as OwnTurn, after_acts, begun}
 use Rattle.tpol_laws.specs.GoalBytes.{goal_bytes}
 use Rattle.tpol_laws.specs.PathCommands.{commands_along}
 use Rattle.tpol_laws.specs.Told.{BeginsNowhere, BeginsOn, HasTurns, IsAlone, IsServedOn, IsSighted, IsToldServed, RunOf, before_begin, begins, behind_begin, behind_own, bytes_for, chosen_for, paths_for, sight_at_begin, turns_for, turns_given, with_over}
+use Rattle.tpol_laws.specs.HeldTickets.{IsUsable}
 use Rattle.tpol_laws.proofs.Begun.{along-state, begins-nowhere, begins-on, begun-along-is, begun-is, begun-run-is, front, none-before, run-along, setup-before, stands-in}
 use Rattle.tpol_laws.proofs.Followed.{Follows, allows-any, any, entry_at, own-follow, seat_of, sighted-turns, sighted_at}
 use Rattle.tpol_laws.proofs.Prints.{IsBehind, all-behind, all-spare, blocks-spare, found-begun}
@@ -110,7 +111,7 @@ module _ (staged : StagedScene) (run : RunOf staged.script) (is : IsStaged stage
       let opens = subst (λ setup. first_block on.path (sight_after setup past) (begins staged run).grants run.goal run.locality ≡ None) (setup-before staged run is) on.opens in
       let bytes = goal_bytes (world_at staged.setup past) run.goal in
       let given : bytes ≡ bytes_for staged run = ap (λ setup. goal_bytes (world_at setup past) run.goal) (sym (setup-before staged run is)) in
-      let served = path-served among past (turns_for run.number run.own) (begun-run-is staged run is on.path _ on.listed) opens enough in
+      let served = path-served among past (turns_for run.number run.own) (begun-run-is staged run is on.path _ on.listed) (All-nil (IsUsable among.setup past)) opens enough in
       record {
         added = follows.added;
         printed = follows.lines ∙ ap (λ l. l ++ follows.added) on.printed ∙ append_assoc (before_begin staged run).lines (line_of (chosen_line run.number position on.path.steps) ∷ []) follows.added;

@@ -3,6 +3,7 @@ pub mod BlindRuns
 pub mod Chances
 pub mod Courses
 pub mod GoalBytes
+pub mod HeldTickets
 pub mod Journal
 pub mod Others
 pub mod PathCommands

@@ -1,5 +1,5 @@
 -- Runs as a script begins them.
-use Rattle.std.specs.Prelude.{◌≡◌, ◌≤◌, true, All, [], length, map}
+use Rattle.std.specs.Prelude.{◌≡◌, ◌≤◌, true, All, length, map}
 use Rattle.tpol_digest.specs.Laws.{MoveHasBounds}
 use Rattle.tpol_driver.specs.Plans.{is_complete}
 use Rattle.tpol_goal.specs.Goals.{IsGoal, IsGoalAmong}
@@ -7,13 +7,14 @@ use Rattle.tpol_goal.specs.Grants.{IsGrants}
 use Rattle.tpol_name.specs.Directories.{directory_of}
 use Rattle.tpol_name.specs.Setups.{IsSetup}
 use Rattle.tpol_laws.specs.Acts.{Run}
+use Rattle.tpol_laws.specs.HeldTickets.{TicketHasBounds}
 
--- The machine starts from a scene, the plan has the scene's directory and grants and no tickets, each move of its path
--- is within the bounds of the wire, and the plan is complete.
+-- The machine starts from a scene, the plan has the scene's directory and grants, its tickets and each move of its path
+-- are within the bounds of the wire, and the plan is complete.
 pub record IsRun (run : Run) : Type 0 where
   pub setup : IsSetup run.setup
   pub directory : run.plan.directory ≡ directory_of run.setup
-  pub tickets : run.plan.tickets ≡ []
+  pub tickets : All TicketHasBounds run.plan.tickets
   pub grants : IsGrants run.plan.grants
   pub moves : All MoveHasBounds run.plan.path.moves
   pub complete : is_complete run.plan ≡ true
@@ -23,7 +24,7 @@ pub record IsRun (run : Run) : Type 0 where
 pub record IsBegun (run : Run) : Type 0 where
   pub setup : IsSetup run.setup
   pub directory : run.plan.directory ≡ directory_of run.setup
-  pub tickets : run.plan.tickets ≡ []
+  pub tickets : All TicketHasBounds run.plan.tickets
   pub grants : IsGrants run.plan.grants
   pub moves : All MoveHasBounds run.plan.path.moves
   pub short : length run.plan.path.moves ≤ 512

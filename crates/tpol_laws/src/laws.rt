@@ -1,6 +1,6 @@
 //! What the definitions promise together: functions whose clauses are the laws.
 
-ghost use Rattle.std.specs.Prelude.{◌≡◌, ◌≢◌, ◌≤◌, ◌<◌, ◌↔◌, ◌+◌, ◌*◌, ◌^◌, ◌++◌, [], ◌∷◌, ◌⊎◌, ℕ, List, Ok, Option, None, Some, find, is_some, length, map, option_map, replicate, slice_get, take, true};
+ghost use Rattle.std.specs.Prelude.{◌≡◌, ◌≢◌, ◌≤◌, ◌<◌, ◌↔◌, ◌+◌, ◌*◌, ◌^◌, ◌++◌, [], ◌∷◌, ◌⊎◌, ℕ, All, List, Ok, Option, None, Some, find, is_some, length, map, option_map, replicate, slice_get, take, true};
 ghost use Rattle.std.specs.List.{Contains};
 ghost use Rattle.tpol_choose.specs.declared.block.Block.{Block};
 ghost use Rattle.tpol_choose.specs.Blocks.{chosen_path, first_block};
@@ -47,6 +47,7 @@ ghost use Rattle.tpol_fill.specs.Filling.{filled};
 ghost use Rattle.tpol_generate.specs.Generate.{generate_step, generated_answer, generated_performance, generated_policy, generated_setup};
 ghost use Rattle.tpol_laws.specs.Courses.{HasCourse, acts_for, course_at_begin, course_of, run_along};
 ghost use Rattle.tpol_laws.specs.GoalBytes.{goal_bytes};
+ghost use Rattle.tpol_laws.specs.HeldTickets.{IsUsable};
 ghost use Rattle.tpol_laws.specs.Journal.{IsJournal};
 ghost use Rattle.tpol_steps.specs.declared.filled.FilledDocument.{FilledDocument};
 ghost use Rattle.tpol_laws.specs.Others.{AreOthersApart, AreSecretsOnWritten, HasGoneOn, place_of};
@@ -77,32 +78,35 @@ pub fn a_path_that_can_is_complete()
         → first_block plan.path (sight_after setup past) plan.grants plan.goal locality ≡ None → is_complete plan ≡ true }
 {}
 
-/// A run as a script begins it (`IsBegun`), whose path nothing blocks on the machine as it is at the run's begin,
-/// is over, and served with what its goal gives on that machine, after as many turns as its path has commands, where
-/// only its own turns come: the start, one for each move, one more for each approval by a key, and the goal. No run
-/// is served after fewer turns of its own, whatever others do.
+/// A run as a script begins it (`IsBegun`), whose path nothing blocks on the machine as it is at the run's begin, and
+/// whose tickets that machine takes (`IsUsable`: they are its own, no reset has come since, and their deadlines have not
+/// passed), is over, and served with what its goal gives on that machine, after as many turns as its path has commands,
+/// where only its own turns come: the start, one for each move, be it by a ticket or not, one more for each approval by a
+/// key, and the goal. No run is served after fewer turns of its own, whatever others do.
 pub fn a_path_that_can_is_served()
     ensures served { (run : Run) (past : List EventOf) (turns : ℕ)
-        → IsBegun run → first_block run.plan.path (sight_after run.setup past) run.plan.grants run.plan.goal run.locality ≡ None
+        → IsBegun run → All (IsUsable run.setup past) run.plan.tickets
+        → first_block run.plan.path (sight_after run.setup past) run.plan.grants run.plan.goal run.locality ≡ None
         → commands_along run.plan.path ≤ turns
         → (after_acts run (replicate turns Turn) (begun past)).standing ≡ Over (Served (goal_bytes (world_at run.setup past) run.plan.goal)) }
     ensures never_sooner { (run : Run) (past : List EventOf) (acts : List Act) (bytes : List ℕ)
         → turns_in acts < commands_along run.plan.path → (after_acts run acts (begun past)).standing ≢ Over (Served bytes) }
 {}
 
-/// A run as a script begins it (`IsBegun`; the offset of its goal, if it has one, has two bytes), whose path is
-/// blocked on the machine as it is at the run's begin, is never served, where its plan is complete and only its
-/// own turns come, and the machine does not carry out the command of its goal: some command of it fails. There is
-/// one exception: the run sends an HMAC which is the one that the machine asks for, though the blocks of the two
-/// keys differ, or the Names that the two are over.
+/// A run as a script begins it (`IsBegun`; the offset of its goal, if it has one, has two bytes) that holds no tickets,
+/// and whose path is blocked on the machine as it is at the run's begin, is never served, where its plan is complete
+/// and only its own turns come, and the machine does not carry out the command of its goal: some command of it fails.
+/// There is one exception: the run sends an HMAC which is the one that the machine asks for, though the blocks of the two
+/// keys differ, or the Names that the two are over. Of a run with tickets it is false: the ticket of a secret that was
+/// right once serves where the secret that is granted is wrong by now.
 pub fn a_blocked_path_fails()
     ensures served { (run : Run) (past : List EventOf) (turns : ℕ) (block : Block) (bytes : List ℕ)
-        → IsBegun run → HasShortOffset run.plan.goal → is_complete run.plan ≡ true
+        → IsBegun run → run.plan.tickets ≡ [] → HasShortOffset run.plan.goal → is_complete run.plan ≡ true
         → first_block run.plan.path (sight_after run.setup past) run.plan.grants run.plan.goal run.locality ≡ Some block
         → (after_acts run (replicate turns Turn) (begun past)).standing ≡ Over (Served bytes)
         → (before : ℕ) × (before ≤ turns) × IsByChance run (after_acts run (replicate before Turn) (begun past)) }
     ensures fails { (run : Run) (past : List EventOf) (turns : ℕ) (block : Block) (session : ℕ)
-        → IsBegun run → HasShortOffset run.plan.goal → is_complete run.plan ≡ true
+        → IsBegun run → run.plan.tickets ≡ [] → HasShortOffset run.plan.goal → is_complete run.plan ≡ true
         → first_block run.plan.path (sight_after run.setup past) run.plan.grants run.plan.goal run.locality ≡ Some block
         → place_of (after_acts run (replicate turns Turn) (begun past)).standing ≡ Some (session, length run.plan.path.moves)
         → succeeds run (after_acts run (replicate turns Turn) (begun past)) (sends run.plan (after_acts run (replicate turns Turn) (begun past)).standing) ≡ true

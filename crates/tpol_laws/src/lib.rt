@@ -16,11 +16,13 @@
 //! - `IsBegun.fits`, `IsBegun.among`: its clause `script`, for the goal of a run that is begun.
 //! - `IsBegun.directory`, `IsBegun.tickets`, `IsBegun.moves`: as for the laws below.
 //! - `IsBegun.short`: the clause `within` of `check_paths`.
+//! - `IsUsable`: of a plan without tickets nothing is asked.
 //! - That nothing blocks the path: for a path that `choose` answers, its clause `chosen`, over the machine's sight
 //!   at the run's begin.
 //!
 //! `a_blocked_path_fails`
 //! - `IsBegun`: as for the law before.
+//! - That the plan has no tickets: a ticket may serve what a password does not, so with them the law is false.
 //! - `HasShortOffset`: the offset of a goal is a `u16`.
 //! - That the plan is complete: what `Plan::complete` answers, its clause `complete`.
 //! - That something blocks the path: what `can` answers, its clause `block`, over the machine's sight at the run's
@@ -34,8 +36,7 @@
 //! `a_run_goes_on`, `session_digest_is_compiled`
 //! - `IsRun.setup`, `IsRun.grants`: the clauses `setup` and `clients` of `read_scene`.
 //! - `IsRun.directory`: a plan's directory is that of the scene's setup, by the clause `lines` of `directory`.
-//! - `IsRun.tickets`: no command of the program puts tickets into a plan (`plan_along` of tpol_perform). With tickets
-//!   these laws are not proved, and `a_blocked_path_fails` is false: a ticket may serve what a password does not.
+//! - `IsRun.tickets`: the deadline of a ticket is a `u64`.
 //! - `IsRun.moves`: `paths_have_bounds` of tpol_digest, over the clauses `bounded` of `read_policy` and of `fill`.
 //! - `IsRun.complete`: `a_path_that_can_is_complete`, for a path that `choose` answers (its clause `chosen`); for
 //!   any other plan it is what `Plan::complete` answers.

@@ -4,10 +4,10 @@ use Rattle.tpol_laws.proofs.laws.a_blocked_path_fails.Goals as goal
 
 pub returns : goal.returns
 returns c = record {
-  served = λ run past turns block bytes begins offsets complete blocked served.
-      let chance = blocked-chance run past turns block begins offsets complete blocked (inl (record { bytes = bytes; is = served })) in
+  served = λ run past turns block bytes begins none offsets complete blocked served.
+      let chance = blocked-chance run past turns block begins none offsets complete blocked (inl (record { bytes = bytes; is = served })) in
       (chance.before, chance.within, chance.is);
-  fails = λ run past turns block session begins offsets complete blocked place success.
-      let chance = blocked-chance run past turns block begins offsets complete blocked (inr (record { session = session; place = place; success = success })) in
+  fails = λ run past turns block session begins none offsets complete blocked place success.
+      let chance = blocked-chance run past turns block begins none offsets complete blocked (inr (record { session = session; place = place; success = success })) in
       (chance.before, chance.within, chance.is);
 }
