@@ -29,7 +29,7 @@ decided-event setup past (events.Time ms) answered = tt
 decided-event setup past (events.Presence on) answered = tt
 decided-event setup past events.Reset answered = tt
 
-legal-at : (setup : Setup) (later earlier : List Event) (event : Event) → IsLegal setup (later ++ event ∷ earlier) → IsAnswered setup earlier event
+pub legal-at : (setup : Setup) (later earlier : List Event) (event : Event) → IsLegal setup (later ++ event ∷ earlier) → IsAnswered setup earlier event
 unfolding IsLegal
 legal-at setup [] earlier event legal = legal.0
 legal-at setup (first ∷ later) earlier event legal = legal-at setup later earlier event legal.1

@@ -64,6 +64,8 @@ mod Standing
 mod Starts
 mod Step
 mod TicketPasses
+mod TicketsGiven
+mod TicketsTaken
 mod Told
 mod ToldBlind
 mod Unlike

@@ -5,6 +5,7 @@ pub mod Courses
 pub mod GoalBytes
 pub mod HeldTickets
 pub mod Journal
+pub mod JournalTickets
 pub mod Others
 pub mod PathCommands
 pub mod Printed

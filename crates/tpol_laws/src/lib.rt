@@ -91,14 +91,23 @@
 //! `gen_has_all_ways`
 //! - `ors ≤ 12`: the words of `gen` name no more (`generation` of tpol_top/Words).
 //!
+//! `journals_tell_tickets`, `own_tickets_are_accepted`
+//! - `IsLegal`: the clause `legal` of `Machine::journal`; of a scene's journal it is in `scene_told` of `policy_main`
+//!   (`IsJournal`, `journals_are_told`).
+//! - `IsOfBytes`: what is sent is a slice of bytes.
+//! - That the time is at most 2^63 milliseconds: the condition `early` of `Machine::advance`.
+//! - `TakesAuthorization`, that no Reset came and the deadline has not passed: what the law is of.
+//!
 //! `journals_are_told`, `refusals_end_runs`, `success_replies_have_code_zero`: none.
 //!
 //! That the commands of the run succeed is no premise of `session_digest_is_compiled`: a run stands on its path as
 //! long as they do, which is `a_run_goes_on`.
 #![tactic(auto)]
 
+mod journal_tickets;
 mod laws;
 
+pub use journal_tickets::{journals_tell_tickets, own_tickets_are_accepted};
 pub use laws::{
     a_blocked_path_fails, a_path_that_can_is_complete, a_path_that_can_is_served, a_run_ends,
     a_run_goes_on, blind_runs_are_served, blind_runs_are_told, gen_has_all_ways, journals_are_told,
