@@ -113,7 +113,7 @@ try() {
         return 1
     fi
     need_rt
-    say "the proved program is not built, so this answer is UNPROVED and takes about a minute; '$name --build' proves it"
+    say "the proved program is not built, so this answer is UNPROVED and takes a minute or two; '$name --build' proves it"
     make_room
     : >"$room/source"
     if reads_source "$1"; then
