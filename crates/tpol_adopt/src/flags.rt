@@ -20,7 +20,8 @@ pub enum Flags {
     OfLocality,
 }
 
-fn index_flags() -> &'static [(&'static str, u32)]
+/// The attributes of an index by their names (TPM 2.0 Part 2, TPMA_NV), each with its bit.
+pub fn index_flags() -> &'static [(&'static str, u32)]
     ensures { map (λ word. (word.0.now, word.1)) result.now ≡ index_flags }
 {
     &[
@@ -48,7 +49,8 @@ fn index_flags() -> &'static [(&'static str, u32)]
     ]
 }
 
-fn index_types() -> &'static [(&'static str, u32)]
+/// The types of an index by their names (TPM 2.0 Part 2, TPM_NT), in bits 4 to 7.
+pub fn index_types() -> &'static [(&'static str, u32)]
     ensures { map (λ word. (word.0.now, word.1)) result.now ≡ index_types }
 {
     &[
@@ -61,7 +63,8 @@ fn index_types() -> &'static [(&'static str, u32)]
     ]
 }
 
-fn object_flags() -> &'static [(&'static str, u32)]
+/// The attributes of an object by their names (TPM 2.0 Part 2, TPMA_OBJECT), each with its bit.
+pub fn object_flags() -> &'static [(&'static str, u32)]
     ensures { map (λ word. (word.0.now, word.1)) result.now ≡ object_flags }
 {
     &[
@@ -79,7 +82,8 @@ fn object_flags() -> &'static [(&'static str, u32)]
     ]
 }
 
-fn locality_flags() -> &'static [(&'static str, u32)]
+/// The localities 0 to 4 by their names (TPM 2.0 Part 2, TPMA_LOCALITY), each with its bit.
+pub fn locality_flags() -> &'static [(&'static str, u32)]
     ensures { map (λ word. (word.0.now, word.1)) result.now ≡ locality_flags }
 {
     &[

@@ -1,0 +1,9 @@
+mod Areas
+mod Documents
+mod Floats
+mod Keys
+mod Leaves
+mod Placed
+mod SpelledFloats
+mod Tree
+mod Walks

@@ -1,0 +1,13 @@
+//! Laws of FAPI's spelling, over its definitions alone.
+
+ghost use Rattle.tpol_export.specs.Laws.{IsReadBack};
+
+use tpol_write::canonical_values_stand;
+
+/// What is exported reads back: `normal` of a policy in FAPI's spelling says that policy, without a note, with the
+/// hierarchies that a path names by their handles.
+pub fn exports_read_back()
+    ensures { IsReadBack }
+{
+    canonical_values_stand();
+}
