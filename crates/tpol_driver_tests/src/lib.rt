@@ -3,7 +3,7 @@
 #![tactic(auto)]
 
 #[cfg(test)]
-mod blind;
+mod runs;
 #[cfg(test)]
 mod steps;
 #[cfg(test)]

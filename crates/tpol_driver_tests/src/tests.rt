@@ -2,23 +2,10 @@
 //! commands, and the ends that replies lead to. The run of the disk is on a machine whose seed is 32 zero
 //! bytes; its end has the HMAC that `tpm_auth` has from there too.
 
-use crate::steps::{BOOT, NONCE_SEED, OWNER, Step, ZERO_PCRS, at_start, turn};
+use crate::runs::{APPROVALS, Act, COUNTER, Failing, KEY, Run, Use, state_after};
+use crate::steps::{NONCE_SEED, Step};
 use std::alloc::Global;
-use tpol_base::{Blob, Compare, Digest32, Digests, Name, NoMemory, Sequence, Text};
-use tpol_driver::{End, Next, Plan, Stage, Tickets};
-use tpol_goal::{Goal, Grants, Secrets};
-use tpol_name::{DirEntry, Directory};
-use tpol_tree::{Assertion, Move, Moves, Path};
-
-/// A reply to the step at this place by which a run fails: the code that denies it, 0 where the reply is bad,
-/// and the stage of the end.
-#[derive(Clone, Copy)]
-struct Failing<'a> {
-    place: usize,
-    reply: &'a [u8],
-    code: u32,
-    stage: Stage,
-}
+use tpol_driver::{End, Next, Stage};
 
 /// The reply to Unseal in the disk's run.
 const UNSEALED: &[u8; 88] =
@@ -275,50 +262,6 @@ const DISK_KEY: [u8; 32] =
     *b"\x01\x17\x0c\x0c\xcc\xc3\x8e\xa2\xeb\x61\x29\xdc\x09\xe9\x7f\x4e\xe7\x13\x35\x1d\
       \x16\x71\x81\xe9\x7c\x8c\x8b\x9f\x32\xc7\x39\x5e";
 
-// The digests in other Names.
-
-const KEY: [u8; 32] = [0x11; 32];
-
-const COUNTER: [u8; 32] = [0x22; 32];
-
-const APPROVALS: [u8; 32] = [0x33; 32];
-
-const APPROVED: Digest32 = Digest32 { bytes: [0x88; 32] };
-
-/// The move of a path.
-#[derive(Clone, Copy)]
-enum Act {
-    Pcrs,
-    AuthValue,
-    Branches,
-    Signed,
-    Secret,
-    Counter,
-    Approval,
-    ApprovalByIndex,
-    Timer,
-    Password,
-}
-
-/// What a client uses its session for.
-#[derive(Clone, Copy)]
-enum Use {
-    Unseal { object: u32 },
-    NvRead { index: u32, size: u16, offset: u16 },
-}
-
-/// What a run is to do, the steps by which it is served, and FlushContext of its session.
-struct Run {
-    path: &'static [Act],
-    goal: Use,
-    secrets: &'static [(u32, &'static [u8])],
-    keys: &'static [(u32, &'static [u8])],
-    directory: &'static [(u32, [u8; 32], u32)],
-    nonce_seed: [u8; 32],
-    steps: &'static [Step<'static>],
-    flush: &'static [u8],
-}
-
 /// The branch `boot` of the policy of a disk key: PCRs and the value of the key.
 static DISK: Run = Run {
     path: &[Act::Pcrs, Act::AuthValue, Act::Branches],
@@ -328,6 +271,7 @@ static DISK: Run = Run {
     secrets: &[(0x8000_0000, b"pin")],
     keys: &[],
     directory: &[(0x8000_0000, DISK_KEY, 0x40)],
+    tickets: &[],
     nonce_seed: NONCE_SEED,
     steps: &DISK_STEPS,
     flush: DISK_FLUSH,
@@ -356,227 +300,11 @@ static DEVICE: Run = Run {
         (0x01c0_7f01, COUNTER, 0x2004_0004),
         (0x0100_0002, APPROVALS, 0x2004_0004),
     ],
+    tickets: &[],
     nonce_seed: [0x66; 32],
     steps: &DEVICE_STEPS,
     flush: DEVICE_FLUSH,
 };
-
-fn name(digest: [u8; 32]) -> Name {
-    Name::Hash(Digest32 { bytes: digest })
-}
-
-fn signed(alloc: Global) -> Result<Move, NoMemory> {
-    Ok(Move::Assert(Assertion::Signed {
-        key: name(KEY),
-        policy_ref: Blob::from_slice(alloc, b"ref")?,
-        cp_hash: Some(Digest32 { bytes: [0x77; 32] }),
-        expiration: -2,
-    }))
-}
-
-fn secret(alloc: Global) -> Move {
-    Move::Assert(Assertion::Secret {
-        entity: Name::Handle(0x4000_000b),
-        policy_ref: Blob::new(alloc),
-        cp_hash: None,
-        expiration: 0,
-    })
-}
-
-fn counter(alloc: Global) -> Result<Move, NoMemory> {
-    Ok(Move::Assert(Assertion::Nv {
-        index: name(COUNTER),
-        operand: Blob::from_slice(alloc, b"\x05\x06")?,
-        offset: 1,
-        operation: Compare::UnsignedLe,
-    }))
-}
-
-fn approval(alloc: Global) -> Result<Move, NoMemory> {
-    Ok(Move::Approve {
-        key: name(KEY),
-        policy_ref: Blob::from_slice(alloc, b"app")?,
-        approved: APPROVED,
-        signature: Digest32 { bytes: [0x99; 32] },
-    })
-}
-
-fn timer(alloc: Global) -> Result<Move, NoMemory> {
-    Ok(Move::Assert(Assertion::CounterTimer {
-        operand: Blob::from_slice(alloc, b"\x07")?,
-        offset: 8,
-        operation: Compare::SignedGt,
-    }))
-}
-
-fn pcrs(alloc: Global) -> Move {
-    Move::Assert(Assertion::Pcr {
-        mask: 0x95,
-        pcr_digest: ZERO_PCRS,
-        values: Digests::new(alloc),
-    })
-}
-
-fn move_of(alloc: Global, act: Act) -> Result<Move, NoMemory> {
-    match act {
-        Act::Pcrs => Ok(pcrs(alloc)),
-        Act::AuthValue => Ok(Move::Assert(Assertion::AuthValue)),
-        Act::Branches => Ok(Move::Or(Digests::from_slice(alloc, &[BOOT, OWNER])?)),
-        Act::Signed => signed(alloc),
-        Act::Secret => Ok(secret(alloc)),
-        Act::Counter => counter(alloc),
-        Act::Approval => approval(alloc),
-        Act::ApprovalByIndex => Ok(Move::ApproveNv {
-            index: name(APPROVALS),
-            approved: APPROVED,
-        }),
-        Act::Timer => timer(alloc),
-        Act::Password => Ok(Move::Assert(Assertion::Password)),
-    }
-}
-
-fn push_moves(moves: &mut Moves, alloc: Global, path: &[Act]) -> Result<(), NoMemory> {
-    for act in path {
-        moves.push(move_of(alloc, *act)?)?;
-    }
-    Ok(())
-}
-
-fn push_secrets(
-    secrets: &mut Secrets,
-    alloc: Global,
-    values: &[(u32, &[u8])],
-) -> Result<(), NoMemory> {
-    for (handle, value) in values {
-        secrets.push((*handle, Blob::from_slice(alloc, value)?))?;
-    }
-    Ok(())
-}
-
-fn push_entries(
-    directory: &mut Directory,
-    alloc: Global,
-    lines: &[(u32, [u8; 32], u32)],
-) -> Result<(), NoMemory> {
-    for (handle, digest, attributes) in lines {
-        directory.push(DirEntry {
-            path: Text::from_str(alloc, "/x")?,
-            handle: *handle,
-            name: name(*digest),
-            attributes: *attributes,
-        })?;
-    }
-    Ok(())
-}
-
-fn goal(run: &Run) -> Goal {
-    match run.goal {
-        Use::Unseal { object } => Goal::Unseal { object },
-        Use::NvRead {
-            index,
-            size,
-            offset,
-        } => Goal::NvRead {
-            index,
-            size,
-            offset,
-        },
-    }
-}
-
-/// The plan of a run without its moves, its grants and its directory.
-fn empty_plan(alloc: Global, run: &Run) -> Plan {
-    Plan {
-        path: Path {
-            steps: Sequence::new(alloc),
-            moves: Moves::new(alloc),
-            outside: false,
-        },
-        goal: goal(run),
-        grants: Grants {
-            secrets: Secrets::new(alloc),
-            keys: Secrets::new(alloc),
-        },
-        directory: Directory::new(alloc),
-        nonce_seed: Digest32 {
-            bytes: run.nonce_seed,
-        },
-        tickets: Tickets::new(alloc),
-    }
-}
-
-fn push_grants(grants: &mut Grants, alloc: Global, run: &Run) -> Result<(), NoMemory> {
-    push_secrets(&mut grants.secrets, alloc, run.secrets)?;
-    push_secrets(&mut grants.keys, alloc, run.keys)
-}
-
-fn fill(plan: &mut Plan, alloc: Global, run: &Run) -> Result<(), NoMemory> {
-    push_moves(&mut plan.path.moves, alloc, run.path)?;
-    push_grants(&mut plan.grants, alloc, run)?;
-    push_entries(&mut plan.directory, alloc, run.directory)
-}
-
-fn begun(alloc: Global, run: &Run, step: &Step) -> Option<Next> {
-    let mut plan = empty_plan(alloc, run);
-    if fill(&mut plan, alloc, run).is_err() || !plan.complete() {
-        drop(plan);
-        return None;
-    }
-    at_start(alloc, plan, step)
-}
-
-/// The step of a run at this place with another reply.
-fn answered_by<'a>(run: &Run, place: usize, reply: &'a [u8]) -> Option<Step<'a>> {
-    let step = run.steps.get(place)?;
-    Some(Step {
-        command: step.command,
-        reply,
-    })
-}
-
-/// The step of a run at this place, behind the steps before the one that is to fail.
-fn failing_step<'a>(run: &Run, failing: &Failing<'a>, place: usize) -> Option<Step<'a>> {
-    match place.checked_sub(failing.place) {
-        Some(0) => answered_by(run, place, failing.reply),
-        Some(1) if failing.place > 0 => Some(Step {
-            command: run.flush,
-            reply: b"",
-        }),
-        _ => None,
-    }
-}
-
-/// The step of a run at this place. Where one is to fail, it has the reply by which it fails, and behind it stands
-/// the flush of the session, if there is one, which no reply answers.
-fn step_at<'a>(run: &Run, failing: Option<&Failing<'a>>, place: usize) -> Option<Step<'a>> {
-    match failing {
-        Some(failing) if place >= failing.place => failing_step(run, failing, place),
-        _ => run.steps.get(place).copied(),
-    }
-}
-
-/// The state behind one more step, where there is one at this place.
-fn turn_at(
-    alloc: Global,
-    state: Next,
-    run: &Run,
-    failing: Option<&Failing>,
-    place: usize,
-) -> Option<Next> {
-    match step_at(run, failing, place) {
-        Some(step) => turn(alloc, state, &step),
-        None => Some(state),
-    }
-}
-
-/// The state of a run behind its steps.
-fn state_after(alloc: Global, run: &Run, failing: Option<&Failing>) -> Option<Next> {
-    let mut state = begun(alloc, run, &step_at(run, failing, 0)?)?;
-    for place in 1..=run.steps.len() {
-        state = turn_at(alloc, state, run, failing, place)?;
-    }
-    Some(state)
-}
 
 fn is_served(end: &End, wanted: &[u8]) -> bool {
     match end {

@@ -1,13 +1,11 @@
 //! Tickets of a run. The commands and the ticket are computed by another program (Python's `hashlib` and `hmac`) from
 //! the rules of the commands, on a machine whose seed is 32 zero bytes.
 
-use crate::steps::{DENIED, NONCE_SEED, OK, START, Step, at_start, turn};
+use crate::runs::{Act, Run, Use, state_after};
+use crate::steps::{DENIED, NONCE_SEED, OK, START, Step};
 use std::alloc::Global;
-use tpol_base::{Blob, Digest32, Name, NoMemory, Text};
-use tpol_driver::{HeldTicket, Next, Plan, Tickets};
-use tpol_goal::{Goal, Grants, Secrets};
-use tpol_name::{DirEntry, Directory};
-use tpol_tree::{Assertion, Move, Moves, Path, PathSteps};
+use tpol_base::Name;
+use tpol_driver::{HeldTicket, Next};
 
 /// Its reply: the session 03000001.
 const STARTED: &[u8] =
@@ -56,7 +54,7 @@ const TICKET: [u8; 32] =
       \xd6\x98\xe9\x8f\x79\x08\x93\x8e\xc0\x6f\x53\x9b";
 
 /// A run that earns a ticket, and is denied its goal.
-const EARNING: [Step<'static>; 4] = [
+const EARNING_STEPS: [Step<'static>; 4] = [
     Step {
         command: START,
         reply: STARTED,
@@ -76,7 +74,7 @@ const EARNING: [Step<'static>; 4] = [
 ];
 
 /// The same, where the reply has no deadline.
-const NOT_EARNING: [Step<'static>; 4] = [
+const NOT_EARNING_STEPS: [Step<'static>; 4] = [
     Step {
         command: START,
         reply: STARTED,
@@ -96,7 +94,7 @@ const NOT_EARNING: [Step<'static>; 4] = [
 ];
 
 /// The same by the ticket.
-const SHOWING: [Step<'static>; 4] = [
+const SHOWING_STEPS: [Step<'static>; 4] = [
     Step {
         command: START,
         reply: STARTED,
@@ -115,80 +113,50 @@ const SHOWING: [Step<'static>; 4] = [
     },
 ];
 
-/// The ticket of the endorsement hierarchy, or one like it that has a policyRef.
-fn held(alloc: Global, policy_ref: &[u8], digest: [u8; 32]) -> Result<HeldTicket, NoMemory> {
-    Ok(HeldTicket {
-        signed: false,
-        key: Name::Handle(0x4000_000b),
-        policy_ref: Blob::from_slice(alloc, policy_ref)?,
-        cp_hash: None,
-        deadline: 1000,
-        reset_count: 0,
-        digest: Digest32 { bytes: digest },
-    })
-}
+/// A run without tickets whose reply has a deadline.
+static EARNING: Run = Run {
+    path: &[Act::TicketedSecret],
+    goal: Use::Unseal {
+        object: 0x8000_0000,
+    },
+    secrets: &[],
+    keys: &[],
+    directory: &[(0x8000_0000, [0x22; 32], 0x40)],
+    tickets: &[],
+    nonce_seed: NONCE_SEED,
+    steps: &EARNING_STEPS,
+    flush: FLUSH,
+};
 
-/// A ticket with another policyRef, two that stand for the move, the right one first.
-fn push_tickets(tickets: &mut Tickets, alloc: Global) -> Result<(), NoMemory> {
-    tickets.push(held(alloc, b"ref", [0x11; 32])?)?;
-    tickets.push(held(alloc, b"", TICKET)?)?;
-    tickets.push(held(alloc, b"", [0x22; 32])?)
-}
+/// One whose reply has none.
+static NOT_EARNING: Run = Run {
+    path: &[Act::TicketedSecret],
+    goal: Use::Unseal {
+        object: 0x8000_0000,
+    },
+    secrets: &[],
+    keys: &[],
+    directory: &[(0x8000_0000, [0x22; 32], 0x40)],
+    tickets: &[],
+    nonce_seed: NONCE_SEED,
+    steps: &NOT_EARNING_STEPS,
+    flush: FLUSH,
+};
 
-fn empty_plan(alloc: Global) -> Plan {
-    Plan {
-        path: Path {
-            steps: PathSteps::new(alloc),
-            moves: Moves::new(alloc),
-            outside: false,
-        },
-        goal: Goal::Unseal {
-            object: 0x8000_0000,
-        },
-        grants: Grants {
-            secrets: Secrets::new(alloc),
-            keys: Secrets::new(alloc),
-        },
-        directory: Directory::new(alloc),
-        nonce_seed: Digest32 { bytes: NONCE_SEED },
-        tickets: Tickets::new(alloc),
-    }
-}
-
-fn fill(plan: &mut Plan, alloc: Global) -> Result<(), NoMemory> {
-    plan.path.moves.push(Move::Assert(Assertion::Secret {
-        entity: Name::Handle(0x4000_000b),
-        policy_ref: Blob::new(alloc),
-        cp_hash: None,
-        expiration: -1,
-    }))?;
-    plan.directory.push(DirEntry {
-        path: Text::from_str(alloc, "/x")?,
-        handle: 0x8000_0000,
-        name: Name::Hash(Digest32 { bytes: [0x22; 32] }),
-        attributes: 0x40,
-    })
-}
-
-/// The plan of the run, with tickets or without.
-fn plan(alloc: Global, holds: bool) -> Option<Plan> {
-    let mut plan = empty_plan(alloc);
-    if fill(&mut plan, alloc).is_err()
-        || (holds && push_tickets(&mut plan.tickets, alloc).is_err())
-    {
-        drop(plan);
-        return None;
-    }
-    Some(plan)
-}
-
-/// The state of the run behind these steps.
-fn state_after(alloc: Global, holds: bool, steps: &[Step; 4]) -> Option<Next> {
-    let state = at_start(alloc, plan(alloc, holds)?, &steps[0])?;
-    let state = turn(alloc, state, &steps[1])?;
-    let state = turn(alloc, state, &steps[2])?;
-    turn(alloc, state, &steps[3])
-}
+/// One that holds a ticket with another policyRef, and two that stand for the move, the right one first.
+static SHOWING: Run = Run {
+    path: &[Act::TicketedSecret],
+    goal: Use::Unseal {
+        object: 0x8000_0000,
+    },
+    secrets: &[],
+    keys: &[],
+    directory: &[(0x8000_0000, [0x22; 32], 0x40)],
+    tickets: &[(b"ref", [0x11; 32]), (b"", TICKET), (b"", [0x22; 32])],
+    nonce_seed: NONCE_SEED,
+    steps: &SHOWING_STEPS,
+    flush: FLUSH,
+};
 
 /// Whether this is the ticket that the run earns.
 fn is_earned(ticket: &HeldTicket) -> bool {
@@ -215,8 +183,8 @@ fn has_earned(state: &Option<Next>, count: usize) -> bool {
 }
 
 // A test names the tables of its run, and leaves the states to this function: a proof about both at once is long.
-fn earns(alloc: Global, holds: bool, steps: &[Step; 4], count: usize) -> bool {
-    let state = state_after(alloc, holds, steps);
+fn earns(alloc: Global, run: &Run, count: usize) -> bool {
+    let state = state_after(alloc, run, None);
     let answer = has_earned(&state, count);
     drop(state);
     answer
@@ -224,15 +192,15 @@ fn earns(alloc: Global, holds: bool, steps: &[Step; 4], count: usize) -> bool {
 
 #[test]
 fn a_reply_with_a_deadline_earns_its_ticket(rt: HostRuntime) {
-    assert!(rt; earns(rt.alloc(), false, &EARNING, 1));
+    assert!(rt; earns(rt.alloc(), &EARNING, 1));
 }
 
 #[test]
 fn a_reply_without_a_deadline_earns_none(rt: HostRuntime) {
-    assert!(rt; earns(rt.alloc(), false, &NOT_EARNING, 0));
+    assert!(rt; earns(rt.alloc(), &NOT_EARNING, 0));
 }
 
 #[test]
 fn the_first_ticket_that_stands_for_a_move_is_shown(rt: HostRuntime) {
-    assert!(rt; earns(rt.alloc(), true, &SHOWING, 0));
+    assert!(rt; earns(rt.alloc(), &SHOWING, 0));
 }

@@ -3,7 +3,6 @@
 
 ghost use Rattle.std.specs.Prelude.{◌≤◌, All, IsTrue, length};
 
-use crate::steps::{BOOT, DENIED, NONCE_SEED, OK, OWNER, START, Step, ZERO_PCRS, is_made};
 use std::alloc::Global;
 use tpol_base::{Blob, Digest32, Digests, Name, NoMemory, Rc, Text};
 use tpol_driver::{
@@ -14,6 +13,30 @@ use tpol_goal::{Goal, Grants, Secrets};
 use tpol_name::{DirEntry, Directory};
 use tpol_tree::{Assertion, Move, Moves, Path, PathSteps, Paths};
 
+/// A command of a run, and its reply.
+#[derive(Clone, Copy)]
+struct Step<'a> {
+    command: &'static [u8],
+    reply: &'a [u8],
+}
+
+/// The nonce seed of the run.
+const NONCE_SEED: [u8; 32] =
+    *b"\x3e\x09\x99\x91\xde\x67\x52\x16\x4a\xe4\x78\xd6\xa4\xe5\x11\x61\x56\xda\xb8\xba\
+      \xe5\x2e\x11\xa5\xc8\x2b\xf4\xc1\x80\xe1\x70\x01";
+
+/// StartAuthSession with the nonce of the command 0.
+const START: &[u8] =
+    b"\x80\x01\x00\x00\x00\x3b\x00\x00\x01\x76\x40\x00\x00\x07\x40\x00\x00\x07\x00\x20\
+      \x01\xdb\x4b\xaa\x43\xff\xba\x54\x51\xe6\x42\x7b\x4b\x6a\x4e\x56\xeb\x70\x5b\x08\
+      \x93\xde\xd6\x88\x9a\x26\x16\x89\xe2\xe3\x96\xf1\x00\x00\x01\x00\x10\x00\x0b";
+
+/// Unseal refused: 000009a3.
+const DENIED: &[u8] = b"\x80\x01\x00\x00\x00\x0a\x00\x00\x09\xa3";
+
+/// The reply without fields.
+const OK: &[u8] = b"\x80\x01\x00\x00\x00\x0a\x00\x00\x00\x00";
+
 /// Its reply: the session 03000000.
 const STARTED: &[u8] =
     b"\x80\x01\x00\x00\x00\x30\x00\x00\x00\x00\x03\x00\x00\x00\x00\x20\x6c\x61\x82\x7e\
@@ -22,9 +45,12 @@ const STARTED: &[u8] =
 
 /// The PolicyPCR of the first path.
 const PCRS: &[u8] =
-    b"\x80\x01\x00\x00\x00\x3a\x00\x00\x01\x7f\x03\x00\x00\x00\x00\x20\x38\x72\x3a\x2e\
-      \x5e\x8a\x17\xaa\x79\x50\xdc\x00\x82\x09\x94\x4e\x89\x8f\x69\xa7\xbd\x10\xa2\x3c\
-      \x83\x9d\x34\x1e\x93\x5f\xd5\xca\x00\x00\x00\x01\x00\x0b\x03\x95\x00\x00";
+    b"\x80\x01\x00\x00\x00\x3a\x00\x00\x01\x7f\x03\x00\x00\x00\x00\x20\x0b\x0b\x0b\x0b\
+      \x0b\x0b\x0b\x0b\x0b\x0b\x0b\x0b\x0b\x0b\x0b\x0b\x0b\x0b\x0b\x0b\x0b\x0b\x0b\x0b\
+      \x0b\x0b\x0b\x0b\x0b\x0b\x0b\x0b\x00\x00\x00\x01\x00\x0b\x03\x95\x00\x00";
+
+/// Its digest.
+const OF_PCRS: Digest32 = Digest32 { bytes: [0x0b; 32] };
 
 /// PolicyPCR refused: 000001c4.
 const NOT_THE_PCRS: &[u8] = b"\x80\x01\x00\x00\x00\x0a\x00\x00\x01\xc4";
@@ -47,13 +73,18 @@ const SECRET_OK: &[u8] =
 /// The PolicyCommandCode of the third path.
 const CODE: &[u8] = b"\x80\x01\x00\x00\x00\x12\x00\x00\x01\x6c\x03\x00\x00\x00\x00\x00\x01\x5e";
 
+/// The digests of the branches.
+const FIRST: Digest32 = Digest32 { bytes: [0x0c; 32] };
+
+const OTHER: Digest32 = Digest32 { bytes: [0x0d; 32] };
+
 /// The PolicyOR of both.
 const BRANCHES: &[u8] =
     b"\x80\x01\x00\x00\x00\x56\x00\x00\x01\x71\x03\x00\x00\x00\x00\x00\x00\x02\x00\x20\
-      \x90\x93\x8e\x03\xc6\x35\x65\x05\xa1\x82\xcf\x9c\x16\x6d\xaa\x30\xc0\xa6\x9c\x6f\
-      \x13\xf6\xbb\xca\x77\x7d\xf6\xa8\x83\xdd\xf7\xb6\x00\x20\x51\xae\x7a\x4a\xb4\xb3\
-      \xef\xdd\xde\xd3\xe8\x78\xf9\x2b\xec\x2c\x9f\x5e\x2e\x88\xb9\xc7\xe6\x7e\x1b\x22\
-      \x96\x94\xef\x4b\x90\xf2";
+      \x0c\x0c\x0c\x0c\x0c\x0c\x0c\x0c\x0c\x0c\x0c\x0c\x0c\x0c\x0c\x0c\x0c\x0c\x0c\x0c\
+      \x0c\x0c\x0c\x0c\x0c\x0c\x0c\x0c\x0c\x0c\x0c\x0c\x00\x20\x0d\x0d\x0d\x0d\x0d\x0d\
+      \x0d\x0d\x0d\x0d\x0d\x0d\x0d\x0d\x0d\x0d\x0d\x0d\x0d\x0d\x0d\x0d\x0d\x0d\x0d\x0d\
+      \x0d\x0d\x0d\x0d\x0d\x0d";
 
 /// Unseal with the nonce of the command 6.
 const UNSEAL: &[u8] =
@@ -188,7 +219,7 @@ fn assert_move(moves: &mut Moves, assertion: Assertion) -> Result<(), NoMemory> 
 }
 
 fn branches(alloc: Global) -> Result<Move, NoMemory> {
-    Ok(Move::Or(Digests::from_slice(alloc, &[BOOT, OWNER])?))
+    Ok(Move::Or(Digests::from_slice(alloc, &[FIRST, OTHER])?))
 }
 
 fn pcr_moves(moves: &mut Moves, alloc: Global) -> Result<(), NoMemory> {
@@ -196,7 +227,7 @@ fn pcr_moves(moves: &mut Moves, alloc: Global) -> Result<(), NoMemory> {
         moves,
         Assertion::Pcr {
             mask: 0x95,
-            pcr_digest: ZERO_PCRS,
+            pcr_digest: OF_PCRS,
             values: Digests::new(alloc),
         },
     )?;
@@ -277,6 +308,14 @@ fn fill(plan: &mut BlindPlan, alloc: Global) -> Result<(), NoMemory> {
         name: Name::Hash(Digest32 { bytes: [0x22; 32] }),
         attributes: 0x40,
     })
+}
+
+/// Whether this command was made, and is the one that is wanted.
+fn is_made(made: Result<Blob, NoMemory>, command: &[u8]) -> bool {
+    match made {
+        Ok(bytes) => bytes.as_slice() == command,
+        Err(_) => false,
+    }
 }
 
 // One command and its reply in each state: the state after them, nothing where the command is another one.
