@@ -3,3 +3,4 @@ pub mod Kept
 pub mod NoRequest
 pub mod Positions
 pub mod ReadFirst
+mod Stands

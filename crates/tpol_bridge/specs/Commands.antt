@@ -3,10 +3,11 @@ use Rattle.std.specs.Prelude.{ℕ, List}
 use Rattle.tpol_base.specs.declared.document.Document.{Document}
 use Rattle.tpol_bridge.specs.Adopt.{adopt_step}
 use Rattle.tpol_bridge.specs.Digests.{digests_step}
+use Rattle.tpol_bridge.specs.FapiText.{fapi_text_step}
 use Rattle.tpol_bridge.specs.Steps.{steps_step}
 use Rattle.tpol_bridge.specs.Words.{reads_source_for, request_of, uses_shelf_for}
 use Rattle.tpol_bridge.specs.declared.request.Request.{Request}
-use Rattle.tpol_bridge.specs.declared.request.Request.TheVariants.{Adopt, Digests, Steps}
+use Rattle.tpol_bridge.specs.declared.request.Request.TheVariants.{Adopt, Digests, Export, Steps}
 use Rattle.tpol_front.specs.Commands.{Commands}
 use Rattle.tpol_steps.specs.declared.answer.Answer.{Answer}
 use Rattle.tpol_steps.specs.Steps.{Step}
@@ -14,6 +15,7 @@ use Rattle.tpol_steps.specs.Steps.{Step}
 -- one equation a command
 abbrev pub request_step : Request → List ℕ → List Document → Step Answer
 request_step Adopt input all = adopt_step input
+request_step Export input all = fapi_text_step input
 request_step (Digests scene) input all = digests_step scene input all
 request_step (Steps position scene) input all = steps_step position scene input all
 

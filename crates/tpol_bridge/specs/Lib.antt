@@ -2,6 +2,7 @@ pub mod Adopt
 pub mod Commands
 pub mod Digests
 pub mod Exports
+pub mod FapiText
 pub mod Laws
 pub mod Lines
 pub mod Reached

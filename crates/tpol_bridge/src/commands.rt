@@ -2,6 +2,7 @@
 
 use crate::adopt::adopt;
 use crate::digests::digests;
+use crate::fapi_text::fapi_text;
 use crate::request::{Request, request_of_words};
 use crate::steps::steps;
 use std::alloc::Global;
@@ -36,6 +37,7 @@ impl Command for Request {
     ) -> Result<Answer, Halt> {
         match self {
             Request::Adopt => adopt(alloc, input),
+            Request::Export => fapi_text(alloc, input),
             Request::Digests { scene } => digests(alloc, scene, input, shelf),
             Request::Steps { position, scene } => steps(alloc, *position, scene, input, shelf),
         }

@@ -11,6 +11,8 @@ use tpol_front::number_of_word;
 pub enum Request {
     /// `adopt`: the canonical text of the policy that the export in the source says.
     Adopt,
+    /// `export`: the text of that policy in FAPI's spelling.
+    Export,
     /// `digests`, `digests --scene NAME`: the digest after each of its elements, filled with a scene of the shelf.
     Digests { scene: Option<Text> },
     /// `steps P`, `steps P --scene NAME`: the policy commands of the path at a position, from 1, with the digest after
@@ -48,6 +50,9 @@ fn one_word_request(word: &str) -> Option<Request>
     }
     if word == "digests" {
         return Some(Request::Digests { scene: None });
+    }
+    if word == "export" {
+        return Some(Request::Export);
     }
     None
 }
