@@ -4,6 +4,7 @@ pub mod Certified
 pub mod Chosen
 pub mod ExplainedErased
 mod FewPaths
+mod Keeping
 pub mod Masks
 pub mod OpenedMeets
 pub mod OpenedTold

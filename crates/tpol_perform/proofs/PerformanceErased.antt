@@ -9,12 +9,13 @@ use Rattle.tpol_cert.proofs.ChoicesErased.{certificate_erased}
 use Rattle.tpol_choose.specs.Blocks.{chosen_path}
 use Rattle.tpol_digest.proofs.Erasures.{paths_ignore_boxes}
 use Rattle.tpol_digest.specs.Paths.{paths_of}
+use Rattle.tpol_driver.specs.declared.tickets.HeldTicket.{HeldTicket}
 use Rattle.tpol_name.specs.declared.sight.Sight.{Sight}
 use Rattle.tpol_runs.specs.declared.ended.Ended.{Ended}
 use Rattle.tpol_runs.specs.declared.ended.Ended.TheVariants as ended
 use Rattle.tpol_runs.specs.declared.sent.Sent.{Sent}
-use Rattle.tpol_runs.specs.Courses.{end_told, goes_on, heard_by}
-use Rattle.tpol_runs.specs.Runs.{run_at, with_run}
+use Rattle.tpol_runs.specs.Courses.{end_told, goes_on}
+use Rattle.tpol_runs.specs.Runs.{with_run}
 use Rattle.tpol_scene.specs.declared.script.ScriptEvent.{ScriptEvent}
 use Rattle.tpol_scene.specs.declared.script.ScriptEvent.TheVariants.{Command, Begin, Turn, Time, Presence, Reset}
 use Rattle.tpol_steps.specs.declared.answer.Verdict.TheVariants.{Done}
@@ -23,7 +24,7 @@ use Rattle.tpol_prepare.specs.declared.entities.CompiledEntity.{CompiledEntity}
 use Rattle.tpol_perform.specs.declared.new_run.NewRun.{NewRun}
 use Rattle.tpol_prepare.specs.declared.manner.Manner.{Manner}
 use Rattle.tpol_prepare.specs.declared.manner.Way.{Way}
-use Rattle.tpol_prepare.specs.declared.manner.Way.TheVariants.{Blind, Sighted}
+use Rattle.tpol_prepare.specs.declared.manner.Way.TheVariants.{Blind, Sighted, WithTickets}
 use Rattle.tpol_prepare.specs.declared.scenario.Scenario.{Scenario}
 use Rattle.tpol_prepare.specs.declared.scenario.StagedScene.{StagedScene}
 use Rattle.tpol_perform.specs.Begin.{begun_along, begun_at, begun_by, begun_in_sight, begun_on, run_begun}
@@ -36,7 +37,8 @@ use Rattle.tpol_perform.specs.Performance.{PerformanceState, number_in, start_of
 use Rattle.tpol_prepare.specs.Manner.{certifies, explains, way_of}
 use Rattle.tpol_prepare.specs.Scenario.{erased_scenario, erased_staged, is_document, is_entity, paths_in, paths_named}
 use Rattle.tpol_perform.specs.Script.{all_happened, happened, performance_answer, performed, turn_told}
-use Rattle.tpol_perform.specs.Turns.{replied, sent, sent_now, turned, turned_and, turned_by, turned_on, turned_times, turned_to_end, turned_to_end_by, most_turns, with_end}
+use Rattle.tpol_perform.specs.Tickets.{tickets_given}
+use Rattle.tpol_perform.specs.Turns.{heard_now, replied, sent, sent_now, turned, turned_and, turned_by, turned_on, turned_times, turned_to_end, turned_to_end_by, most_turns, with_end}
 use Rattle.tpol_prepare.proofs.EntitiesErased.{reversed_erased}
 use Rattle.tpol_perform.proofs.OpeningErased.{opening_of_erased}
 use Rattle.tpol_trace.specs.declared.answer.Opening.{Opening}
@@ -107,15 +109,15 @@ pub paths_erased : (scenario : Scenario) (policy : List ℕ) → paths_named (er
 unfolding paths_named
 paths_erased scenario policy = named_erased scenario.approvals policy scenario.begun
 
-end_erased : (scenario : Scenario) (run : ℕ) (end : Option Ended) (p : PerformanceState) → with_end (erased_scenario scenario) run end p ≡ with_end scenario run end p
-end_erased scenario run None p = refl
-end_erased scenario run (Some (ended.Sighted end)) p = refl
-end_erased scenario run (Some (ended.Blind policy end)) p = ap (λ (paths : List Path). with_blind_end run paths end p) (paths_erased scenario policy)
+end_erased : (scenario : Scenario) (client run : ℕ) (end : Option Ended) (p : PerformanceState) → with_end (erased_scenario scenario) client run end p ≡ with_end scenario client run end p
+end_erased scenario client run None p = refl
+end_erased scenario client run (Some (ended.Sighted end earned)) p = refl
+end_erased scenario client run (Some (ended.Blind policy end)) p = ap (λ (paths : List Path). with_blind_end run paths end p) (paths_erased scenario policy)
 
-replied_erased : (scenario : Scenario) (run : ℕ) (reply : List ℕ) (p : PerformanceState) → replied (erased_scenario scenario) run reply p ≡ replied scenario run reply p
+replied_erased : (scenario : Scenario) (client run : ℕ) (reply : List ℕ) (p : PerformanceState) → replied (erased_scenario scenario) client run reply p ≡ replied scenario client run reply p
 unfolding replied
-replied_erased scenario run reply p =
-    end_erased scenario run (end_told (heard_by (run_at p.runs run) reply)) (record p { runs = with_run p.runs run (goes_on (heard_by (run_at p.runs run) reply)) })
+replied_erased scenario client run reply p =
+    end_erased scenario client run (end_told (heard_now run reply p)) (record p { runs = with_run p.runs run (goes_on (heard_now run reply p)) })
 
 -- ---- turns
 
@@ -123,8 +125,8 @@ sent_erased : (scenario : Scenario) (run : ℕ) (command : Sent) (p : Performanc
 unfolding sent
 sent_erased scenario run command p =
     let reply = (answer_to p.setup p.past command.locality command.buffer).reply in
-    ap (replied (erased_scenario scenario) run reply) (commanded_erased scenario command.client command.locality command.buffer p)
-    ∙ replied_erased scenario run reply (commanded scenario command.client command.locality command.buffer p)
+    ap (replied (erased_scenario scenario) command.client run reply) (commanded_erased scenario command.client command.locality command.buffer p)
+    ∙ replied_erased scenario command.client run reply (commanded scenario command.client command.locality command.buffer p)
 
 by_erased : (scenario : Scenario) (run : ℕ) (next : Option Sent) (p : PerformanceState) → turned_by (erased_scenario scenario) run next p ≡ turned_by scenario run next p
 by_erased scenario run None p = refl
@@ -163,13 +165,14 @@ turn_erased scenario run (Some times) p = times_erased scenario run times p
 
 -- ---- runs that begin
 
-along_erased : (scenario : Scenario) (position : ℕ) (run : NewRun) (path : Option Path) (p : PerformanceState) → begun_along (erased_scenario scenario) position run path p ≡ begun_along scenario position run path p
-along_erased scenario position run None p = refl
-along_erased scenario position run (Some path) p = refl
+along_erased : (scenario : Scenario) (tickets : List HeldTicket) (position : ℕ) (run : NewRun) (path : Option Path) (p : PerformanceState) → begun_along (erased_scenario scenario) tickets position run path p ≡ begun_along scenario tickets position run path p
+along_erased scenario tickets position run None p = refl
+along_erased scenario tickets position run (Some path) p = refl
 
 at_erased : (scenario : Scenario) (sight : Sight) (paths : List Path) (run : NewRun) (chosen : Option ℕ) (p : PerformanceState) → begun_at (erased_scenario scenario) sight paths run chosen p ≡ begun_at scenario sight paths run chosen p
 at_erased scenario sight paths run None p = refl
-at_erased scenario sight paths run (Some position) p = along_erased scenario position run (slice_get paths (position - 1)) p
+at_erased scenario sight paths run (Some position) p =
+    along_erased scenario (tickets_given (way_of scenario.manner) run.client sight p.kept) position run (slice_get paths (position - 1)) p
 
 sighted_erased : (scenario : Scenario) (policy : List ℕ) (run : NewRun) (p : PerformanceState) → begun_in_sight (erased_scenario scenario) policy run p ≡ begun_in_sight scenario policy run p
 unfolding begun_in_sight begun_on
@@ -185,6 +188,7 @@ blindly_erased scenario policy run p =
 way_erased : (way : Way) (scenario : Scenario) (policy : List ℕ) (run : NewRun) (p : PerformanceState) → begun_by way (erased_scenario scenario) policy run p ≡ begun_by way scenario policy run p
 way_erased Sighted scenario policy run p = sighted_erased scenario policy run p
 way_erased Blind scenario policy run p = blindly_erased scenario policy run p
+way_erased WithTickets scenario policy run p = sighted_erased scenario policy run p
 
 begun_erased : (scenario : Scenario) (policy : List ℕ) (run : NewRun) (p : PerformanceState) → run_begun (erased_scenario scenario) policy run p ≡ run_begun scenario policy run p
 unfolding run_begun

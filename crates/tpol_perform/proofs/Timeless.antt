@@ -1,10 +1,10 @@
--- Commands take no time, and each is one event more.
+-- Commands take no time and reset nothing, and each is one event more.
 use Rattle.std.proofs.Common.{◌≡◌, ◌∙◌, ℕ, ◌+◌, Bool, true, false, List, ◌∷◌, length, if◌then◌else◌, Option, Some, None, Result, Ok, Err, add-one, ap, refl, sym}
 use Rattle.std.specs.Option.{option_map_or}
-use Rattle.tpm_engine.specs.Deeds.{Deed, Idle, Shows, Starts, deed_in, plain_deed}
+use Rattle.tpm_engine.specs.Deeds.{Deed, Idle, Shows, Starts, deed_in, deed_of, plain_deed}
 use Rattle.tpm_engine.specs.Events.{Answered, event_of, is_success}
 use Rattle.tpm_engine.specs.Facts.{shown_by, Shown}
-use Rattle.tpm_engine.specs.Views.{time_after, time_of}
+use Rattle.tpm_engine.specs.Views.{reset_count_after, reset_count_of, time_after, time_of}
 use Rattle.tpol_name.specs.declared.setup.Setup.{Setup}
 use Rattle.tpol_wire.specs.declared.command.Command.{Command}
 use Rattle.tpol_wire.specs.declared.command.Command.TheVariants as commands
@@ -13,30 +13,46 @@ use Rattle.tpm_engine.specs.declared.event.Event.{Event}
 use Rattle.tpol_perform.specs.CommandsTold.{command_told}
 use Rattle.tpol_perform.specs.Performance.{PerformanceState}
 
-starts : (session : Option ℕ) (time : ℕ) → time_after (option_map_or Starts session Idle) time ≡ time
-starts None time = refl
-starts (Some session) time = refl
+-- a deed leaves the time and the reset count
+abbrev Leaves : Deed → ℕ → ℕ → Type 0
+Leaves deed time count = (time_after deed time ≡ time) × (reset_count_after deed count ≡ count)
 
-plain : (command : Command) (reply : List ℕ) (time : ℕ) → time_after (plain_deed command reply) time ≡ time
-plain (commands.StartAuthSession tpm_key bind nonce) reply time = starts _ time
-plain command reply time = refl
+starts : (session : Option ℕ) (time count : ℕ) → Leaves (option_map_or Starts session Idle) time count
+starts None time count = (refl, refl)
+starts (Some session) time count = (refl, refl)
 
-shown_or : (shown : Option Shown) (deed : Deed) (time : ℕ) → time_after deed time ≡ time → time_after (option_map_or (λ s. Shows s.0 s.1) shown deed) time ≡ time
-shown_or None deed time h = h
-shown_or (Some shown) deed time h = refl
+plain : (command : Command) (reply : List ℕ) (time count : ℕ) → Leaves (plain_deed command reply) time count
+plain (commands.StartAuthSession tpm_key bind nonce) reply time count = starts _ time count
+plain command reply time count = (refl, refl)
 
-of_reading : (found : Result Command ℕ) (reply : List ℕ) (time : ℕ) → time_after (deed_in found reply) time ≡ time
-of_reading (Ok command) reply time = shown_or (shown_by command) (plain_deed command reply) time (plain command reply time)
-of_reading (Err code) reply time = refl
+shown_or : (shown : Option Shown) (deed : Deed) (time count : ℕ) → Leaves deed time count → Leaves (option_map_or (λ s. Shows s.0 s.1) shown deed) time count
+shown_or None deed time count h = h
+shown_or (Some shown) deed time count h = (refl, refl)
 
-of_success : (success : Bool) (found : Result Command ℕ) (reply : List ℕ) (time : ℕ) → time_after (if success then deed_in found reply else Idle) time ≡ time
-of_success true found reply time = of_reading found reply time
-of_success false found reply time = refl
+of_reading : (found : Result Command ℕ) (reply : List ℕ) (time count : ℕ) → Leaves (deed_in found reply) time count
+of_reading (Ok command) reply time count = shown_or (shown_by command) (plain_deed command reply) time count (plain command reply time count)
+of_reading (Err code) reply time count = (refl, refl)
+
+of_success : (success : Bool) (found : Result Command ℕ) (reply : List ℕ) (time count : ℕ) → Leaves (if success then deed_in found reply else Idle) time count
+of_success true found reply time count = of_reading found reply time count
+of_success false found reply time count = (refl, refl)
 
 pub command_takes_no_time : (setup : Setup) (past : List Event) (client locality : ℕ) (buffer : List ℕ) (answered : Answered) → time_of setup (event_of client locality buffer answered ∷ past) ≡ time_of setup past
 unfolding time_of
 command_takes_no_time setup past client locality buffer answered =
-    of_success (is_success answered.outcome) (reading buffer) answered.reply (time_of setup past)
+    (of_success (is_success answered.outcome) (reading buffer) answered.reply (time_of setup past) 0).0
+
+pub command_resets_nothing : (setup : Setup) (past : List Event) (client locality : ℕ) (buffer : List ℕ) (answered : Answered) → reset_count_of setup (event_of client locality buffer answered ∷ past) ≡ reset_count_of setup past
+unfolding reset_count_of
+command_resets_nothing setup past client locality buffer answered =
+    (of_success (is_success answered.outcome) (reading buffer) answered.reply 0 (reset_count_of setup past)).1
+
+-- the reset count behind an event
+pub counts_on : (event : Event) (before after : Setup) (past events : List Event) → after ≡ before → events ≡ event ∷ past
+    → reset_count_after (deed_of event) (reset_count_of before past) ≡ reset_count_of after events
+unfolding reset_count_of
+counts_on event before after past events same there =
+    sym (ap (λ (s : Setup). reset_count_of s events) same ∙ ap (reset_count_of before) there)
 
 -- what a command and the lines behind it leave
 pub one_event_more : (client locality : ℕ) (buffer : List ℕ) (answered : Answered) (old told new : PerformanceState) → told ≡ command_told client locality buffer answered old

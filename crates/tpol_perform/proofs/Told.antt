@@ -19,6 +19,7 @@ use Rattle.tpol_driver.specs.declared.blind_end.BlindEnd.TheVariants as blind_en
 use Rattle.tpol_driver.specs.declared.blind_end.Tried.{Tried}
 use Rattle.tpol_driver.specs.declared.blind_plan.BlindPlan.{BlindPlan}
 use Rattle.tpol_driver.specs.declared.end.End.TheVariants as ends
+use Rattle.tpol_driver.specs.declared.tickets.HeldTicket.{HeldTicket}
 use Rattle.tpol_driver.specs.Blind.{first_complete, none_tried}
 use Rattle.tpol_lines.specs.Lines.{line_of}
 use Rattle.tpol_lines.specs.BlockLine.{block_line}
@@ -32,14 +33,14 @@ use Rattle.tpol_name.specs.declared.sight.Sight.{Sight}
 use Rattle.tpol_runs.specs.declared.ended.Ended.{Ended}
 use Rattle.tpol_runs.specs.declared.ended.Ended.TheVariants as ended
 use Rattle.tpol_runs.specs.declared.sent.Sent.{Sent}
-use Rattle.tpol_runs.specs.Courses.{begun, begun_blind, end_told, goes_on, heard_by}
-use Rattle.tpol_runs.specs.Runs.{run_at, with_run}
+use Rattle.tpol_runs.specs.Courses.{begun, begun_blind, end_told, goes_on}
+use Rattle.tpol_runs.specs.Runs.{with_run}
 use Rattle.tpol_runs.specs.Underway.{Underway}
 use Rattle.tpol_scene.specs.declared.script.ScriptEvent.{ScriptEvent}
 use Rattle.tpol_scene.specs.declared.script.ScriptEvent.TheVariants.{Command, Begin, Turn, Time, Presence, Reset}
 use Rattle.tpol_perform.specs.declared.new_run.NewRun.{NewRun}
 use Rattle.tpol_prepare.specs.declared.manner.Way.{Way}
-use Rattle.tpol_prepare.specs.declared.manner.Way.TheVariants.{Blind, Sighted}
+use Rattle.tpol_prepare.specs.declared.manner.Way.TheVariants.{Blind, Sighted, WithTickets}
 use Rattle.tpol_prepare.specs.declared.scenario.Scenario.{Scenario}
 use Rattle.tpol_prepare.specs.declared.scenario.StagedScene.{StagedScene}
 use Rattle.tpol_perform.specs.Begin.{begun_along, begun_at, begun_by, begun_in_sight, begun_nowhere, begun_on, plan_along, run_begun, with_block, with_blocks}
@@ -51,7 +52,8 @@ use Rattle.tpol_perform.specs.Performance.{PerformanceState, number_in, start_of
 use Rattle.tpol_prepare.specs.Manner.{certifies, explains, way_of}
 use Rattle.tpol_prepare.specs.Scenario.{HavePolicies, paths_named, policy_of_entity}
 use Rattle.tpol_perform.specs.Script.{all_happened, happened, performed, turn_told}
-use Rattle.tpol_perform.specs.Turns.{most_turns, replied, sent, sent_now, turned, turned_and, turned_by, turned_on, turned_times, turned_to_end, turned_to_end_by, with_end}
+use Rattle.tpol_perform.specs.Tickets.{tickets_given, with_kept}
+use Rattle.tpol_perform.specs.Turns.{heard_now, most_turns, replied, sent, sent_now, turned, turned_and, turned_by, turned_on, turned_times, turned_to_end, turned_to_end_by, with_end}
 use Rattle.tpol_perform.proofs.OpenedTold.{AreOpenable, behind_more, command_is_told}
 use Rattle.tpol_trace.specs.declared.answer.Opening.{Opening}
 use Rattle.tpol_trace.specs.declared.answer.Opening.TheVariants.{Branch, Clash, ZeroInput}
@@ -261,21 +263,22 @@ module _ (setup : Setup) (scenario : Scenario) (tells : explains scenario.manner
   blind_end_so run paths (blind_ends.Denied at rc) p h = with_text (end_line run (ends.Denied at rc)) p h
   blind_end_so run paths (blind_ends.BadReply at) p h = with_text (end_line run (ends.BadReply at)) p h
 
-  with_end_so : (run : ℕ) (end : Option Ended) (p : PerformanceState) → Told p → Told (with_end scenario run end p)
-  with_end_so run None p h = h
-  with_end_so run (Some (ended.Sighted end)) p h = with_text (end_line run end) p h
-  with_end_so run (Some (ended.Blind policy end)) p h = blind_end_so run (paths_named scenario policy) end p h
+  with_end_so : (client run : ℕ) (end : Option Ended) (p : PerformanceState) → Told p → Told (with_end scenario client run end p)
+  with_end_so client run None p h = h
+  with_end_so client run (Some (ended.Sighted end earned)) p h =
+      with_text (end_line run end) (with_kept scenario.directory client earned p) (record { starts = h.starts; legal = h.legal; each = h.each })
+  with_end_so client run (Some (ended.Blind policy end)) p h = blind_end_so run (paths_named scenario policy) end p h
 
-  replied_so : (run : ℕ) (reply : List ℕ) (p : PerformanceState) → Told p → Told (replied scenario run reply p)
+  replied_so : (client run : ℕ) (reply : List ℕ) (p : PerformanceState) → Told p → Told (replied scenario client run reply p)
   unfolding replied
-  replied_so run reply p h =
-      with_end_so run (end_told (heard_by (run_at p.runs run) reply)) (record p { runs = with_run p.runs run (goes_on (heard_by (run_at p.runs run) reply)) })
+  replied_so client run reply p h =
+      with_end_so client run (end_told (heard_now run reply p)) (record p { runs = with_run p.runs run (goes_on (heard_now run reply p)) })
       (record { starts = h.starts; legal = h.legal; each = h.each })
 
   sent_so : (run : ℕ) (command : Sent) (p : PerformanceState) → Told p → Told (sent scenario run command p)
   unfolding sent
   sent_so run command p h =
-      replied_so run (answer_to p.setup p.past command.locality command.buffer).reply (commanded scenario command.client command.locality command.buffer p)
+      replied_so command.client run (answer_to p.setup p.past command.locality command.buffer).reply (commanded scenario command.client command.locality command.buffer p)
       (command_told_so command.client command.locality command.buffer p h)
 
   turned_by_so : (run : ℕ) (next : Option Sent) (p : PerformanceState) → Told p → Told (turned_by scenario run next p)
@@ -311,10 +314,10 @@ module _ (setup : Setup) (scenario : Scenario) (tells : explains scenario.manner
 
   -- ---- runs that begin
 
-  along_so : (position : ℕ) (run : NewRun) (path : Option Path) (p : PerformanceState) → Told p → Told (begun_along scenario position run path p)
-  along_so position run None p h = h
-  along_so position run (Some path) p h =
-      with_text (chosen_line run.number position path.steps) (with_new_run run.number (Some (begun run.client run.locality (plan_along scenario path run))) p) (record { starts = h.starts; legal = h.legal; each = h.each })
+  along_so : (tickets : List HeldTicket) (position : ℕ) (run : NewRun) (path : Option Path) (p : PerformanceState) → Told p → Told (begun_along scenario tickets position run path p)
+  along_so tickets position run None p h = h
+  along_so tickets position run (Some path) p h =
+      with_text (chosen_line run.number position path.steps) (with_new_run run.number (Some (begun run.client run.locality (plan_along scenario tickets path run))) p) (record { starts = h.starts; legal = h.legal; each = h.each })
 
   block_so : (position : ℕ) (steps : List PathStep) (block : Option Block) (p : PerformanceState) → Told p → Told (with_block position steps block p)
   block_so position steps None p h = h
@@ -336,7 +339,8 @@ module _ (setup : Setup) (scenario : Scenario) (tells : explains scenario.manner
 
   at_so : (sight : Sight) (paths : List Path) (run : NewRun) (chosen : Option ℕ) (p : PerformanceState) → Told p → Told (begun_at scenario sight paths run chosen p)
   at_so sight paths run None p h = nowhere_so sight run paths p h
-  at_so sight paths run (Some position) p h = along_so position run (slice_get paths (position - 1)) p h
+  at_so sight paths run (Some position) p h =
+      along_so (tickets_given (way_of scenario.manner) run.client sight p.kept) position run (slice_get paths (position - 1)) p h
 
   sighted_so : (policy : List ℕ) (run : NewRun) (p : PerformanceState) → Told p → Told (begun_in_sight scenario policy run p)
   unfolding begun_in_sight begun_on
@@ -362,6 +366,7 @@ module _ (setup : Setup) (scenario : Scenario) (tells : explains scenario.manner
   by_so : (way : Way) (policy : List ℕ) (run : NewRun) (p : PerformanceState) → Told p → Told (begun_by way scenario policy run p)
   by_so Sighted policy run p h = sighted_so policy run p h
   by_so Blind policy run p h = blindly_so policy run p h
+  by_so WithTickets policy run p h = sighted_so policy run p h
 
   begun_so : (policy : List ℕ) (run : NewRun) (p : PerformanceState) → Told p → Told (run_begun scenario policy run p)
   unfolding run_begun

@@ -6,4 +6,5 @@ pub mod Meeting
 pub mod NewRuns
 pub mod Performance
 pub mod Script
+pub mod Tickets
 pub mod Turns

@@ -6,18 +6,20 @@ use Rattle.tpol_lines.specs.Events.{presence_line, reset_line, time_line}
 use Rattle.tpol_lines.specs.Lines.{line_of}
 use Rattle.tpol_name.specs.declared.setup.Setup.{Setup}
 use Rattle.tpol_runs.specs.declared.numbered.Numbered.{Numbered}
+use Rattle.tpol_perform.specs.declared.tickets.Kept.{Kept}
 
--- what the machine started from, what happened to it, newest event first, the runs that were begun, and the
--- lines that are printed
+-- what the machine started from, what happened to it, newest event first, the runs that were begun, the tickets that
+-- are kept for later ones, and the lines that are printed
 pub record PerformanceState : Type 0 where
   pub setup : Setup
   pub past : List Event
   pub runs : List Numbered
+  pub kept : List Kept
   pub lines : List (List ℕ)
 
 -- before the first event
 abbrev pub start_of : Setup → PerformanceState
-start_of setup = record { setup = setup; past = []; runs = []; lines = [] }
+start_of setup = record { setup = setup; past = []; runs = []; kept = []; lines = [] }
 
 -- the number of the next event
 abbrev pub number_in : PerformanceState → ℕ

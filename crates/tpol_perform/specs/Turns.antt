@@ -1,7 +1,9 @@
 -- The turns of a run: each sends its next command, and hears the reply.
 use Rattle.std.specs.Prelude.{ℕ, zero, suc, List, Option, Some, None}
 use Rattle.tpm_engine.specs.Legal.{answer_to}
+use Rattle.tpm_engine.specs.Views.{reset_count_of}
 use Rattle.tpol_lines.specs.Runs.{end_line, over_line}
+use Rattle.tpol_runs.specs.declared.after.After.{After}
 use Rattle.tpol_runs.specs.declared.ended.Ended.{Ended}
 use Rattle.tpol_runs.specs.declared.ended.Ended.TheVariants.{Blind, Sighted}
 use Rattle.tpol_runs.specs.declared.sent.Sent.{Sent}
@@ -11,28 +13,34 @@ use Rattle.tpol_prepare.specs.declared.scenario.Scenario.{Scenario}
 use Rattle.tpol_perform.specs.Blind.{with_blind_end}
 use Rattle.tpol_perform.specs.CommandsTold.{commanded}
 use Rattle.tpol_perform.specs.Performance.{PerformanceState, with_line}
+use Rattle.tpol_perform.specs.Tickets.{with_kept}
 use Rattle.tpol_prepare.specs.Scenario.{paths_named}
 
 -- the next command of a run, unless it is over
 abbrev pub sent_now : ℕ → PerformanceState → Option Sent
 sent_now run p = next_of (run_at p.runs run)
 
--- the lines of the end of a run, where it came to it
-abbrev pub with_end : Scenario → ℕ → Option Ended → PerformanceState → PerformanceState
-with_end scenario run None p = p
-with_end scenario run (Some (Sighted end)) p = with_line (end_line run end) p
-with_end scenario run (Some (Blind policy end)) p = with_blind_end run (paths_named scenario policy) end p
+-- the end of a run of this client, where it came to it: the tickets that it has earned are kept, and its lines
+abbrev pub with_end : Scenario → ℕ → ℕ → Option Ended → PerformanceState → PerformanceState
+with_end scenario client run None p = p
+with_end scenario client run (Some (Sighted end earned)) p =
+    with_line (end_line run end) (with_kept scenario.directory client earned p)
+with_end scenario client run (Some (Blind policy end)) p = with_blind_end run (paths_named scenario policy) end p
 
--- a run hears a reply
-unfoldable pub replied : Scenario → ℕ → List ℕ → PerformanceState → PerformanceState
-replied scenario run reply p =
-    with_end scenario run (end_told (heard_by (run_at p.runs run) reply))
-    (record p { runs = with_run p.runs run (goes_on (heard_by (run_at p.runs run) reply)) })
+-- what a run makes of a reply that comes now
+abbrev pub heard_now : ℕ → List ℕ → PerformanceState → Option After
+heard_now run reply p = heard_by (run_at p.runs run) (reset_count_of p.setup p.past) reply
+
+-- a run of this client hears a reply
+unfoldable pub replied : Scenario → ℕ → ℕ → List ℕ → PerformanceState → PerformanceState
+replied scenario client run reply p =
+    with_end scenario client run (end_told (heard_now run reply p))
+    (record p { runs = with_run p.runs run (goes_on (heard_now run reply p)) })
 
 -- a run sends a command, and hears the reply
 unfoldable pub sent : Scenario → ℕ → Sent → PerformanceState → PerformanceState
 sent scenario run command p =
-    replied scenario run (answer_to p.setup p.past command.locality command.buffer).reply
+    replied scenario command.client run (answer_to p.setup p.past command.locality command.buffer).reply
     (commanded scenario command.client command.locality command.buffer p)
 
 -- one turn

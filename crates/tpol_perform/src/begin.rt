@@ -13,6 +13,8 @@ ghost use Rattle.tpol_tree.specs.declared.path.PathStep.{PathStep};
 ghost use Rattle.tpol_perform.specs.Begin.{begun_along, begun_in_sight, begun_nowhere, begun_on, plan_along, run_begun, with_block, with_blocks};
 ghost use Rattle.tpol_perform.specs.NewRuns.{with_new_run};
 ghost use Rattle.tpol_perform.specs.Performance.{with_line};
+ghost use Rattle.tpol_perform.specs.Tickets.{tickets_given};
+ghost use Rattle.tpol_prepare.specs.Manner.{way_of};
 ghost use Rattle.tpol_prepare.specs.Scenario.{IsScenarioOf, IsWalkable, paths_named};
 ghost use Rattle.tpol_runs.specs.Courses.{begun};
 
@@ -47,7 +49,7 @@ impl Performance {
         ensures setup { OnOk result (self.new.setup ≡ self.old.setup) }
     {
         match scenario.manner.way() {
-            Way::Sighted => self.begin_in_sight(alloc, scenario, policy, run),
+            Way::Sighted | Way::WithTickets => self.begin_in_sight(alloc, scenario, policy, run),
             Way::Blind => self.begin_blindly(alloc, scenario, policy, run),
         }
     }
@@ -148,7 +150,7 @@ impl Performance {
             run.locality,
         ) {
             Some(position) => match path_at(alloc, &document.closed, approvals, position) {
-                Ok(path) => self.begin_along(alloc, scenario, position, path, run),
+                Ok(path) => self.begin_along(alloc, scenario, sight, position, path, run),
                 Err(NoMemory) => {
                     drop(run);
                     Err(NoMemory)
@@ -167,24 +169,43 @@ impl Performance {
         &mut self,
         alloc: Global,
         scenario: &Scenario,
+        sight: &Sight,
         position: u32,
         path: Path,
         run: NewRun,
     ) -> Result<(), NoMemory>
         requires moves { length path.moves ≤ 512 }
         requires locality { run.locality ≤ 4 }
-        ensures told { OnOk result (self.new ≡ begun_along scenario.now position run (Some path) self.old) }
+        ensures told { OnOk result (self.new
+            ≡ begun_along scenario.now (tickets_given (way_of scenario.now.manner) run.client sight.now self.old.kept) position run (Some path) self.old) }
         ensures past { OnOk result (self.new.past ≡ self.old.past) }
         ensures setup { OnOk result (self.new.setup ≡ self.old.setup) }
     {
-        match self.print_chosen(alloc, run.number, position, &path) {
-            Ok(()) => self.begin_plan(alloc, scenario, path, run),
+        match self.begin_told(alloc, scenario, sight, position, &path, &run) {
+            Ok(tickets) => self.begin_plan(alloc, scenario, tickets, path, run),
             Err(NoMemory) => {
                 drop(path);
                 drop(run);
                 Err(NoMemory)
             }
         }
+    }
+
+    // The line of the path at this position, on which the run goes, and the tickets that it is given.
+    fn begin_told(
+        &mut self,
+        alloc: Global,
+        scenario: &Scenario,
+        sight: &Sight,
+        position: u32,
+        path: &Path,
+        run: &NewRun,
+    ) -> Result<Tickets, NoMemory>
+        ensures told { OnOk result (self.new ≡ with_line (chosen_line run.now.number position path.now.steps) self.old) }
+        ensures tickets { IfOk result (λ tickets. tickets ≡ tickets_given (way_of scenario.now.manner) run.now.client sight.now self.old.kept) }
+    {
+        self.print_chosen(alloc, run.number, position, path)?;
+        self.tickets_given(alloc, scenario.manner.way(), run.client, sight)
     }
 
     // The line of the path at this position, on which the run goes.
@@ -201,21 +222,22 @@ impl Performance {
         self.print(alloc, line.as_str())
     }
 
-    // One more run, along this path.
+    // One more run, along this path with these tickets.
     fn begin_plan(
         &mut self,
         alloc: Global,
         scenario: &Scenario,
+        tickets: Tickets,
         path: Path,
         run: NewRun,
     ) -> Result<(), NoMemory>
         requires moves { length path.moves ≤ 512 }
         requires locality { run.locality ≤ 4 }
-        ensures { OnOk result (self.new ≡ with_new_run run.number (Some (begun run.client run.locality (plan_along scenario.now path run))) self.old) }
+        ensures { OnOk result (self.new ≡ with_new_run run.number (Some (begun run.client run.locality (plan_along scenario.now tickets path run))) self.old) }
     {
         let (number, client, locality) = (run.number, run.client, run.locality);
-        let plan = plan_along(alloc, scenario, path, run)?;
-        self.runs.begin(number, client, locality, plan)
+        let plan = plan_along(scenario, tickets, path, run)?;
+        self.runs.begin(alloc, number, client, locality, plan)
     }
 
     // The run begins on no path: a line for each path tells what stands in its way.
@@ -335,8 +357,13 @@ impl Performance {
 }
 
 // What a run along this path is to do.
-fn plan_along(alloc: Global, scenario: &Scenario, path: Path, run: NewRun) -> Result<Plan, NoMemory>
-    ensures { IfOk result (λ plan. plan ≡ plan_along scenario.now path run) }
+fn plan_along(
+    scenario: &Scenario,
+    tickets: Tickets,
+    path: Path,
+    run: NewRun,
+) -> Result<Plan, NoMemory>
+    ensures { IfOk result (λ plan. plan ≡ plan_along scenario.now tickets path run) }
 {
     match scenario.directory.exact_clone() {
         Ok(directory) => {
@@ -352,10 +379,11 @@ fn plan_along(alloc: Global, scenario: &Scenario, path: Path, run: NewRun) -> Re
                 grants,
                 directory,
                 nonce_seed: run_seed(&scenario.seed, number),
-                tickets: Tickets::new(alloc),
+                tickets,
             })
         }
         Err(NoMemory) => {
+            drop(tickets);
             drop(path);
             drop(run);
             Err(NoMemory)

@@ -1,7 +1,7 @@
 //! A scene carried out: the events of its script on a machine, one after another, and what is printed of each.
 //!
 //! Contracts see how far a scene was carried out as a `PerformanceState`: what the machine started from, its
-//! journal, the runs that were begun, and the lines. `performed` is the fold over the events; `IsExplained` says
+//! journal, the runs that were begun, the tickets that are kept for later ones, and the lines. `performed` is the fold over the events; `IsExplained` says
 //! what the lines of `explain` tell of every command of the journal that asks for a policy session. The layers
 //! above take `perform_scene` for the commands `run` and `explain`. `Performance` starts a machine and carries out
 //! one event after another, and `NewRun` is what a run begins by: tpol_generate, which has a policy and a client of
@@ -22,9 +22,11 @@ mod paths;
 mod perform;
 mod performance;
 mod script;
+mod tickets;
 mod tries;
 mod turns;
 
 pub use new_run::NewRun;
 pub use perform::perform_scene;
 pub use performance::Performance;
+pub use tickets::Kept;

@@ -50,10 +50,13 @@ fn performance_answer(alloc: Global, staged: StagedScene) -> Result<Answer, NoMe
     let Performance {
         machine,
         runs,
+        kept,
         lines,
+        ..
     } = perform(alloc, staged)?;
     drop(machine);
     drop(runs);
+    drop(kept);
     Ok(Answer {
         lines,
         verdict: Verdict::Done,

@@ -2,25 +2,30 @@
 
 ghost use Rattle.std.specs.Prelude.{◌≡◌, ◌+◌, ◌^◌, ◌<◌, ◌≤◌, IfOk, OnOk, length};
 ghost use Rattle.tpm_engine.specs.Views.{time_of};
+ghost use Rattle.tpm_world.specs.Surroundings.{counted_on};
 ghost use Rattle.tpol_name.specs.Setups.{IsSetup};
 ghost use Rattle.tpol_perform.specs.Performance.{presence_set, start_of, time_passed, was_reset, with_line};
 
+use crate::tickets::Kept;
 use std::alloc::Global;
 use std::marker::Model;
 use tpm_engine::Machine;
-use tpol_base::{Blob, NoMemory};
+use tpol_base::{Blob, NoMemory, Sequence};
 use tpol_lines::{Lines, presence_line, push_bytes, push_line, reset_line, time_line};
 use tpol_name::Setup;
 use tpol_runs::Runs;
 
 /// How far a scene was carried out; contracts see what the machine started from, its events, newest first, the
-/// runs that were begun, and the lines that are printed. A call on it fails only where memory ran out, and nothing is
-/// said of it then.
+/// runs that were begun, the tickets that are kept for later ones, and the lines that are printed. A call on it fails
+/// only where memory ran out, and nothing is said of it then.
 #[derive(Drop)]
 pub struct Performance {
     pub machine: Machine,
     pub runs: Runs,
+    pub kept: Sequence<Kept>,
     pub lines: Lines,
+    /// The machine's reset count.
+    pub reset_count: u32,
 }
 
 impl Model for Performance {
@@ -28,7 +33,12 @@ impl Model for Performance {
 
     ghost Value = { PerformanceState };
 
-    ghost view = { λ p. record { setup = p.machine.setup; past = p.machine.events; runs = p.runs; lines = p.lines } };
+    ghost view = { λ p. record { setup = p.machine.setup; past = p.machine.events; runs = p.runs; kept = p.kept; lines = p.lines } };
+
+    ghost use Rattle.std.specs.Prelude.{◌≡◌};
+    ghost use Rattle.tpm_engine.specs.Views.{reset_count_of};
+
+    ghost invariant = { λ p. p.reset_count ≡ reset_count_of p.machine.setup p.machine.events };
 }
 
 impl Performance {
@@ -37,11 +47,14 @@ impl Performance {
         requires { IsSetup setup }
         ensures { IfOk result (λ performance. performance ≡ start_of setup) }
     {
+        let reset_count = setup.reset_count;
         let machine = Machine::new(alloc, setup)?;
         Ok(Performance {
             machine,
             runs: Runs::new(alloc),
+            kept: Sequence::new(alloc),
             lines: Lines::new(alloc),
+            reset_count,
         })
     }
 
@@ -101,7 +114,15 @@ impl Performance {
     {
         self.machine.reserve()?;
         let event = self.machine.reset();
+        self.reset_count = counted_on(self.reset_count);
         let line = reset_line(alloc, event)?;
         self.print(alloc, line.as_str())
     }
+}
+
+// The reset count behind a Reset.
+fn counted_on(reset_count: u32) -> u32
+    ensures { result ≡ counted_on reset_count }
+{
+    reset_count.saturating_add(1)
 }

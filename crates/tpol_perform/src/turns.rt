@@ -129,42 +129,54 @@ impl Performance {
             command.locality,
             command.buffer.as_slice(),
         )?;
-        self.reply(alloc, scenario, run, reply.as_slice())
+        self.reply(alloc, scenario, command.client, run, reply.as_slice())
     }
 
-    // A run hears a reply; where it comes to its end, that is told.
+    // A run of this client hears a reply; where it comes to its end, its tickets are kept and that is told.
     #[tactic(auto, unfolding(crate::specs::Turns::replied))]
     fn reply(
         &mut self,
         alloc: Global,
         scenario: &Scenario,
+        client: u32,
         run: u16,
         reply: &[u8],
     ) -> Result<(), NoMemory>
         requires begun { All (λ document. IsWalkable scenario.now.approvals document.closed) scenario.now.begun }
-        ensures told { OnOk result (self.new ≡ replied scenario.now run reply.now self.old) }
+        ensures told { OnOk result (self.new ≡ replied scenario.now client run reply.now self.old) }
         ensures past { OnOk result (self.new.past ≡ self.old.past) }
         ensures setup { OnOk result (self.new.setup ≡ self.old.setup) }
     {
-        let end = self.runs.take(alloc, run, reply)?;
-        self.print_end(alloc, scenario, run, end)
+        let end = self.runs.take(alloc, run, self.reset_count, reply)?;
+        self.end(alloc, scenario, client, run, end)
     }
 
-    fn print_end(
+    fn end(
         &mut self,
         alloc: Global,
         scenario: &Scenario,
+        client: u32,
         run: u16,
         end: Option<Ended>,
     ) -> Result<(), NoMemory>
         requires begun { All (λ document. IsWalkable scenario.now.approvals document.closed) scenario.now.begun }
-        ensures told { OnOk result (self.new ≡ with_end scenario.now run end self.old) }
+        ensures told { OnOk result (self.new ≡ with_end scenario.now client run end self.old) }
         ensures past { OnOk result (self.new.past ≡ self.old.past) }
         ensures setup { OnOk result (self.new.setup ≡ self.old.setup) }
     {
         match end {
             None => Ok(()),
-            Some(Ended::Sighted(end)) => self.print_end_line(alloc, run, end),
+            Some(Ended::Sighted { end, earned }) => {
+                let kept = self.keep(scenario.directory.as_slice(), client, earned.as_slice());
+                drop(earned);
+                match kept {
+                    Ok(()) => self.print_end_line(alloc, run, end),
+                    Err(NoMemory) => {
+                        drop(end);
+                        Err(NoMemory)
+                    }
+                }
+            }
             Some(Ended::Blind(policy, end)) => {
                 let printed = self.print_blind_end(alloc, scenario, run, policy.as_str(), end);
                 drop(policy);

@@ -3,7 +3,7 @@ use Rattle.std.specs.Prelude.{ℕ, ◌+◌, List, [], ◌∷◌, codes, slice_ge
 use Rattle.tpol_json.specs.declared.place.Place.{Place}
 use Rattle.tpol_json.specs.Places.{at_item, at_member, root}
 use Rattle.tpol_prepare.specs.declared.manner.Way.{Way}
-use Rattle.tpol_prepare.specs.declared.manner.Way.TheVariants.{Blind, Sighted}
+use Rattle.tpol_prepare.specs.declared.manner.Way.TheVariants.{Blind, Sighted, WithTickets}
 use Rattle.tpol_scene.specs.declared.script.ScriptEvent.{ScriptEvent}
 use Rattle.tpol_scene.specs.declared.script.ScriptEvent.TheVariants.{Begin}
 use Rattle.tpol_steps.specs.Refusals.{bad_scene}
@@ -35,3 +35,4 @@ unless_ninth (Some index) = Err (bad_scene (codes "TooMany") (event_place index)
 abbrev pub begins_step : Way → List ScriptEvent → Step (Unit {0})
 begins_step Sighted script = Ok tt
 begins_step Blind script = unless_ninth (ninth_begin script)
+begins_step WithTickets script = Ok tt

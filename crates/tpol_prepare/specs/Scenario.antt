@@ -21,7 +21,7 @@ use Rattle.tpol_store.specs.Stores.{NamedPolicy}
 use Rattle.tpol_prepare.specs.declared.entities.CompiledEntity.{CompiledEntity}
 use Rattle.tpol_prepare.specs.declared.manner.Manner.{Manner}
 use Rattle.tpol_prepare.specs.declared.manner.Way.{Way}
-use Rattle.tpol_prepare.specs.declared.manner.Way.TheVariants.{Blind, Sighted}
+use Rattle.tpol_prepare.specs.declared.manner.Way.TheVariants.{Blind, Sighted, WithTickets}
 use Rattle.tpol_prepare.specs.declared.prepared.PreparedScene.{PreparedScene}
 use Rattle.tpol_prepare.specs.declared.scenario.Scenario.{Scenario}
 use Rattle.tpol_prepare.specs.declared.scenario.StagedScene.{StagedScene}
@@ -94,6 +94,7 @@ scenario_with manner scene prepared approvals = record {
 abbrev pub begun_limits : Way → List ApprovedDoc → List FilledDocument → Step (Unit {0})
 begun_limits Sighted approvals begun = limits_step approvals begun
 begun_limits Blind approvals begun = tried_limits_step approvals begun
+begun_limits WithTickets approvals begun = limits_step approvals begun
 
 -- the paths of the policies of its entities, and then of those that its script begins, are within the limits
 unfoldable pub limited_step : Way → PreparedScene → List ApprovedDoc → Step (Unit {0})

@@ -24,7 +24,7 @@ pub fn check_begins(alloc: Global, way: Way, script: &[ScriptEvent]) -> Result<(
     ensures inside { IsInside result }
 {
     match way {
-        Way::Sighted => Ok(()),
+        Way::Sighted | Way::WithTickets => Ok(()),
         Way::Blind => check_few(alloc, script),
     }
 }

@@ -10,6 +10,8 @@ pub enum Way {
     Sighted,
     /// A run tries the paths of its policy on the machine, one after another, without seeing what it shows.
     Blind,
+    /// A run begins as a sighted one, and shows the tickets that its client's earlier runs have earned.
+    WithTickets,
 }
 
 /// How a scene is carried out, and what is told of it: the commands that carry one out differ in this alone.

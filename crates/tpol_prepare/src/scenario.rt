@@ -231,7 +231,7 @@ fn check_begun(
     ensures few { way ≡ Blind → IfOk result (λ _. All (HasFewPaths approvals.now) begun.now) }
 {
     match way {
-        Way::Sighted => check_documents(alloc, begun, approvals),
+        Way::Sighted | Way::WithTickets => check_documents(alloc, begun, approvals),
         Way::Blind => check_tried(alloc, begun, approvals),
     }
 }

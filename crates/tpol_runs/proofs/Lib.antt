@@ -1,3 +1,4 @@
+mod Counted
 pub mod Driven
 mod Outcomes
 mod Table

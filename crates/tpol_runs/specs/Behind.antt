@@ -3,7 +3,7 @@ use Rattle.std.specs.Prelude.{◌≡◌, Some, None}
 use Rattle.tpol_runs.specs.declared.driver_state.Behind.{Behind}
 use Rattle.tpol_runs.specs.declared.driver_state.Behind.TheVariants as behinds
 use Rattle.tpol_runs.specs.Courses.{end_of}
-use Rattle.tpol_runs.specs.State.{driver_of}
+use Rattle.tpol_runs.specs.Drivers.{driver_of}
 use Rattle.tpol_runs.specs.Underway.{Driver}
 
 -- a driver that stands here: it goes on, or it is at its end

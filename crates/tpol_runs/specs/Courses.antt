@@ -1,8 +1,9 @@
 -- What a run does next, and what a reply makes of it.
-use Rattle.std.specs.Prelude.{ℕ, List, Option, Some, None}
+use Rattle.std.specs.Prelude.{ℕ, List, [], ◌++◌, map, Option, Some, None}
 use Rattle.std.specs.List.{fold}
 use Rattle.tpol_driver.specs.declared.blind_plan.BlindPlan.{BlindPlan}
 use Rattle.tpol_driver.specs.declared.plan.Plan.{Plan}
+use Rattle.tpol_driver.specs.declared.tickets.HeldTicket.{HeldTicket}
 use Rattle.tpol_driver.specs.Blind as blind
 use Rattle.tpol_driver.specs.Blind.{BlindDrive, BlindStanding, blind_hears, blind_sends}
 use Rattle.tpol_driver.specs.Driving.{Drive, Sends, Ends, Standing, Starting, Over, hears, sends}
@@ -11,14 +12,18 @@ use Rattle.tpol_runs.specs.declared.after.After.TheVariants as afters
 use Rattle.tpol_runs.specs.declared.ended.Ended.{Ended}
 use Rattle.tpol_runs.specs.declared.ended.Ended.TheVariants as ends
 use Rattle.tpol_runs.specs.declared.sent.Sent.{Sent}
-use Rattle.tpol_runs.specs.Underway.{Blind, Driver, Sighted, Underway}
+use Rattle.tpol_runs.specs.Earned.{earned_at}
+use Rattle.tpol_runs.specs.Underway.{Blind, Driven, Driver, Sighted, Underway}
 use Rattle.tpol_wire.specs.declared.command.Command.{Command}
 use Rattle.tpol_wire.specs.Commands.{spelling}
 
 -- before the first command: on one path, and on the paths of the policy of this name
 abbrev pub begun : ℕ → ℕ → Plan → Underway
-begun client locality plan =
-    record { client = client; locality = locality; driver = Sighted (record { plan = plan; standing = Starting }) }
+begun client locality plan = record {
+  client = client;
+  locality = locality;
+  driver = Sighted (record { plan = plan; standing = Starting; earned = [] });
+}
 
 abbrev pub begun_blind : ℕ → ℕ → List ℕ → BlindPlan → Underway
 begun_blind client locality policy plan =
@@ -53,24 +58,31 @@ next_of (Some run) = sent_by run
 
 -- ---- the reply
 
--- where the driver stands behind a reply
-abbrev pub heard_of : Driver → List ℕ → Driver
-heard_of (Sighted driven) reply =
-    Sighted (record { plan = driven.plan; standing = hears driven.plan driven.standing reply })
-heard_of (Blind policy driving) reply =
+-- where a driver on one path stands behind a reply that comes at this reset count of the machine
+abbrev pub driven_on : Driven → ℕ → List ℕ → Driven
+driven_on driven reset_count reply = record {
+  plan = driven.plan;
+  standing = hears driven.plan driven.standing reply;
+  earned = driven.earned ++ earned_at driven.plan driven.standing reset_count reply;
+}
+
+-- where the driver stands behind it
+abbrev pub heard_of : Driver → ℕ → List ℕ → Driver
+heard_of (Sighted driven) reset_count reply = Sighted (driven_on driven reset_count reply)
+heard_of (Blind policy driving) reset_count reply =
     Blind policy (record { plan = driving.plan; standing = blind_hears driving.plan driving.standing reply })
 
 -- the end of a run, where its driver is at its end
-abbrev pub sighted_end : Standing → Option Ended
-sighted_end (Over end) = Some (ends.Sighted end)
-sighted_end _ = None
+abbrev pub sighted_end : List HeldTicket → Standing → Option Ended
+sighted_end earned (Over end) = Some (ends.Sighted end earned)
+sighted_end earned _ = None
 
 abbrev pub blind_end : List ℕ → BlindStanding → Option Ended
 blind_end policy (blind.Over end) = Some (ends.Blind policy end)
 blind_end policy _ = None
 
 abbrev pub end_of : Driver → Option Ended
-end_of (Sighted driven) = sighted_end driven.standing
+end_of (Sighted driven) = sighted_end driven.earned driven.standing
 end_of (Blind policy driving) = blind_end policy driving.standing
 
 abbrev pub goes_or_ends : Underway → Driver → Option Ended → After
@@ -82,13 +94,13 @@ goes_or_ends run driver (Some ended) = afters.Ends ended
 abbrev pub stands_at : Underway → Driver → After
 stands_at run driver = goes_or_ends run driver (end_of driver)
 
-abbrev pub run_after : Underway → List ℕ → After
-run_after run reply = stands_at run (heard_of run.driver reply)
+abbrev pub run_after : Underway → ℕ → List ℕ → After
+run_after run reset_count reply = stands_at run (heard_of run.driver reset_count reply)
 
 -- what was over hears nothing
-abbrev pub heard_by : Option Underway → List ℕ → Option After
-heard_by None reply = None
-heard_by (Some run) reply = Some (run_after run reply)
+abbrev pub heard_by : Option Underway → ℕ → List ℕ → Option After
+heard_by None reset_count reply = None
+heard_by (Some run) reset_count reply = Some (run_after run reset_count reply)
 
 -- the end, where the reply led to it
 abbrev pub end_told : Option After → Option Ended
@@ -102,10 +114,13 @@ goes_on None = None
 goes_on (Some (afters.Goes run)) = Some run
 goes_on (Some (afters.Ends ended)) = None
 
--- ---- all replies
+-- ---- all replies, each with the reset count at which it comes
 
 abbrev pub underway_at : Underway → Driver → Option Underway
 underway_at run driver = goes_on (Some (stands_at run driver))
 
-abbrev pub after_replies : Option Underway → List (List ℕ) → Option Underway
-after_replies run replies = fold (λ now reply. goes_on (heard_by now reply)) run replies
+abbrev pub bytes_of : List (ℕ × List ℕ) → List (List ℕ)
+bytes_of replies = map (λ reply. reply.1) replies
+
+abbrev pub after_replies : Option Underway → List (ℕ × List ℕ) → Option Underway
+after_replies run replies = fold (λ now reply. goes_on (heard_by now reply.0 reply.1)) run replies

@@ -1,30 +1,28 @@
 //! The driver of a run.
 
-ghost use Rattle.std.specs.Prelude.{◌≡◌, List, Some, IfErr, IfOk, option_map};
+ghost use Rattle.std.specs.Prelude.{◌≡◌, Some, IfErr, IfOk, option_map};
 ghost use Rattle.tpol_driver.specs.Blind.{BlindStanding};
 ghost use Rattle.tpol_driver.specs.BlindStates.{IsBlindNext};
-ghost use Rattle.tpol_driver.specs.Driving.{Standing};
-ghost use Rattle.tpol_driver.specs.States.{IsNext};
 ghost use Rattle.tpol_driver.specs.declared.blind_plan.BlindPlan.{BlindPlan as BlindPlanOf};
-ghost use Rattle.tpol_driver.specs.declared.plan.Plan.{Plan as PlanOf};
-ghost use Rattle.tpol_driver.specs.declared.tickets.HeldTicket.{HeldTicket};
 ghost use Rattle.tpol_runs.specs.Courses.{command_of, heard_of};
 ghost use Rattle.tpol_runs.specs.Behind.{IsBehind};
-ghost use Rattle.tpol_runs.specs.State.{driver_of};
-ghost use Rattle.tpol_runs.specs.Underway.{Blind, Sighted};
+ghost use Rattle.tpol_runs.specs.PathBehind.{IsPathBehind};
+ghost use Rattle.tpol_runs.specs.Drivers.{driver_of};
+ghost use Rattle.tpol_runs.specs.Underway.{Blind, Driven, Sighted};
 ghost use Rattle.tpol_wire.specs.Commands.{spelling};
 
 use crate::blind_state::{BlindState, blind_next, blind_take};
 use crate::ended::Ended;
-use crate::state::{State, next, take};
+use crate::path_behind::PathBehind;
+use crate::path_driver::PathDriver;
 use std::alloc::Global;
 use tpol_base::{Blob, NoMemory, Text};
-use tpol_driver::{BlindNext, Next};
+use tpol_driver::BlindNext;
 
 // The driver of a run that is not over: on a path that was chosen, or on the paths of the policy of this name.
 #[derive(Drop)]
 pub enum DriverState {
-    Sighted(State),
+    Sighted(PathDriver),
     Blind(Text, BlindState),
 }
 
@@ -41,20 +39,26 @@ impl DriverState {
         ensures { IfOk result (λ bytes. option_map spelling (command_of (driver_of self.now)) ≡ Some bytes) }
     {
         match self {
-            DriverState::Sighted(state) => next(state, alloc),
+            DriverState::Sighted(driver) => driver.next(alloc),
             DriverState::Blind(_, state) => blind_next(state, alloc),
         }
     }
 
-    // Goes on with the reply. With `NoMemory` the driver comes back unchanged.
-    pub fn take(self, alloc: Global, reply: &[u8]) -> Result<Behind, (DriverState, NoMemory)>
-        ensures behind { IfOk result (IsBehind (heard_of (driver_of self) reply.now)) }
+    // Goes on with a reply that comes at this reset count of the machine. With `NoMemory` the driver comes back
+    // unchanged.
+    pub fn take(
+        self,
+        alloc: Global,
+        reset_count: u32,
+        reply: &[u8],
+    ) -> Result<Behind, (DriverState, NoMemory)>
+        ensures behind { IfOk result (IsBehind (heard_of (driver_of self) reset_count reply.now)) }
         ensures back { IfErr result (λ refused. refused.0 ≡ self) }
     {
         match self {
-            DriverState::Sighted(state) => match take(state, alloc, reply) {
-                Ok(next) => Ok(sighted_behind(next)),
-                Err((state, no_memory)) => Err((DriverState::Sighted(state), no_memory)),
+            DriverState::Sighted(driver) => match driver.take(alloc, reset_count, reply) {
+                Ok(behind) => Ok(sighted_behind(behind)),
+                Err((driver, no_memory)) => Err((DriverState::Sighted(driver), no_memory)),
             },
             DriverState::Blind(policy, state) => match blind_take(state, alloc, reply) {
                 Ok(next) => Ok(blind_behind(policy, next)),
@@ -64,18 +68,13 @@ impl DriverState {
     }
 }
 
-// A driver on one path in its next state.
-fn sighted_behind(next: Next) -> Behind
-    ensures { (plan : PlanOf) (earned : List HeldTicket) (standing : Standing) → IsNext plan earned standing next
-        → IsBehind (Sighted (record { plan = plan; standing = standing })) result }
+// A driver on one path behind a reply.
+fn sighted_behind(behind: PathBehind) -> Behind
+    ensures { (driven : Driven) → IsPathBehind driven behind → IsBehind (Sighted driven) result }
 {
-    match next {
-        Next::Asserting(asserting) => Behind::Goes(DriverState::Sighted(State::Asserting(
-            asserting,
-        ))),
-        Next::Ready(ready) => Behind::Goes(DriverState::Sighted(State::Ready(ready))),
-        Next::Closing(closing) => Behind::Goes(DriverState::Sighted(State::Closing(closing))),
-        Next::Over(over) => Behind::Ends(Ended::Sighted(over.end)),
+    match behind {
+        PathBehind::Goes(driver) => Behind::Goes(DriverState::Sighted(driver)),
+        PathBehind::Ends(ended) => Behind::Ends(ended),
     }
 }
 

@@ -6,12 +6,12 @@ ghost use Rattle.tpol_runs.specs.Courses.{begun, begun_blind, run_after, sent_by
 use crate::after::After;
 use crate::blind_state::BlindState;
 use crate::driver_state::{Behind, DriverState};
+use crate::path_driver::PathDriver;
 use crate::sent::Sent;
-use crate::state::State;
 use std::alloc::Global;
 use std::marker::Model;
 use tpol_base::{NoMemory, Text};
-use tpol_driver::{BlindStart, Plan, Planned};
+use tpol_driver::{BlindStart, Plan};
 
 /// A run that is not over. Contracts see the client that sends its commands, from which locality, and the driver.
 #[derive(Drop)]
@@ -23,7 +23,7 @@ pub struct Run {
 
 impl Model for Run {
     ghost use Rattle.tpol_runs.specs.Underway.{Underway};
-    ghost use Rattle.tpol_runs.specs.State.{driver_of};
+    ghost use Rattle.tpol_runs.specs.Drivers.{driver_of};
 
     ghost Value = { Underway };
 
@@ -36,7 +36,7 @@ impl Model for Run {
 
 impl Run {
     /// A run of a plan before its first command.
-    pub fn new(client: u32, locality: u8, plan: Plan) -> Run
+    pub fn new(alloc: Global, client: u32, locality: u8, plan: Plan) -> Run
         requires moves { length plan.path.moves ≤ 512 }
         requires locality { locality ≤ 4 }
         ensures { result ≡ begun client locality plan }
@@ -44,7 +44,7 @@ impl Run {
         Run {
             client,
             locality,
-            driver: DriverState::Sighted(State::Planned(Planned::new(plan))),
+            driver: DriverState::Sighted(PathDriver::new(alloc, plan)),
         }
     }
 
@@ -73,9 +73,14 @@ impl Run {
         })
     }
 
-    /// Goes on with the reply. With `NoMemory` the run comes back unchanged.
-    pub fn take(self, alloc: Global, reply: &[u8]) -> Result<After, (Run, NoMemory)>
-        ensures after { IfOk result (λ after. after ≡ run_after self reply.now) }
+    /// Goes on with a reply that comes at this reset count of the machine. With `NoMemory` the run comes back unchanged.
+    pub fn take(
+        self,
+        alloc: Global,
+        reset_count: u32,
+        reply: &[u8],
+    ) -> Result<After, (Run, NoMemory)>
+        ensures after { IfOk result (λ after. after ≡ run_after self reset_count reply.now) }
         ensures back { IfErr result (λ refused. refused.0 ≡ self) }
     {
         let Run {
@@ -83,7 +88,7 @@ impl Run {
             locality,
             driver,
         } = self;
-        match driver.take(alloc, reply) {
+        match driver.take(alloc, reset_count, reply) {
             Ok(Behind::Goes(driver)) => Ok(After::Goes(Run {
                 client,
                 locality,

@@ -46,6 +46,7 @@ impl Runs {
     /// are as before.
     pub fn begin(
         &mut self,
+        alloc: Global,
         number: u16,
         client: u32,
         locality: u8,
@@ -56,7 +57,7 @@ impl Runs {
         ensures ok { OnOk result (self.new ≡ self.old ++ record { number = number; run = Some (begun client locality plan) } ∷ []) }
         ensures err { OnErr result (self.new ≡ self.old) }
     {
-        let run = Some(Run::new(client, locality, plan));
+        let run = Some(Run::new(alloc, client, locality, plan));
         self.runs.push(Numbered { number, run })?;
         Ok(())
     }
@@ -100,17 +101,18 @@ impl Runs {
         }
     }
 
-    /// Hands the reply to the last command to the run of this number. Where the run is over with it, its end
-    /// is told, this once. A run that was over stays so, and tells nothing. After `NoMemory` the runs are as
-    /// before.
+    /// Hands the reply to the last command to the run of this number; the machine's reset count was this when it came.
+    /// Where the run is over with it, its end is told, this once. A run that was over stays so, and tells nothing. After
+    /// `NoMemory` the runs are as before.
     pub fn take(
         &mut self,
         alloc: Global,
         number: u16,
+        reset_count: u32,
         reply: &[u8],
     ) -> Result<Option<Ended>, NoMemory>
-        ensures told { IfOk result (λ told. told ≡ end_told (heard_by (run_at self.old number) reply.now)) }
-        ensures runs { OnOk result (self.new ≡ with_run self.old number (goes_on (heard_by (run_at self.old number) reply.now))) }
+        ensures told { IfOk result (λ told. told ≡ end_told (heard_by (run_at self.old number) reset_count reply.now)) }
+        ensures runs { OnOk result (self.new ≡ with_run self.old number (goes_on (heard_by (run_at self.old number) reset_count reply.now))) }
         ensures err { OnErr result (self.new ≡ self.old) }
     {
         let Some(place) = self.place_of(number) else {
@@ -119,7 +121,7 @@ impl Runs {
         let Some(run) = self.exchange(place, None) else {
             return Ok(None);
         };
-        let (run, told) = hand(run, alloc, reply);
+        let (run, told) = hand(run, alloc, reset_count, reply);
         self.exchange(place, run);
         told
     }
@@ -152,12 +154,17 @@ impl Runs {
 }
 
 // Hands a reply to a run: the run, where it goes on, and its end, where it is over now.
-fn hand(run: Run, alloc: Global, reply: &[u8]) -> (Option<Run>, Result<Option<Ended>, NoMemory>)
-    ensures told { IfOk result.1 (λ told. told ≡ end_told (Some (run_after run reply.now))) }
-    ensures run { OnOk result.1 (result.0 ≡ goes_on (Some (run_after run reply.now))) }
+fn hand(
+    run: Run,
+    alloc: Global,
+    reset_count: u32,
+    reply: &[u8],
+) -> (Option<Run>, Result<Option<Ended>, NoMemory>)
+    ensures told { IfOk result.1 (λ told. told ≡ end_told (Some (run_after run reset_count reply.now))) }
+    ensures run { OnOk result.1 (result.0 ≡ goes_on (Some (run_after run reset_count reply.now))) }
     ensures back { OnErr result.1 (result.0 ≡ Some run) }
 {
-    match run.take(alloc, reply) {
+    match run.take(alloc, reset_count, reply) {
         Ok(After::Goes(run)) => (Some(run), Ok(None)),
         Ok(After::Ends(ended)) => (None, Ok(Some(ended))),
         Err((run, no_memory)) => (Some(run), Err(no_memory)),

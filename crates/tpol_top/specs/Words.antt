@@ -6,7 +6,7 @@ use Rattle.tpol_base.specs.PolicyName.{is_policy_name, without_folder}
 use Rattle.tpol_top.specs.declared.request.Request.{Request}
 use Rattle.tpol_top.specs.declared.request.Request.TheVariants.{Compile, Paths, Lint, Canon, Import, Check, Perform, Generate}
 use Rattle.tpol_prepare.specs.declared.manner.Manner.TheVariants as manners
-use Rattle.tpol_prepare.specs.declared.manner.Way.TheVariants.{Blind, Sighted}
+use Rattle.tpol_prepare.specs.declared.manner.Way.TheVariants.{Blind, Sighted, WithTickets}
 use Rattle.tpol_front.specs.Numbers.{number_of_word}
 
 -- the command of one word
@@ -36,13 +36,16 @@ name_request word name = request_with_name word (policy_stem name)
 
 -- the command `run` with one more word
 abbrev pub run_request : List ℕ → Option Request
-run_request option = if bytes_eq option (codes "--blind") then Some (Perform (manners.Run Blind)) else None
+run_request option =
+    if bytes_eq option (codes "--blind") then Some (Perform (manners.Run Blind))
+    else (if bytes_eq option (codes "--tickets") then Some (Perform (manners.Run WithTickets)) else None)
 
 -- the command `explain` with one more word
 abbrev pub explain_request : List ℕ → Option Request
 explain_request option =
     if bytes_eq option (codes "--cert") then Some (Perform manners.Certify)
-    else (if bytes_eq option (codes "--blind") then Some (Perform (manners.Explain Blind)) else None)
+    else (if bytes_eq option (codes "--blind") then Some (Perform (manners.Explain Blind))
+    else (if bytes_eq option (codes "--tickets") then Some (Perform (manners.Explain WithTickets)) else None))
 
 -- the command of two words; what stands behind `run` and `explain` is no name
 abbrev pub two_word_request : List ℕ → List ℕ → Option Request

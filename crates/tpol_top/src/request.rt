@@ -24,8 +24,8 @@ pub enum Request {
     /// `check NAME`, `check NAME --scene SCENE`: whether the source certifies a path of the shelf's policy of this name,
     /// filled with a scene of the shelf.
     Check { name: Text, scene: Option<Text> },
-    /// `run`, `run --blind`, `explain`, `explain --blind`, `explain --cert`: carries out the scene in the source, in this
-    /// manner.
+    /// `run`, `run --blind`, `run --tickets`, `explain`, `explain --blind`, `explain --tickets`, `explain --cert`: carries
+    /// out the scene in the source, in this manner.
     Perform { manner: Manner },
     /// `gen N M`: a run of a policy of N ORs (1 to 12), whose branches stand in an order by the bits of M.
     Generate { ors: u8, order: u32 },
@@ -98,15 +98,19 @@ fn run_request(option: &str) -> Option<Request>
     ensures { result ≡ run_request option.now }
 {
     if option == "--blind" {
-        Some(Request::Perform {
+        return Some(Request::Perform {
             manner: Manner::Run(Way::Blind),
-        })
-    } else {
-        None
+        });
     }
+    if option == "--tickets" {
+        return Some(Request::Perform {
+            manner: Manner::Run(Way::WithTickets),
+        });
+    }
+    None
 }
 
-// How `explain` drives, or what it tells besides; at most one of the two.
+// How `explain` drives, or what it tells besides; at most one of them.
 fn explain_request(option: &str) -> Option<Request>
     ensures { result ≡ explain_request option.now }
 {
@@ -118,6 +122,11 @@ fn explain_request(option: &str) -> Option<Request>
     if option == "--blind" {
         return Some(Request::Perform {
             manner: Manner::Explain(Way::Blind),
+        });
+    }
+    if option == "--tickets" {
+        return Some(Request::Perform {
+            manner: Manner::Explain(Way::WithTickets),
         });
     }
     None

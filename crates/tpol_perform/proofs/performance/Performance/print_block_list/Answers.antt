@@ -1,4 +1,4 @@
-use Rattle.std.proofs.Common.{◌+◌, get_or, refl, sym, ap, ◌∙◌}
+use Rattle.std.proofs.Common.{get_or, refl, sym, ap, ◌∙◌}
 use Rattle.tpol_perform.proofs.TurnSteps.{blocks_step}
 use Rattle.tpol_perform.proofs.performance.Performance.print_block_list.Goals as goal
 

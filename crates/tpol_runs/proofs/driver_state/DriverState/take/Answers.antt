@@ -1,14 +1,11 @@
-use Rattle.std.specs.Prelude.{◌++◌}
 use Rattle.tpol_driver.specs.Blind.{blind_hears}
-use Rattle.tpol_driver.specs.Driving.{earned_by, hears}
-use Rattle.tpol_runs.specs.State.{blind_driving_of, driving_of}
+use Rattle.tpol_runs.specs.Courses.{driven_on}
+use Rattle.tpol_runs.specs.State.{blind_driving_of}
 use Rattle.tpol_runs.proofs.driver_state.DriverState.take.Goals as goal
 
 pub returns-in-Ok-clause-behind : goal.returns-in-Ok-clause-behind
 returns-in-Ok-clause-behind c =
-    let driving = driving_of c.in-Sighted.state in
-    rw c.in-Sighted.is
-    (c.sighted_behind.ensures driving.plan (driving.earned ++ earned_by driving.plan driving.standing c.args.reply.now) (hears driving.plan driving.standing c.args.reply.now) c.in-Ok.ensures.next)
+    rw c.in-Sighted.is (c.sighted_behind.ensures (driven_on c.in-Sighted.driver c.args.reset_count c.args.reply.now) c.in-Ok.ensures.behind)
 
 pub returns-in-Ok-blind_take-clause-behind : goal.returns-in-Ok-blind_take-clause-behind
 returns-in-Ok-blind_take-clause-behind c =

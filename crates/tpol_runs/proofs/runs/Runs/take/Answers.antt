@@ -21,19 +21,19 @@ exchange-requires-2 c =
 pub returns-in_default-clause-told : goal.returns-in_default-clause-told
 returns-in_default-clause-told c =
     let none : run_at c.args.self.now c.args.number ≡ None = ap run_in (absent c.args.self.now c.args.number (sym c.place_of.ensures ∙ c.in_default.is)) in
-    sym (ap (λ run. end_told (heard_by run c.args.reply.now)) none)
+    sym (ap (λ run. end_told (heard_by run c.args.reset_count c.args.reply.now)) none)
 
 pub returns-in_default-clause-runs : goal.returns-in_default-clause-runs
 returns-in_default-clause-runs c =
     let none = absent c.args.self.now c.args.number (sym c.place_of.ensures ∙ c.in_default.is) in
-    sym (not_written c.args.self.now c.args.number (goes_on (heard_by (run_at c.args.self.now c.args.number) c.args.reply.now)) none)
+    sym (not_written c.args.self.now c.args.number (goes_on (heard_by (run_at c.args.self.now c.args.number) c.args.reset_count c.args.reply.now)) none)
 
 -- where the run goes on, the state that is handed out is that of the run
 pub returns-clause-told : goal.returns-clause-told
 returns-clause-told c =
     let found : run_at c.args.self.now c.args.number ≡ Some c.in-Some-exchange.run' =
     sym (c.exchange.ensures.before c.args.number (sym c.place_of.ensures ∙ c.in-Some.is)) ∙ c.in-Some-exchange.is in
-    let P : Option Underway → Type 0 = λ run. IfOk c.hand-run.result.1 (λ told. told ≡ end_told (heard_by run c.args.reply.now)) in
+    let P : Option Underway → Type 0 = λ run. IfOk c.hand-run.result.1 (λ told. told ≡ end_told (heard_by run c.args.reset_count c.args.reply.now)) in
     subst P (sym found) c.hand-run.ensures.told
 
 -- and the state that is put back takes the place of it
@@ -51,7 +51,7 @@ pub returns-clause-runs : goal.returns-clause-runs
 returns-clause-runs c =
     let found : run_at c.args.self.now c.args.number ≡ Some c.in-Some-exchange.run' =
     sym (c.exchange.ensures.before c.args.number (sym c.place_of.ensures ∙ c.in-Some.is)) ∙ c.in-Some-exchange.is in
-    let P : Option Underway → Type 0 = λ run. OnOk c.hand-run.result.1 (c.exchange-2.new.self ≡ with_run c.args.self.now c.args.number (goes_on (heard_by run c.args.reply.now))) in
+    let P : Option Underway → Type 0 = λ run. OnOk c.hand-run.result.1 (c.exchange-2.new.self ≡ with_run c.args.self.now c.args.number (goes_on (heard_by run c.args.reset_count c.args.reply.now))) in
     subst P (sym found)
     (on_ok c.hand-run.result.1 (λ h. written c ∙ ap (with_run c.args.self.now c.args.number) h) c.hand-run.ensures.run)
 
