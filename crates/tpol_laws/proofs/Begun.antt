@@ -1,35 +1,25 @@
 -- Where the run of a script begins: the events before it are of others, and it begins on the chosen path or on none.
-use Rattle.std.proofs.Common.{◌≡◌, ◌≢◌, ◌⊎◌, ◌≤◌, ◌<◌, inl, inr, ℕ, suc, ◌+◌, ◌-◌, ◌^◌, Bool, true, false, if◌then◌else◌, List, [], ◌∷◌, ◌++◌, All, Option, Some, None, length, map, nat_eq, slice_get, refl, ap, sym, subst, ◌∙◌, arith, append_assoc, append-nil}
-use Rattle.std.specs.List.{AllByRecursion, IsDistinct}
+use Rattle.std.proofs.Common.{◌≡◌, ◌≢◌, ◌⊎◌, ◌<◌, inl, inr, ℕ, ◌+◌, ◌-◌, ◌^◌, Bool, true, false, if◌then◌else◌, List, [], ◌∷◌, ◌++◌, All, Option, Some, None, map, nat_eq, slice_get, refl, ap, sym, subst, ◌∙◌, arith, append_assoc, append-nil}
+use Rattle.std.specs.List.{AllByRecursion}
 use Rattle.std.specs.Prelude.{Contains, find, is_none}
-use Rattle.std.specs.Option.{option_map, unwrap_or}
 use Rattle.std.proofs.lemmas.Bool.{eqb-true}
-use Rattle.std.proofs.lemmas.List.Elements.{All-nil, Contains-append_left, Contains-push, Contains-push_cases, recursion_from_All}
-use Rattle.std.proofs.lemmas.Option.{none-some, same_Some}
+use Rattle.std.proofs.lemmas.List.Elements.{Contains-append_left, Contains-push, Contains-push_cases}
+use Rattle.std.proofs.lemmas.Option.{none-some}
 use Rattle.tpol_choose.specs.declared.block.Block.{Block}
 use Rattle.tpol_choose.specs.Blocks.{chosen_path, first_block, is_open}
-use Rattle.tpol_digest.specs.Laws.{MoveHasBounds}
-use Rattle.tpol_digest.specs.Paths.{paths_of}
 use Rattle.tpol_digest.specs.Walks.{first_path}
-use Rattle.tpol_digest.proofs.PathMoves.{paths_have_bounds}
 use Rattle.tpol_goal.specs.declared.goal.Goal.{Goal}
-use Rattle.tpol_goal.specs.declared.grants.Grants.{Grants}
-use Rattle.tpol_goal.specs.Grants.{IsGrants}
 use Rattle.tpol_json.specs.declared.place.Place.{Place}
 use Rattle.tpol_lines.specs.BlockLine.{block_line}
 use Rattle.tpol_lines.specs.Lines.{line_of}
 use Rattle.tpol_lines.specs.Runs.{chosen_line, nobranch_line}
-use Rattle.tpol_name.specs.declared.sight.Sight.{Sight}
 use Rattle.tpol_perform.specs.Begin.{begun_along, begun_at, begun_by, begun_in_sight, begun_nowhere, begun_on, plan_along, run_begun, with_block, with_blocks}
 use Rattle.tpol_perform.specs.NewRuns.{with_new_run}
 use Rattle.tpol_perform.specs.Performance.{PerformanceState, start_of, with_line}
-use Rattle.tpol_steps.specs.declared.filled.FilledDocument.{FilledDocument}
-use Rattle.tpol_prepare.specs.declared.scenario.Scenario.{Scenario}
 use Rattle.tpol_prepare.specs.declared.scenario.StagedScene.{StagedScene}
 use Rattle.tpol_prepare.specs.declared.manner.Way.{Way}
 use Rattle.tpol_prepare.specs.declared.manner.Way.TheVariants as ways
 use Rattle.tpol_prepare.specs.Manner.{way_of}
-use Rattle.tpol_prepare.specs.Scenario.{IsWalkable, grants_of, is_client, is_document, no_grants, paths_in, paths_named}
 use Rattle.tpol_prepare.specs.Staged.{IsStaged}
 use Rattle.tpol_runs.specs.Courses.{begun as begun_underway}
 use Rattle.tpol_runs.specs.Runs.{has_number, run_at, run_in}
@@ -38,13 +28,13 @@ use Rattle.tpol_scene.specs.declared.script.ScriptEvent.TheVariants.{Command, Be
 use Rattle.tpol_scene.specs.Conditions.{AreEventsBehind, BeginsRun, IsEventBehind}
 use Rattle.tpol_scene.specs.Scripts.{begun_run}
 use Rattle.tpol_tree.specs.declared.path.Path.{Path}
-use Rattle.tpol_tree.specs.Bounds.{HasClosedBounds}
 use Rattle.tpol_laws.specs.Acts.{Run}
 use Rattle.tpol_laws.specs.Runs.{IsBegun}
-use Rattle.tpol_laws.specs.Told.{AreBlocksOf, BeginsNowhere, BeginsOn, IsSighted, RunOf, before_begin, begins, behind_begin, chosen_for, paths_for, sight_at_begin}
-use Rattle.tpol_laws.specs.HeldTickets.{TicketHasBounds}
-use Rattle.tpol_laws.proofs.Finds.{all-at, find-each}
+use Rattle.tpol_laws.specs.Told.{AreBlocksOf, BeginsNowhere, BeginsOn, IsSighted, RunOf, before_begin, begins, behind_begin, chosen_for, paths_for, sight_at_begin, tickets_at_begin}
+use Rattle.tpol_laws.specs.HeldTickets.{IsUsable}
 use Rattle.tpol_laws.proofs.Followed.{any, allows-any}
+use Rattle.tpol_laws.proofs.KeptTickets.{Keeps, given-bounds, keeps-all, given-usable}
+pub use Rattle.tpol_laws.proofs.NamedPaths.{FoundPath, grants-at, named-at, none-is, open-path}
 use Rattle.tpol_laws.proofs.Prints.{IsBehind, IsOther, Spares, all-spare, found-begun}
 
 -- ---- the script
@@ -135,82 +125,6 @@ pub front : {A : Type 0} (P : A → Type 0) (xs ys : List A) → AllByRecursion 
 front P [] ys all = tt
 front P (x ∷ xs) ys all = (all.0, front P xs ys all.1)
 
--- ---- the first path that passes
-
-pub record FoundPath (test : Path → Bool) (paths : List Path) (place : ℕ) : Type 0 where
-  pub path : Path
-  pub at : slice_get paths place ≡ Some path
-  pub passes : test path ≡ true
-
-record FoundFrom (test : Path → Bool) (n : ℕ) (paths : List Path) (position : ℕ) : Type 0 where
-  found : FoundPath test paths (position - n)
-  within : n ≤ position
-
-path-here : (test : Path → Bool) (n : ℕ) (path : Path) (rest : List Path) (position : ℕ) (b : Bool) → b ≡ test path → (if b then Some n else first_path test (n + 1) rest) ≡ Some position
-    → (first_path test (n + 1) rest ≡ Some position → FoundFrom test (n + 1) rest position) → FoundFrom test n (path ∷ rest) position
-path-here test n path rest position true is at later =
-    let same : n ≡ position = same_Some _ _ at in
-    let zero-place : position - n ≡ 0 = omega arith in
-    record {
-      found = subst (FoundPath test (path ∷ rest)) (sym zero-place) (record { path = path; at = refl; passes = sym is });
-      within = omega arith;
-    }
-path-here test n path rest position false is at later =
-    let next = later at in
-    let within : n + 1 ≤ position = next.within in
-    let place : position - n ≡ suc (position - (n + 1)) = omega arith in
-    record {
-      found = subst (FoundPath test (path ∷ rest)) (sym place) (record { path = next.found.path; at = next.found.at; passes = next.found.passes });
-      within = omega (arith, within);
-    }
-
-found-from : (test : Path → Bool) (n : ℕ) (paths : List Path) (position : ℕ) → first_path test n paths ≡ Some position → FoundFrom test n paths position
-found-from test n [] position at = absurd (none-some position at)
-found-from test n (path ∷ rest) position at = path-here test n path rest position (test path) refl at (found-from test (n + 1) rest position)
-
-none-is : {A : Type 0} (o : Option A) → is_none o ≡ true → o ≡ None
-none-is None is = refl
-none-is (Some x) is = absurd cc
-
-pub open-path : (paths : List Path) (sight : Sight) (grants : Grants) (goal : Goal) (locality position : ℕ) → chosen_path paths sight grants goal locality ≡ Some position
-    → FoundPath (is_open sight grants goal locality) paths (position - 1)
-unfolding chosen_path
-open-path paths sight grants goal locality position at = (found-from (is_open sight grants goal locality) 1 paths position at).found
-
--- ---- what a path of a named policy and a client's grants are
-
-nothing-granted : IsGrants no_grants
-unfolding IsDistinct
-nothing-granted = record { secret_handles = tt; key_handles = tt; secrets = All-nil _; keys = All-nil _ }
-
-pub grants-at : (clients : List (ℕ × Grants)) (number : ℕ) → All (λ client. IsGrants client.1) clients → IsGrants (grants_of clients number)
-grants-at clients number all = by (find (is_client number) clients) refl
-  where
-    by : (o : Option (ℕ × Grants)) → find (is_client number) clients ≡ o → IsGrants (unwrap_or (option_map (λ client. client.1) o) no_grants)
-    by None e = nothing-granted
-    by (Some client) e = find-each (λ (c : ℕ × Grants). IsGrants c.1) (is_client number) clients client (recursion_from_All (λ (c : ℕ × Grants). IsGrants c.1) clients all) e
-
-record IsNamed (path : Path) : Type 0 where
-  moves : All MoveHasBounds path.moves
-  short : length path.moves ≤ 512
-
-named-at : (scenario : Scenario) → All (λ document. IsWalkable scenario.approvals document.closed) scenario.begun → All (λ document. HasClosedBounds document.closed) scenario.begun
-    → All (λ document. HasClosedBounds document.closed) scenario.approvals → (policy : List ℕ) (place : ℕ) (path : Path) → slice_get (paths_named scenario policy) place ≡ Some path → IsNamed path
-unfolding paths_named
-named-at scenario walkable bounds approvals policy place path at = by (find (is_document policy) scenario.begun) refl at
-  where
-    by : (o : Option FilledDocument) → find (is_document policy) scenario.begun ≡ o → slice_get (paths_in scenario.approvals o) place ≡ Some path → IsNamed path
-    by None e at = absurd (none-some path at)
-    by (Some document) e at =
-        let walks = find-each (λ (d : FilledDocument). IsWalkable scenario.approvals d.closed) (is_document policy) scenario.begun document
-        (recursion_from_All (λ (d : FilledDocument). IsWalkable scenario.approvals d.closed) scenario.begun walkable) e in
-        let bounded = find-each (λ (d : FilledDocument). HasClosedBounds d.closed) (is_document policy) scenario.begun document
-        (recursion_from_All (λ (d : FilledDocument). HasClosedBounds d.closed) scenario.begun bounds) e in
-        record {
-          moves = all-at (λ (p : Path). All MoveHasBounds p.moves) (paths_of document.closed scenario.approvals) place path (paths_have_bounds document.closed scenario.approvals walks.branches bounded approvals) at;
-          short = all-at (λ (p : Path). length p.moves ≤ 512) (paths_of document.closed scenario.approvals) place path walks.within.short at;
-        }
-
 -- ---- the begin
 
 module _ (staged : StagedScene) (run : RunOf staged.script) (is : IsStaged staged) where
@@ -229,6 +143,13 @@ module _ (staged : StagedScene) (run : RunOf staged.script) (is : IsStaged stage
   pub setup-before : (before_begin staged run).setup ≡ staged.setup
   setup-before = before-spared.setup
 
+  -- and the tickets that were kept up to there are the machine's
+  pub kept-before : Keeps staged.setup (before_begin staged run)
+  kept-before = keeps-all staged is run.before
+
+  pub tickets-usable : All (IsUsable staged.setup (before_begin staged run).past) (tickets_at_begin staged run)
+  tickets-usable = given-usable staged.setup (before_begin staged run) kept-before (way_of staged.scenario.manner) run.client
+
   pub none-before : find (has_number run.number) (before_begin staged run).runs ≡ None
   none-before = before-spared.found
 
@@ -238,7 +159,7 @@ module _ (staged : StagedScene) (run : RunOf staged.script) (is : IsStaged stage
     setup = staged.setup;
     client = run.client;
     locality = run.locality;
-    plan = plan_along staged.scenario path (begins staged run);
+    plan = plan_along staged.scenario (tickets_at_begin staged run) path (begins staged run);
   }
 
   pub begun-run-is : (path : Path) (place : ℕ) → slice_get (paths_for staged run) place ≡ Some path → IsBegun (run-along path)
@@ -247,7 +168,7 @@ module _ (staged : StagedScene) (run : RunOf staged.script) (is : IsStaged stage
       record {
         setup = is.setup;
         directory = is.directory;
-        tickets = All-nil TicketHasBounds;
+        tickets = given-bounds staged.setup (before_begin staged run) kept-before (way_of staged.scenario.manner) run.client;
         grants = grants-at staged.scenario.clients run.client is.grants;
         moves = named.moves;
         short = named.short;
@@ -261,6 +182,7 @@ module _ (staged : StagedScene) (run : RunOf staged.script) (is : IsStaged stage
     where
       by : (way : Way) → way ≢ ways.Blind → begun_by way staged.scenario run.policy (begins staged run) (before_begin staged run) ≡ begun_in_sight staged.scenario run.policy (begins staged run) (before_begin staged run)
       by ways.Sighted not_blind = refl
+      by ways.WithTickets not_blind = refl
       by ways.Blind not_blind = absurd (not_blind refl)
 
   seen-is : begun_in_sight staged.scenario run.policy (begins staged run) (before_begin staged run) ≡ begun_at staged.scenario (sight_at_begin staged run) (paths_for staged run) (begins staged run) (chosen_for staged run) (before_begin staged run)
@@ -274,11 +196,11 @@ module _ (staged : StagedScene) (run : RunOf staged.script) (is : IsStaged stage
   abbrev pub along-state : ℕ → Path → PerformanceState
   along-state position path =
       with_line (chosen_line run.number position path.steps)
-      (with_new_run run.number (Some (begun_underway run.client run.locality (plan_along staged.scenario path (begins staged run)))) (before_begin staged run))
+      (with_new_run run.number (Some (begun_underway run.client run.locality (plan_along staged.scenario (tickets_at_begin staged run) path (begins staged run)))) (before_begin staged run))
 
   pub begun-along-is : IsSighted staged → (position : ℕ) (path : Path) → chosen_for staged run ≡ Some position → slice_get (paths_for staged run) (position - 1) ≡ Some path → behind_begin staged run ≡ along-state position path
   begun-along-is sees position path chosen at =
-      begun-is sees (Some position) chosen ∙ ap (λ o. begun_along staged.scenario position (begins staged run) o (before_begin staged run)) at
+      begun-is sees (Some position) chosen ∙ ap (λ o. begun_along staged.scenario (tickets_at_begin staged run) position (begins staged run) o (before_begin staged run)) at
 
   pub begins-on : IsSighted staged → (position : ℕ) → chosen_for staged run ≡ Some position → BeginsOn staged run position
   begins-on sees position chosen =

@@ -1,15 +1,16 @@
 -- The run of a script is where its course is, whatever others do between.
-use Rattle.std.proofs.Common.{◌≡◌, ◌<◌, ◌^◌, ℕ, Bool, true, false, true≢false, if◌then◌else◌, List, [], ◌∷◌, ◌++◌, map, replicate, refl, ap, sym, subst, ◌∙◌, append_assoc}
+use Rattle.std.proofs.Common.{◌≡◌, ◌<◌, ◌^◌, ℕ, Option, Bool, true, false, true≢false, if◌then◌else◌, List, [], ◌∷◌, ◌++◌, map, replicate, refl, ap, sym, subst, ◌∙◌, append_assoc}
 use Rattle.std.specs.List.{AllByRecursion}
 use Rattle.std.specs.Prelude.{Contains}
 use Rattle.std.proofs.lemmas.Bool.{eqb-true}
 use Rattle.std.proofs.lemmas.List.Elements.{All-append, Contains-append_right}
 use Rattle.tpm_engine.specs.Calls.{Call, event_by, journal_after}
 use Rattle.tpol_driver.specs.Driving.{Drive, Ends, Sends, sends}
+use Rattle.tpol_driver.specs.declared.tickets.HeldTicket.{HeldTicket}
 use Rattle.tpol_lines.specs.Lines.{line_of}
 use Rattle.tpol_lines.specs.Runs.{end_line}
 use Rattle.tpol_perform.specs.Performance.{PerformanceState}
-use Rattle.tpol_perform.specs.Script.{all_happened, happened}
+use Rattle.tpol_perform.specs.Script.{all_happened, happened, turn_told}
 use Rattle.tpol_prepare.specs.declared.scenario.Scenario.{Scenario}
 use Rattle.tpol_prepare.specs.declared.scenario.StagedScene.{StagedScene}
 use Rattle.tpol_prepare.specs.Staged.{IsStaged}
@@ -42,26 +43,31 @@ module _ (run : Run) where
   calls-past [] course = refl
   calls-past (call ∷ calls) course = calls-past calls (record { past = event_by run.setup course.past call ∷ course.past; standing = course.standing })
 
--- the run, where its course is, by its driver
-abbrev FollowsAt : Run → ℕ → Scenario → PerformanceState → PerformanceState → Course → Type 0
-FollowsAt run number scenario first p course = Follows (seat_of run) number scenario first p (sighted_at run course)
+-- the run, where its course is, by its driver, whatever it has earned
+pub record FollowsAt (run : Run) (number : ℕ) (scenario : Scenario) (first p : PerformanceState) (course : Course) : Type 0 where
+  pub earned : List HeldTicket
+  pub is : Follows (seat_of run) number scenario first p (sighted_at run earned course)
 
 module _ (run : Run) (number : ℕ) (scenario : Scenario) (first : PerformanceState) (within : number < 2 ^ 16) where
   -- ---- events of others
+
+  calls-after : (p q : PerformanceState) (earned : List HeldTicket) (course : Course) → Follows (seat_of run) number scenario first p (sighted_at run earned course) → Spares (IsUnserved number) number p q → (goes : Goes p q)
+      → Follows (seat_of run) number scenario first q (sighted_at run earned (record { past = journal_after run.setup goes.calls course.past; standing = course.standing }))
+  calls-after p q earned course is spares goes = record {
+    setup = spares.setup ∙ is.setup;
+    past = goes.past ∙ (λ i. journal_after (is.setup i) goes.calls (is.past i));
+    found = spares.found ∙ is.found;
+    added = is.added ++ spares.added;
+    lines = spares.lines ∙ ap (λ l. l ++ spares.added) is.lines ∙ append_assoc first.lines is.added spares.added;
+    told = λ end over. tells-more scenario number is.added spares.added end (is.told end over);
+    unserved = λ not. All-append (IsUnserved number) is.added spares.added (is.unserved not) spares.each;
+  }
 
   calls-follow : (p q : PerformanceState) (course : Course) → FollowsAt run number scenario first p course → Spares (IsUnserved number) number p q → Goes p q → FollowsAt run number scenario first q (after_acts run (map Other (calls_between p q)) course)
   calls-follow p q course is spares goes =
       subst (λ calls. FollowsAt run number scenario first q (after_acts run (map Other calls) course)) (sym (made p q goes))
       (subst (FollowsAt run number scenario first q) (sym (calls-past run goes.calls course))
-      (record {
-        setup = spares.setup ∙ is.setup;
-        past = goes.past ∙ (λ i. journal_after (is.setup i) goes.calls (is.past i));
-        found = spares.found ∙ is.found;
-        added = is.added ++ spares.added;
-        lines = spares.lines ∙ ap (λ l. l ++ spares.added) is.lines ∙ append_assoc first.lines is.added spares.added;
-        told = λ end over. tells-more scenario number is.added spares.added end (is.told end over);
-        unserved = λ not. All-append (IsUnserved number) is.added spares.added (is.unserved not) spares.each;
-      }))
+      (record { earned = is.earned; is = calls-after p q is.earned course is.is spares goes }))
 
   other-of : (event : ScriptEvent) → IsBehind number event → is_turn_of number event ≡ false → IsOther number event
   other-of (Command client locality buffer) behind apart = tt
@@ -73,6 +79,15 @@ module _ (run : Run) (number : ℕ) (scenario : Scenario) (first : PerformanceSt
 
   -- ---- its own turns
 
+  turns-follow : (times : Option ℕ) (p : PerformanceState) (course : Course) → FollowsAt run number scenario first p course
+      → FollowsAt run number scenario first (turn_told scenario number times p) (after_acts run (replicate (times_given times) OwnTurn) course)
+  turns-follow times p course is =
+      let there = sighted-turns run (times_given times) is.earned course in
+      record {
+        earned = there.earned;
+        is = subst (Follows (seat_of run) number scenario first (turn_told scenario number times p)) there.is (told-follows (seat_of run) number scenario first within times p (sighted_at run is.earned course) is.is);
+      }
+
   own-follow : (event : ScriptEvent) → is_turn_of number event ≡ true → (p : PerformanceState) (course : Course) → FollowsAt run number scenario first p course
       → FollowsAt run number scenario first (happened scenario event p) (after_acts run (replicate (turns_given number event) OwnTurn) course)
   own-follow (Command client locality buffer) turn p course is = absurd (true≢false (sym turn))
@@ -81,8 +96,7 @@ module _ (run : Run) (number : ℕ) (scenario : Scenario) (first : PerformanceSt
       let given : turns_given number (Turn other times) ≡ times_given times = ap (λ b. if b then times_given times else 0) turn in
       let same : other ≡ number = eqb-true other number turn in
       subst (λ n. FollowsAt run number scenario first (happened scenario (Turn other times) p) (after_acts run (replicate n OwnTurn) course)) (sym given)
-      (subst (λ k. FollowsAt run number scenario first (happened scenario (Turn k times) p) (after_acts run (replicate (times_given times) OwnTurn) course)) (sym same) (subst (Follows (seat_of run) number scenario first (happened scenario (Turn number times) p)) (sighted-turns run (times_given times) course)
-      (told-follows (seat_of run) number scenario first within times p (sighted_at run course) is)))
+      (subst (λ k. FollowsAt run number scenario first (happened scenario (Turn k times) p) (after_acts run (replicate (times_given times) OwnTurn) course)) (sym same) (turns-follow times p course is))
   own-follow (Time ms) turn p course is = absurd (true≢false (sym turn))
   own-follow (Presence on) turn p course is = absurd (true≢false (sym turn))
   own-follow Reset turn p course is = absurd (true≢false (sym turn))
@@ -116,11 +130,12 @@ has-course staged run is position on =
     let same = begun-along-is staged run is on.sees position on.path on.chosen on.listed in
     let behind = front (IsBehind run.number) run.own run.after (stands-in staged run is).behind in
     let follows = events-follow among run.number staged.scenario (behind_begin staged run) (stands-in staged run is).begins.greatest run.own behind (behind_begin staged run) (begun (before_begin staged run).past)
-    (follows-begin staged run is position on.path on.chosen same) in
+    (record { earned = []; is = follows-begin staged run is position on.path on.chosen same }) in
     record {
-      past = follows.past;
-      next = sends-now (seat_of among) run.number staged.scenario (behind_begin staged run) (stands-in staged run is).begins.greatest (behind_own staged run) (sighted_at among (course_of staged run on.path)) follows
-          ∙ sent-same among (sighted_at among (course_of staged run on.path)).driver (sends among.plan (course_of staged run on.path).standing);
-      ended = λ end over. subst (λ lines. Contains lines (line_of (end_line run.number end))) (sym follows.lines)
-          (Contains-append_right (behind_begin staged run).lines follows.added (line_of (end_line run.number end)) (follows.told (ended.Sighted end) (ap (λ s. end_of (Sighted (record { plan = among.plan; standing = s }))) over)));
+      past = follows.is.past;
+      next = sends-now (seat_of among) run.number staged.scenario (behind_begin staged run) (stands-in staged run is).begins.greatest (behind_own staged run) (sighted_at among follows.earned (course_of staged run on.path)) follows.is
+          ∙ sent-same among (sighted_at among follows.earned (course_of staged run on.path)).driver (sends among.plan (course_of staged run on.path).standing);
+      ended = λ end over. subst (λ lines. Contains lines (line_of (end_line run.number end))) (sym follows.is.lines)
+          (Contains-append_right (behind_begin staged run).lines follows.is.added (line_of (end_line run.number end))
+          (follows.is.told (ended.Sighted end follows.earned) (ap (λ s. end_of (Sighted (record { plan = among.plan; standing = s; earned = follows.earned }))) over)));
     }

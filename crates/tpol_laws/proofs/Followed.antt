@@ -14,6 +14,7 @@ use Rattle.tpol_driver.specs.declared.plan.Plan.{Plan}
 use Rattle.tpol_driver.specs.Blind as blind
 use Rattle.tpol_driver.specs.Blind.{BlindDrive, blind_sends}
 use Rattle.tpol_driver.specs.Driving.{Closing, Drive, Ends, Moving, Over, Sends, Standing, Starting, sends}
+use Rattle.tpol_driver.specs.declared.tickets.HeldTicket.{HeldTicket}
 use Rattle.tpol_lines.specs.Lines.{line_of}
 use Rattle.tpol_lines.specs.Runs.{chosen_line, end_line, over_line}
 use Rattle.tpol_name.specs.declared.setup.Setup.{Setup}
@@ -21,7 +22,9 @@ use Rattle.tpol_perform.specs.Blind.{with_blind_end, with_path}
 use Rattle.tpol_perform.specs.Performance.{PerformanceState, with_line}
 use Rattle.tpol_perform.specs.CommandsTold.{commanded}
 use Rattle.tpol_perform.specs.Script.{all_happened, happened, turn_told}
-use Rattle.tpol_perform.specs.Turns.{most_turns, sent, sent_now, replied, turned, turned_and, turned_by, turned_on, turned_times, turned_to_end, turned_to_end_by, with_end}
+use Rattle.tpol_perform.specs.Turns.{most_turns, sent, sent_now, replied, turned, turned_and, turned_by, turned_on, turned_times, turned_to_end, turned_to_end_by, with_end, heard_now}
+use Rattle.tpol_perform.specs.declared.tickets.Kept.{Kept}
+use Rattle.tpol_perform.specs.Tickets.{with_kept}
 use Rattle.tpol_prepare.specs.declared.scenario.Scenario.{Scenario}
 use Rattle.tpol_prepare.specs.Scenario.{paths_named}
 use Rattle.tpol_scene.specs.declared.script.ScriptEvent.{ScriptEvent}
@@ -31,7 +34,7 @@ use Rattle.tpol_runs.specs.declared.ended.Ended.{Ended}
 use Rattle.tpol_runs.specs.declared.ended.Ended.TheVariants as ended
 use Rattle.tpol_runs.specs.declared.numbered.Numbered.{Numbered}
 use Rattle.tpol_runs.specs.Courses.{blind_command_in, blind_end, command_in, command_of, end_of, end_told, goes_on, heard_by, heard_of, next_of, sent_in, sighted_end, underway_at}
-use Rattle.tpol_runs.specs.Runs.{has_number, run_at, run_in, with_run}
+use Rattle.tpol_runs.specs.Runs.{has_number, run_in, with_run}
 use Rattle.tpol_runs.specs.Underway.{Blind, Driver, Sighted, Underway}
 use Rattle.tpol_runs.proofs.Driven.{ends_step, goes_step, sends_step}
 use Rattle.tpol_wire.specs.declared.command.Command.{Command as WireCommand}
@@ -40,9 +43,10 @@ use Rattle.tpol_tree.specs.declared.path.Path.{Path}
 use Rattle.tpm_engine.specs.declared.event.Event.{Event}
 use Rattle.tpm_engine.specs.Events.{Answered, event_of}
 use Rattle.tpm_engine.specs.Legal.{answer_to}
+use Rattle.tpm_engine.specs.Views.{reset_count_of}
 use Rattle.tpol_laws.specs.Acts.{Course, Run, Turn as OwnTurn, after_act, after_acts, turned as turned_in}
 use Rattle.tpol_laws.specs.BlindRuns.{BlindCourse, BlindRun, after_blind_turn, blind_turned, blind_turns}
-use Rattle.tpol_laws.proofs.Prints.{Allows, IsBehind, IsOther, Prints, Spares, command-printed, found-there, happened-spares, nobranch-printed}
+use Rattle.tpol_laws.proofs.Prints.{Allows, IsBehind, IsOther, Spares, command-printed, found-there, happened-spares, nobranch-printed}
 use Rattle.tpol_laws.proofs.Unlike.{IsUnserved, allows-unserved, bad-apart, denied-apart}
 
 -- ---- a run by its driver
@@ -61,12 +65,15 @@ pub record Driving : Type 0 where
 abbrev answer_from : Seat → List Event → WireCommand → Answered
 answer_from seat past command = answer_to seat.setup past seat.locality (spelling command)
 
+abbrev event_from : Seat → List Event → WireCommand → Event
+event_from seat past command = event_of seat.client seat.locality (spelling command) (answer_from seat past command)
+
 -- the run after the machine has executed its command, if it has one
 abbrev driven_by : Seat → Driving → Option WireCommand → Driving
 driven_by seat run None = run
 driven_by seat run (Some command) = record {
-  past = event_of seat.client seat.locality (spelling command) (answer_from seat run.past command) ∷ run.past;
-  driver = heard_of run.driver (answer_from seat run.past command).reply;
+  past = event_from seat run.past command ∷ run.past;
+  driver = heard_of run.driver (reset_count_of seat.setup (event_from seat run.past command ∷ run.past)) (answer_from seat run.past command).reply;
 }
 
 abbrev driven_once : Seat → Driving → Driving
@@ -84,15 +91,15 @@ underway_from seat driver = record { client = seat.client; locality = seat.local
 abbrev pub entry_at : Seat → ℕ → Driver → Numbered
 entry_at seat number driver = record { number = number; run = underway_at (underway_from seat driver) driver }
 
--- it hears a reply, and goes on from where it stood
-record Hears (seat : Seat) (driver : Driver) (reply : List ℕ) : Type 0 where
-  goes : goes_on (heard_by (underway_at (underway_from seat driver) driver) reply) ≡ underway_at (underway_from seat (heard_of driver reply)) (heard_of driver reply)
-  ends : end_told (heard_by (underway_at (underway_from seat driver) driver) reply) ≡ end_of (heard_of driver reply)
+-- it hears a reply, at this reset count of the machine, and goes on from where it stood
+record Hears (seat : Seat) (driver : Driver) (resets : ℕ) (reply : List ℕ) : Type 0 where
+  goes : goes_on (heard_by (underway_at (underway_from seat driver) driver) resets reply) ≡ underway_at (underway_from seat (heard_of driver resets reply)) (heard_of driver resets reply)
+  ends : end_told (heard_by (underway_at (underway_from seat driver) driver) resets reply) ≡ end_of (heard_of driver resets reply)
 
-hears-reply : (seat : Seat) (driver : Driver) (command : WireCommand) (reply : List ℕ) → command_of driver ≡ Some command → Hears seat driver reply
-hears-reply seat driver command reply is = record {
-  goes = goes_step (underway_from seat driver) driver reply;
-  ends = ends_step (underway_from seat driver) driver command reply is;
+hears-reply : (seat : Seat) (driver : Driver) (command : WireCommand) (resets : ℕ) (reply : List ℕ) → command_of driver ≡ Some command → Hears seat driver resets reply
+hears-reply seat driver command resets reply is = record {
+  goes = goes_step (underway_from seat driver) driver resets reply;
+  ends = ends_step (underway_from seat driver) driver command resets reply is;
 }
 
 -- ---- what its end prints
@@ -111,7 +118,7 @@ TellsBlindEnd paths number lines (blind_ends.Denied at rc) = Contains lines (lin
 TellsBlindEnd paths number lines (blind_ends.BadReply at) = Contains lines (line_of (end_line number (ends.BadReply at)))
 
 abbrev pub TellsEnd : Scenario → ℕ → List (List ℕ) → Ended → Type 0
-TellsEnd scenario number lines (ended.Sighted end) = Contains lines (line_of (end_line number end))
+TellsEnd scenario number lines (ended.Sighted end earned) = Contains lines (line_of (end_line number end))
 TellsEnd scenario number lines (ended.Blind policy end) = TellsBlindEnd (paths_named scenario policy) number lines end
 
 module _ (scenario : Scenario) (number : ℕ) (front lines : List (List ℕ)) where
@@ -137,14 +144,14 @@ module _ (scenario : Scenario) (number : ℕ) (front lines : List (List ℕ)) wh
       }
 
   pub tells-more : (end : Ended) → TellsEnd scenario number front end → TellsEnd scenario number (front ++ lines) end
-  tells-more (ended.Sighted end) tells = Contains-append_left front lines (line_of (end_line number end)) tells
+  tells-more (ended.Sighted end earned) tells = Contains-append_left front lines (line_of (end_line number end)) tells
   tells-more (ended.Blind policy (blind_ends.Served position bytes)) tells = served-more position bytes (slice_get (paths_named scenario policy) (position - 1)) tells
   tells-more (ended.Blind policy (blind_ends.NoBranch tries)) tells = tt
   tells-more (ended.Blind policy (blind_ends.Denied at rc)) tells = Contains-append_left front lines (line_of (end_line number (ends.Denied at rc))) tells
   tells-more (ended.Blind policy (blind_ends.BadReply at)) tells = Contains-append_left front lines (line_of (end_line number (ends.BadReply at))) tells
 
   tells-behind : (end : Ended) → TellsEnd scenario number lines end → TellsEnd scenario number (front ++ lines) end
-  tells-behind (ended.Sighted end) tells = Contains-append_right front lines (line_of (end_line number end)) tells
+  tells-behind (ended.Sighted end earned) tells = Contains-append_right front lines (line_of (end_line number end)) tells
   tells-behind (ended.Blind policy (blind_ends.Served position bytes)) tells = served-behind position bytes (slice_get (paths_named scenario policy) (position - 1)) tells
   tells-behind (ended.Blind policy (blind_ends.NoBranch tries)) tells = tt
   tells-behind (ended.Blind policy (blind_ends.Denied at rc)) tells = Contains-append_right front lines (line_of (end_line number (ends.Denied at rc))) tells
@@ -155,20 +162,20 @@ module _ (scenario : Scenario) (number : ℕ) (front lines : List (List ℕ)) wh
 -- the run is not served, up to now
 abbrev pub IsNotServed : Option Ended → Type 0
 IsNotServed None = ⊤
-IsNotServed (Some (ended.Sighted (ends.Served bytes))) = ⊥
-IsNotServed (Some (ended.Sighted (ends.Denied at rc))) = ⊤
-IsNotServed (Some (ended.Sighted (ends.BadReply at))) = ⊤
+IsNotServed (Some (ended.Sighted (ends.Served bytes) earned)) = ⊥
+IsNotServed (Some (ended.Sighted (ends.Denied at rc) earned)) = ⊤
+IsNotServed (Some (ended.Sighted (ends.BadReply at) earned)) = ⊤
 IsNotServed (Some (ended.Blind policy (blind_ends.Served position bytes))) = ⊥
 IsNotServed (Some (ended.Blind policy (blind_ends.NoBranch tries))) = ⊤
 IsNotServed (Some (ended.Blind policy (blind_ends.Denied at rc))) = ⊤
 IsNotServed (Some (ended.Blind policy (blind_ends.BadReply at))) = ⊤
 
 -- what sends a command is not
-sighted-unserved : (plan : Plan) (standing : Standing) (command : WireCommand) → command_in (sends plan standing) ≡ Some command → IsNotServed (sighted_end standing)
-sighted-unserved plan Starting command sending = tt
-sighted-unserved plan (Moving session number ticket done) command sending = tt
-sighted-unserved plan (Closing session end) command sending = tt
-sighted-unserved plan (Over end) command sending = absurd (none-some command sending)
+sighted-unserved : (plan : Plan) (earned : List HeldTicket) (standing : Standing) (command : WireCommand) → command_in (sends plan standing) ≡ Some command → IsNotServed (sighted_end earned standing)
+sighted-unserved plan earned Starting command sending = tt
+sighted-unserved plan earned (Moving session number ticket done) command sending = tt
+sighted-unserved plan earned (Closing session end) command sending = tt
+sighted-unserved plan earned (Over end) command sending = absurd (none-some command sending)
 
 blind-unserved : (policy : List ℕ) (plan : BlindPlan) (standing : blind.BlindStanding) (command : WireCommand) → blind_command_in (blind_sends plan standing) ≡ Some command → IsNotServed (blind_end policy standing)
 blind-unserved policy plan blind.Starting command sending = tt
@@ -178,7 +185,7 @@ blind-unserved policy plan (blind.Closing session end) command sending = tt
 blind-unserved policy plan (blind.Over end) command sending = absurd (none-some command sending)
 
 sends-unserved : (driver : Driver) (command : WireCommand) → command_of driver ≡ Some command → IsNotServed (end_of driver)
-sends-unserved (Sighted driven) command sending = sighted-unserved driven.plan driven.standing command sending
+sends-unserved (Sighted driven) command sending = sighted-unserved driven.plan driven.earned driven.standing command sending
 sends-unserved (Blind policy driving) command sending = blind-unserved policy driving.plan driving.standing command sending
 
 -- The machine is where the run is, the table has the run with its driver, its end is told, and that it is served only
@@ -236,17 +243,25 @@ module _ (seat : Seat) (number : ℕ) (scenario : Scenario) (first : Performance
     unserved = λ not. all-both is.added (line_of text ∷ []) (is.unserved not) (all-one (line_of text) unserved);
   }
 
+  -- from p to q lines are added, and tickets may be kept
+  record Adds (p q : PerformanceState) : Type 0 where
+    setup : q.setup ≡ p.setup
+    past : q.past ≡ p.past
+    runs : q.runs ≡ p.runs
+    added : List (List ℕ)
+    lines : q.lines ≡ p.lines ++ added
+
   -- from p to q the lines of this end were added
   record TellsLast (end : Ended) (p q : PerformanceState) : Type 0 where
-    prints : Prints any p q
+    prints : Adds p q
     tells : TellsEnd scenario number prints.added end
     quiet : IsNotServed (Some end) → All (IsUnserved number) prints.added
 
   -- the one line of an end
-  tells-line : (end : Ended) (e : End) (p : PerformanceState) → ((lines : List (List ℕ)) → Contains lines (line_of (end_line number e)) → TellsEnd scenario number lines end) → (IsNotServed (Some end) → IsUnserved number (line_of (end_line number e)))
-      → TellsLast end p (with_line (end_line number e) p)
-  tells-line end e p tells unserved = record {
-    prints = record { setup = refl; past = refl; runs = refl; added = line_of (end_line number e) ∷ []; lines = refl; each = λ i d within. tt };
+  tells-line : (end : Ended) (e : End) (p : PerformanceState) (kept : List Kept) → ((lines : List (List ℕ)) → Contains lines (line_of (end_line number e)) → TellsEnd scenario number lines end) → (IsNotServed (Some end) → IsUnserved number (line_of (end_line number e)))
+      → TellsLast end p (with_line (end_line number e) (record p { kept = kept }))
+  tells-line end e p kept tells unserved = record {
+    prints = record { setup = refl; past = refl; runs = refl; added = line_of (end_line number e) ∷ []; lines = refl };
     tells = tells (line_of (end_line number e) ∷ []) (Contains-push [] (line_of (end_line number e)));
     quiet = λ not. all-one (line_of (end_line number e)) (unserved not);
   }
@@ -255,7 +270,7 @@ module _ (seat : Seat) (number : ℕ) (scenario : Scenario) (first : Performance
   served-tells : (policy : List ℕ) (position : ℕ) (bytes : List ℕ) (p : PerformanceState) (path : Option Path) → slice_get (paths_named scenario policy) (position - 1) ≡ path
       → TellsLast (ended.Blind policy (blind_ends.Served position bytes)) p (with_line (end_line number (ends.Served bytes)) (with_path number position path p))
   served-tells policy position bytes p None is = record {
-    prints = record { setup = refl; past = refl; runs = refl; added = line_of (end_line number (ends.Served bytes)) ∷ []; lines = refl; each = λ i d within. tt };
+    prints = record { setup = refl; past = refl; runs = refl; added = line_of (end_line number (ends.Served bytes)) ∷ []; lines = refl };
     tells = subst (λ (o : Option Path). IfSome o (λ q. TellsServed number position bytes q (line_of (end_line number (ends.Served bytes)) ∷ []))) (sym is) tt;
     quiet = λ not. absurd not;
   }
@@ -263,7 +278,7 @@ module _ (seat : Seat) (number : ℕ) (scenario : Scenario) (first : Performance
       let chosen = line_of (chosen_line number position path.steps) in
       let served = line_of (end_line number (ends.Served bytes)) in
       record {
-        prints = record { setup = refl; past = refl; runs = refl; added = chosen ∷ (served ∷ []); lines = append_assoc p.lines (chosen ∷ []) (served ∷ []); each = λ i d within. tt };
+        prints = record { setup = refl; past = refl; runs = refl; added = chosen ∷ (served ∷ []); lines = append_assoc p.lines (chosen ∷ []) (served ∷ []) };
         tells = subst (λ (o : Option Path). IfSome o (λ q. TellsServed number position bytes q (chosen ∷ (served ∷ [])))) (sym is) (record { before = []; after = []; are = refl });
         quiet = λ not. absurd not;
       }
@@ -274,27 +289,27 @@ module _ (seat : Seat) (number : ℕ) (scenario : Scenario) (first : Performance
   blind-tells policy (blind_ends.NoBranch tries) p =
       let is = nobranch-printed (IsUnserved number) number allows number (paths_named scenario policy) tries p in
       record {
-        prints = record { setup = is.setup; past = is.past; runs = is.runs; added = is.added; lines = is.lines; each = λ i d within. tt };
+        prints = record { setup = is.setup; past = is.past; runs = is.runs; added = is.added; lines = is.lines };
         tells = tt;
         quiet = λ not. is.each;
       }
-  blind-tells policy (blind_ends.Denied at rc) p = tells-line (ended.Blind policy (blind_ends.Denied at rc)) (ends.Denied at rc) p (λ lines told. told) (λ not. denied-apart number at rc)
-  blind-tells policy (blind_ends.BadReply at) p = tells-line (ended.Blind policy (blind_ends.BadReply at)) (ends.BadReply at) p (λ lines told. told) (λ not. bad-apart number at)
+  blind-tells policy (blind_ends.Denied at rc) p = tells-line (ended.Blind policy (blind_ends.Denied at rc)) (ends.Denied at rc) p p.kept (λ lines told. told) (λ not. denied-apart number at rc)
+  blind-tells policy (blind_ends.BadReply at) p = tells-line (ended.Blind policy (blind_ends.BadReply at)) (ends.BadReply at) p p.kept (λ lines told. told) (λ not. bad-apart number at)
 
-  sighted-quiet : (end : End) → IsNotServed (Some (ended.Sighted end)) → IsUnserved number (line_of (end_line number end))
-  sighted-quiet (ends.Served bytes) not = absurd not
-  sighted-quiet (ends.Denied at rc) not = denied-apart number at rc
-  sighted-quiet (ends.BadReply at) not = bad-apart number at
+  sighted-quiet : (earned : List HeldTicket) (end : End) → IsNotServed (Some (ended.Sighted end earned)) → IsUnserved number (line_of (end_line number end))
+  sighted-quiet earned (ends.Served bytes) not = absurd not
+  sighted-quiet earned (ends.Denied at rc) not = denied-apart number at rc
+  sighted-quiet earned (ends.BadReply at) not = bad-apart number at
 
-  end-tells : (end : Ended) (p : PerformanceState) → TellsLast end p (with_end scenario number (Some end) p)
-  end-tells (ended.Sighted end) p = tells-line (ended.Sighted end) end p (λ lines told. told) (sighted-quiet end)
-  end-tells (ended.Blind policy end) p = blind-tells policy end p
+  end-tells : (client : ℕ) (end : Ended) (p : PerformanceState) → TellsLast end p (with_end scenario client number (Some end) p)
+  end-tells client (ended.Sighted end earned) p = tells-line (ended.Sighted end earned) end p (with_kept scenario.directory client earned p).kept (λ lines told. told) (sighted-quiet earned end)
+  end-tells client (ended.Blind policy end) p = blind-tells policy end p
 
   -- the end of the run is told where it came to it
-  end-follows : (end : Option Ended) (p : PerformanceState) (past : List Event) (now : Driver) (added : List (List ℕ))
+  end-follows : (client : ℕ) (end : Option Ended) (p : PerformanceState) (past : List Event) (now : Driver) (added : List (List ℕ))
       → p.setup ≡ seat.setup → p.past ≡ past → find (has_number number) p.runs ≡ Some (entry_at seat number now) → p.lines ≡ first.lines ++ added → All (IsUnserved number) added → end ≡ end_of now
-      → Follows seat number scenario first (with_end scenario number end p) (record { past = past; driver = now })
-  end-follows None p past now added setup same found lines quiet is = record {
+      → Follows seat number scenario first (with_end scenario client number end p) (record { past = past; driver = now })
+  end-follows client None p past now added setup same found lines quiet is = record {
     setup = setup;
     past = same;
     found = found;
@@ -303,8 +318,8 @@ module _ (seat : Seat) (number : ℕ) (scenario : Scenario) (first : Performance
     told = λ e over. absurd (none-some e (is ∙ over));
     unserved = λ not. quiet;
   }
-  end-follows (Some end) p past now added setup same found lines quiet is =
-      let last = end-tells end p in
+  end-follows client (Some end) p past now added setup same found lines quiet is =
+      let last = end-tells client end p in
       record {
         setup = last.prints.setup ∙ setup;
         past = last.prints.past ∙ same;
@@ -319,24 +334,25 @@ module _ (seat : Seat) (number : ℕ) (scenario : Scenario) (first : Performance
   -- ---- one turn
 
   -- where the performance is literally where the run is
-  sent-from : (past : List Event) (driver : Driver) (runs : List Numbered) (lines added : List (List ℕ)) (command : WireCommand) → command_of driver ≡ Some command
+  sent-from : (past : List Event) (driver : Driver) (runs : List Numbered) (kept : List Kept) (lines added : List (List ℕ)) (command : WireCommand) → command_of driver ≡ Some command
       → find (has_number number) runs ≡ Some (entry_at seat number driver) → lines ≡ first.lines ++ added → All (IsUnserved number) added
-      → Follows seat number scenario first (sent scenario number (record { client = seat.client; locality = seat.locality; buffer = spelling command }) (record { setup = seat.setup; past = past; runs = runs; lines = lines }))
+      → Follows seat number scenario first (sent scenario number (record { client = seat.client; locality = seat.locality; buffer = spelling command }) (record { setup = seat.setup; past = past; runs = runs; kept = kept; lines = lines }))
       (driven_by seat (record { past = past; driver = driver }) (Some command))
   unfolding sent replied
-  sent-from past driver runs lines added command next found grown quiet =
-      let p : PerformanceState = record { setup = seat.setup; past = past; runs = runs; lines = lines } in
+  sent-from past driver runs kept lines added command next found grown quiet =
+      let p : PerformanceState = record { setup = seat.setup; past = past; runs = runs; kept = kept; lines = lines } in
       let reply = (answer_from seat past command).reply in
       let q = commanded scenario seat.client seat.locality (spelling command) p in
       let is = command-printed (IsUnserved number) number allows scenario seat.client seat.locality (spelling command) p in
       let there : find (has_number number) q.runs ≡ Some (entry_at seat number driver) = ap (find (has_number number)) is.runs ∙ found in
-      let heard = hears-reply seat driver command reply next in
-      let now : heard_by (run_at q.runs number) reply ≡ heard_by (underway_at (underway_from seat driver) driver) reply =
-      ap (λ f. heard_by (run_in f) reply) there in
-      let r : PerformanceState = record q { runs = with_run q.runs number (goes_on (heard_by (run_at q.runs number) reply)) } in
-      end-follows (end_told (heard_by (run_at q.runs number) reply)) r (event_of seat.client seat.locality (spelling command) (answer_from seat past command) ∷ past) (heard_of driver reply) (added ++ is.added)
+      let resets = reset_count_of seat.setup (event_from seat past command ∷ past) in
+      let heard = hears-reply seat driver command resets reply next in
+      let now : heard_now number reply q ≡ heard_by (underway_at (underway_from seat driver) driver) resets reply =
+      λ i. heard_by (run_in (there i)) (reset_count_of (is.setup i) (is.past i)) reply in
+      let r : PerformanceState = record q { runs = with_run q.runs number (goes_on (heard_now number reply q)) } in
+      end-follows seat.client (end_told (heard_now number reply q)) r (event_from seat past command ∷ past) (heard_of driver resets reply) (added ++ is.added)
       is.setup is.past
-      (found-there q.runs number _ (goes_on (heard_by (run_at q.runs number) reply)) there
+      (found-there q.runs number _ (goes_on (heard_now number reply q)) there
       ∙ ap (λ o. Some (record { number = number; run = o })) (ap goes_on now ∙ heard.goes))
       (is.lines ∙ ap (λ l. l ++ is.added) grown ∙ append_assoc first.lines added is.added)
       (all-both added is.added quiet is.each)
@@ -345,11 +361,11 @@ module _ (seat : Seat) (number : ℕ) (scenario : Scenario) (first : Performance
   sent-follows : (p : PerformanceState) (run : Driving) (command : WireCommand) → command_of run.driver ≡ Some command → Follows seat number scenario first p run
       → Follows seat number scenario first (sent scenario number (record { client = seat.client; locality = seat.locality; buffer = spelling command }) p) (driven_by seat run (Some command))
   sent-follows p run command next is =
-      let at : record { setup = seat.setup; past = run.past; runs = p.runs; lines = p.lines } ≡ p =
-      λ i. record { setup = sym is.setup i; past = sym is.past i; runs = p.runs; lines = p.lines } in
+      let at : record { setup = seat.setup; past = run.past; runs = p.runs; kept = p.kept; lines = p.lines } ≡ p =
+      λ i. record { setup = sym is.setup i; past = sym is.past i; runs = p.runs; kept = p.kept; lines = p.lines } in
       subst (λ (q : PerformanceState). Follows seat number scenario first (sent scenario number (record { client = seat.client; locality = seat.locality; buffer = spelling command }) q)
       (driven_by seat run (Some command))) at
-      (sent-from run.past run.driver p.runs p.lines is.added command next is.found is.lines (is.unserved (sends-unserved run.driver command next)))
+      (sent-from run.past run.driver p.runs p.kept p.lines is.added command next is.found is.lines (is.unserved (sends-unserved run.driver command next)))
 
   -- what is sent now
   pub sends-now : (p : PerformanceState) (run : Driving) → Follows seat number scenario first p run → sent_now number p ≡ sent_in (underway_from seat run.driver) (command_of run.driver)
@@ -471,20 +487,27 @@ module _ (seat : Seat) (number : ℕ) (scenario : Scenario) (first : Performance
 abbrev pub seat_of : Run → Seat
 seat_of run = record { setup = run.setup; client = run.client; locality = run.locality }
 
--- where it is, by its driver
-abbrev pub sighted_at : Run → Course → Driving
-sighted_at run course = record { past = course.past; driver = Sighted (record { plan = run.plan; standing = course.standing }) }
+-- where it is, by its driver, which has earned these tickets
+abbrev pub sighted_at : Run → List HeldTicket → Course → Driving
+sighted_at run earned course = record { past = course.past; driver = Sighted (record { plan = run.plan; standing = course.standing; earned = earned }) }
 
-sighted-by : (run : Run) (course : Course) (drive : Drive) → driven_by (seat_of run) (sighted_at run course) (command_in drive) ≡ sighted_at run (turned_in run course drive)
-sighted-by run course (Sends command) = refl
-sighted-by run course (Ends end) = refl
+-- it is at a course, whatever it has earned
+pub record IsAt (run : Run) (course : Course) (at : Driving) : Type 0 where
+  pub earned : List HeldTicket
+  pub is : at ≡ sighted_at run earned course
+
+sighted-by : (run : Run) (earned : List HeldTicket) (course : Course) (drive : Drive) → IsAt run (turned_in run course drive) (driven_by (seat_of run) (sighted_at run earned course) (command_in drive))
+sighted-by run earned course (Sends command) = record { earned = _; is = refl }
+sighted-by run earned course (Ends end) = record { earned = earned; is = refl }
 
 -- its turns are those of its driver
-pub sighted-turns : (run : Run) (n : ℕ) (course : Course) → driven_times (seat_of run) n (sighted_at run course) ≡ sighted_at run (after_acts run (replicate n OwnTurn) course)
+pub sighted-turns : (run : Run) (n : ℕ) (earned : List HeldTicket) (course : Course) → IsAt run (after_acts run (replicate n OwnTurn) course) (driven_times (seat_of run) n (sighted_at run earned course))
 unfolding after_acts
-sighted-turns run zero course = refl
-sighted-turns run (suc n) course =
-    ap (driven_times (seat_of run) n) (sighted-by run course (sends run.plan course.standing)) ∙ sighted-turns run n (after_act run course OwnTurn)
+sighted-turns run zero earned course = record { earned = earned; is = refl }
+sighted-turns run (suc n) earned course =
+    let one = sighted-by run earned course (sends run.plan course.standing) in
+    let rest = sighted-turns run n one.earned (after_act run course OwnTurn) in
+    record { earned = rest.earned; is = ap (driven_times (seat_of run) n) one.is ∙ rest.is }
 
 -- ---- a blind run
 

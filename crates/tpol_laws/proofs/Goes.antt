@@ -17,6 +17,7 @@ use Rattle.tpol_driver.specs.declared.blind_end.BlindEnd.TheVariants as blind_en
 use Rattle.tpol_driver.specs.declared.blind_plan.BlindPlan.{BlindPlan}
 use Rattle.tpol_driver.specs.declared.end.End.TheVariants as ends
 use Rattle.tpol_driver.specs.Blind.{first_complete, none_tried}
+use Rattle.tpol_driver.specs.declared.tickets.HeldTicket.{HeldTicket}
 use Rattle.tpol_lines.specs.BlockLine.{block_line}
 use Rattle.tpol_lines.specs.Events.{presence_line, reset_line, time_line}
 use Rattle.tpol_lines.specs.Lines.{line_of}
@@ -30,7 +31,9 @@ use Rattle.tpol_perform.specs.NewRuns.{new_run, with_new_run}
 use Rattle.tpol_perform.specs.CommandsTold.{commanded}
 use Rattle.tpol_perform.specs.Performance.{PerformanceState, number_in, with_event, with_line}
 use Rattle.tpol_perform.specs.Script.{all_happened, happened, turn_told}
-use Rattle.tpol_perform.specs.Turns.{most_turns, replied, sent, sent_now, turned, turned_and, turned_by, turned_on, turned_times, turned_to_end, turned_to_end_by, with_end}
+use Rattle.tpol_perform.specs.Turns.{most_turns, replied, sent, sent_now, turned, turned_and, turned_by, turned_on, turned_times, turned_to_end, turned_to_end_by, with_end, heard_now}
+use Rattle.tpol_perform.specs.declared.tickets.Kept.{Kept}
+use Rattle.tpol_perform.specs.Tickets.{tickets_given, with_kept}
 use Rattle.tpol_prepare.specs.declared.manner.Way.{Way}
 use Rattle.tpol_prepare.specs.declared.manner.Way.TheVariants as ways
 use Rattle.tpol_prepare.specs.declared.scenario.Scenario.{Scenario}
@@ -40,8 +43,8 @@ use Rattle.tpol_runs.specs.declared.ended.Ended.{Ended}
 use Rattle.tpol_runs.specs.declared.ended.Ended.TheVariants as ended
 use Rattle.tpol_runs.specs.declared.numbered.Numbered.{Numbered}
 use Rattle.tpol_runs.specs.declared.sent.Sent.{Sent}
-use Rattle.tpol_runs.specs.Courses.{begun, begun_blind, end_told, goes_on, heard_by}
-use Rattle.tpol_runs.specs.Runs.{run_at, with_run}
+use Rattle.tpol_runs.specs.Courses.{begun, begun_blind, end_told, goes_on}
+use Rattle.tpol_runs.specs.Runs.{with_run}
 use Rattle.tpol_runs.specs.Underway.{Underway}
 use Rattle.tpol_scene.specs.declared.script.ScriptEvent.{ScriptEvent}
 use Rattle.tpol_scene.specs.declared.script.ScriptEvent.TheVariants.{Command, Begin, Turn, Time, Presence, Reset}
@@ -110,6 +113,10 @@ goes-line p text = record { setup = refl; calls = []; past = refl; added = line_
 goes-runs : (p : PerformanceState) (runs : List Numbered) → Goes p (record p { runs = runs })
 unfolding journal_after
 goes-runs p runs = record { setup = refl; calls = []; past = refl; added = []; lines = sym (append-nil p.lines); told = λ are. are }
+
+goes-kept : (p : PerformanceState) (kept : List Kept) → Goes p (record p { kept = kept })
+unfolding journal_after
+goes-kept p kept = record { setup = refl; calls = []; past = refl; added = []; lines = sym (append-nil p.lines); told = λ are. are }
 
 goes-time : (p : PerformanceState) (ms : ℕ) → Goes p (with_line (time_line (number_in p) ms) (with_event (events.Time ms) p))
 unfolding journal_after AreTold
@@ -182,19 +189,21 @@ module _ (scenario : Scenario) where
   goes-blind-end run paths (blind_ends.Denied at rc) p = goes-line p (end_line run (ends.Denied at rc))
   goes-blind-end run paths (blind_ends.BadReply at) p = goes-line p (end_line run (ends.BadReply at))
 
-  goes-end : (run : ℕ) (end : Option Ended) (p : PerformanceState) → Goes p (with_end scenario run end p)
-  goes-end run None p = goes-none p
-  goes-end run (Some (ended.Sighted end)) p = goes-line p (end_line run end)
-  goes-end run (Some (ended.Blind policy end)) p = goes-blind-end run (paths_named scenario policy) end p
+  goes-end : (client run : ℕ) (end : Option Ended) (p : PerformanceState) → Goes p (with_end scenario client run end p)
+  goes-end client run None p = goes-none p
+  goes-end client run (Some (ended.Sighted end earned)) p =
+      let q = with_kept scenario.directory client earned p in
+      goes-then p q (with_line (end_line run end) q) (goes-kept p q.kept) (goes-line q (end_line run end))
+  goes-end client run (Some (ended.Blind policy end)) p = goes-blind-end run (paths_named scenario policy) end p
 
   goes-sent : (run : ℕ) (command : Sent) (p : PerformanceState) → Goes p (sent scenario run command p)
   unfolding sent replied
   goes-sent run command p =
       let reply = (answer_to p.setup p.past command.locality command.buffer).reply in
       let q = commanded scenario command.client command.locality command.buffer p in
-      let runs = with_run q.runs run (goes_on (heard_by (run_at q.runs run) reply)) in
+      let runs = with_run q.runs run (goes_on (heard_now run reply q)) in
       goes-then p q _ (goes-command command.client command.locality command.buffer p)
-      (goes-then q (record q { runs = runs }) _ (goes-runs q runs) (goes-end run (end_told (heard_by (run_at q.runs run) reply)) (record q { runs = runs })))
+      (goes-then q (record q { runs = runs }) _ (goes-runs q runs) (goes-end command.client run (end_told (heard_now run reply q)) (record q { runs = runs })))
 
   goes-by : (run : ℕ) (next : Option Sent) (p : PerformanceState) → Goes p (turned_by scenario run next p)
   goes-by run None p = goes-line p (over_line run)
@@ -232,10 +241,10 @@ module _ (scenario : Scenario) where
 
   -- ---- runs that begin
 
-  goes-along : (position : ℕ) (run : NewRun) (path : Option Path) (p : PerformanceState) → Goes p (begun_along scenario position run path p)
-  goes-along position run None p = goes-none p
-  goes-along position run (Some path) p =
-      let q = with_new_run run.number (Some (begun run.client run.locality (plan_along scenario path run))) p in
+  goes-along : (tickets : List HeldTicket) (position : ℕ) (run : NewRun) (path : Option Path) (p : PerformanceState) → Goes p (begun_along scenario tickets position run path p)
+  goes-along tickets position run None p = goes-none p
+  goes-along tickets position run (Some path) p =
+      let q = with_new_run run.number (Some (begun run.client run.locality (plan_along scenario tickets path run))) p in
       goes-then p q _ (goes-runs p q.runs) (goes-line q (chosen_line run.number position path.steps))
 
   goes-block : (position : ℕ) (steps : List PathStep) (block : Option Block) (p : PerformanceState) → Goes p (with_block position steps block p)
@@ -258,7 +267,7 @@ module _ (scenario : Scenario) where
 
   goes-at : (sight : Sight) (paths : List Path) (run : NewRun) (chosen : Option ℕ) (p : PerformanceState) → Goes p (begun_at scenario sight paths run chosen p)
   goes-at sight paths run None p = goes-nowhere sight run paths p
-  goes-at sight paths run (Some position) p = goes-along position run (slice_get paths (position - 1)) p
+  goes-at sight paths run (Some position) p = goes-along (tickets_given (way_of scenario.manner) run.client sight p.kept) position run (slice_get paths (position - 1)) p
 
   goes-sighted : (policy : List ℕ) (run : NewRun) (p : PerformanceState) → Goes p (begun_in_sight scenario policy run p)
   unfolding begun_in_sight begun_on
@@ -285,6 +294,7 @@ module _ (scenario : Scenario) where
   goes-way : (way : Way) (policy : List ℕ) (run : NewRun) (p : PerformanceState) → Goes p (begun_by way scenario policy run p)
   goes-way ways.Sighted policy run p = goes-sighted policy run p
   goes-way ways.Blind policy run p = goes-blindly policy run p
+  goes-way ways.WithTickets policy run p = goes-sighted policy run p
 
   pub goes-begun : (policy : List ℕ) (run : NewRun) (p : PerformanceState) → Goes p (run_begun scenario policy run p)
   unfolding run_begun

@@ -78,13 +78,13 @@ read-as number bytes reply auth whole fits answers accepts =
 
 -- ---- areas, deadlines and their tickets
 
-password-auth : (tables : TableState) (number : ℕ) (command : Command) (reply : Reply) (area : AuthArea) → area.session ≡ rs_pw → reply_area tables number command reply area ≡ Some password_area
+pub password-auth : (tables : TableState) (number : ℕ) (command : Command) (reply : Reply) (area : AuthArea) → area.session ≡ rs_pw → reply_area tables number command reply area ≡ Some password_area
 password-auth tables number command reply area same =
     ap (λ b. if b then Some password_area else option_and_then
     (λ entity. option_map (session_area tables number command reply area entity) (state_at tables.sessions area.session))
     (authorized_entity tables command)) (eq-eqb area.session rs_pw same)
 
-area-fits : ReplyAuthFits password_area
+pub area-fits : ReplyAuthFits password_area
 area-fits = record { nonce = omega arith; attributes = omega arith; hmac = omega arith }
 
 -- a deadline is spelled in eight bytes
@@ -108,7 +108,7 @@ pub record Timed (tag : ℕ) (ticket : Ticket) (given : Option ℕ) : Type 0 whe
   pub bytes : timeout_bytes given ≡ timeout_bytes timeout
   pub fits : Fits (TimedTicket tag) (timeout, ticket)
 
-timed : (world : WorldState) (tag : ℕ) (name : Name) (cp_hash : Option Digest32) (policy_ref : List ℕ) (given : Option ℕ) → tag < 2 ^ 16 → Timed tag (ticket_of world tag name cp_hash policy_ref given) given
+pub timed : (world : WorldState) (tag : ℕ) (name : Name) (cp_hash : Option Digest32) (policy_ref : List ℕ) (given : Option ℕ) → tag < 2 ^ 16 → Timed tag (ticket_of world tag name cp_hash policy_ref given) given
 unfolding Fits
 timed world tag name cp_hash policy_ref None small =
     let same : nat_eq tag tag ≡ true = eq-eqb tag tag refl in

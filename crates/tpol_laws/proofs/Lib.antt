@@ -21,6 +21,7 @@ mod Codes
 mod Complete
 mod Courses
 mod Decided
+mod EarnedTickets
 mod Ends
 mod EndsHeard
 mod FilledForms
@@ -41,9 +42,11 @@ mod Goes
 mod Heard
 mod HeldTickets
 mod Kept
+mod KeptTickets
 mod Lasting
 mod Moved
 mod Named
+mod NamedPaths
 mod OneTry
 mod Owing
 mod Own

@@ -12,6 +12,7 @@ use Rattle.tpol_driver.specs.declared.blind_plan.BlindPlan.{BlindPlan}
 use Rattle.tpol_driver.specs.declared.end.End.{End}
 use Rattle.tpol_driver.specs.declared.end.End.TheVariants as ends
 use Rattle.tpol_driver.specs.Blind.{first_complete, none_tried}
+use Rattle.tpol_driver.specs.declared.tickets.HeldTicket.{HeldTicket}
 use Rattle.tpol_lines.specs.BlockLine.{block_line}
 use Rattle.tpol_lines.specs.CertLine.{certificate_line}
 use Rattle.tpol_lines.specs.Events.{command_line, presence_line, reset_line, time_line}
@@ -23,7 +24,7 @@ use Rattle.tpol_runs.specs.declared.ended.Ended.{Ended}
 use Rattle.tpol_runs.specs.declared.ended.Ended.TheVariants as ended
 use Rattle.tpol_runs.specs.declared.numbered.Numbered.{Numbered}
 use Rattle.tpol_runs.specs.declared.sent.Sent.{Sent}
-use Rattle.tpol_runs.specs.Courses.{end_told, goes_on, heard_by}
+use Rattle.tpol_runs.specs.Courses.{end_told, goes_on}
 use Rattle.tpol_runs.specs.Runs.{has_number, run_at, run_in, with_run}
 use Rattle.tpol_runs.specs.Underway.{Underway}
 use Rattle.tpol_choose.specs.declared.block.Block.{Block}
@@ -37,7 +38,9 @@ use Rattle.tpol_perform.specs.CommandsTold.{certificate_of_opening, command_told
 use Rattle.tpol_perform.specs.NewRuns.{new_run, with_new_run}
 use Rattle.tpol_perform.specs.Performance.{PerformanceState, number_in, with_event, with_line}
 use Rattle.tpol_perform.specs.Script.{all_happened, happened, turn_told}
-use Rattle.tpol_perform.specs.Turns.{most_turns, sent, sent_now, replied, turned, turned_and, turned_by, turned_on, turned_times, turned_to_end, turned_to_end_by, with_end}
+use Rattle.tpol_perform.specs.Turns.{most_turns, sent, sent_now, replied, turned, turned_and, turned_by, turned_on, turned_times, turned_to_end, turned_to_end_by, with_end, heard_now}
+use Rattle.tpol_perform.specs.declared.tickets.Kept.{Kept}
+use Rattle.tpol_perform.specs.Tickets.{tickets_given, with_kept}
 use Rattle.tpol_prepare.specs.declared.manner.Way.{Way}
 use Rattle.tpol_prepare.specs.declared.manner.Way.TheVariants as ways
 use Rattle.tpol_prepare.specs.declared.scenario.Scenario.{Scenario}
@@ -86,6 +89,10 @@ module _ (P : List ℕ → Type 0) (number : ℕ) where
 
   pub spares-event : (p : PerformanceState) (event : Event) (text : List ℕ) → P (line_of text) → Spares P number p (with_line text (with_event event p))
   spares-event p event text is = record { setup = refl; found = refl; added = line_of text ∷ []; lines = refl; each = All-cons P (line_of text) [] is (All-nil P) }
+
+  -- tickets are kept
+  pub spares-kept : (p : PerformanceState) (kept : List Kept) → Spares P number p (record p { kept = kept })
+  spares-kept p kept = record { setup = refl; found = refl; added = []; lines = sym (append-nil p.lines); each = All-nil P }
 
 -- ---- events by the run that they name
 
@@ -161,22 +168,24 @@ pub record Prints (P : List ℕ → Type 0) (p q : PerformanceState) : Type 0 wh
   pub setup : q.setup ≡ p.setup
   pub past : q.past ≡ p.past
   pub runs : q.runs ≡ p.runs
+  pub kept : q.kept ≡ p.kept
   pub added : List (List ℕ)
   pub lines : q.lines ≡ p.lines ++ added
   pub each : All P added
 
 module _ (P : List ℕ → Type 0) where
   pub prints-none : (p : PerformanceState) → Prints P p p
-  prints-none p = record { setup = refl; past = refl; runs = refl; added = []; lines = sym (append-nil p.lines); each = All-nil P }
+  prints-none p = record { setup = refl; past = refl; runs = refl; kept = refl; added = []; lines = sym (append-nil p.lines); each = All-nil P }
 
   pub prints-line : (p : PerformanceState) (text : List ℕ) → P (line_of text) → Prints P p (with_line text p)
-  prints-line p text is = record { setup = refl; past = refl; runs = refl; added = line_of text ∷ []; lines = refl; each = All-cons P (line_of text) [] is (All-nil P) }
+  prints-line p text is = record { setup = refl; past = refl; runs = refl; kept = refl; added = line_of text ∷ []; lines = refl; each = All-cons P (line_of text) [] is (All-nil P) }
 
   pub prints-then : (p q r : PerformanceState) → Prints P p q → Prints P q r → Prints P p r
   prints-then p q r one other = record {
     setup = other.setup ∙ one.setup;
     past = other.past ∙ one.past;
     runs = other.runs ∙ one.runs;
+    kept = other.kept ∙ one.kept;
     added = one.added ++ other.added;
     lines = other.lines ∙ ap (λ l. l ++ other.added) one.lines ∙ append_assoc p.lines one.added other.added;
     each = All-append P one.added other.added one.each other.each;
@@ -280,6 +289,7 @@ module _ (P : List ℕ → Type 0) (number : ℕ) (allows : Allows P number) (sc
         setup = told.setup;
         past = told.past;
         runs = told.runs;
+        kept = told.kept;
         added = line_of text ∷ told.added;
         lines = told.lines ∙ append_assoc p.lines (line_of text ∷ []) told.added;
         each = All-cons P (line_of text) told.added (allows.command (number_in p) client locality buffer answered.reply answered.outcome) told.each;
@@ -305,10 +315,12 @@ module _ (P : List ℕ → Type 0) (number : ℕ) (allows : Allows P number) (sc
   -- ---- turns of another run
 
   module _ (other : ℕ) (apart : nat_eq other number ≡ false) (small : other < 2 ^ 16) where
-    end-spares : (end : Option Ended) (p : PerformanceState) → Spares P number p (with_end scenario other end p)
-    end-spares None p = spares-none P number p
-    end-spares (Some (ended.Sighted end)) p = spares-line P number p (end_line other end) (allows.ends other end apart small)
-    end-spares (Some (ended.Blind policy end)) p =
+    end-spares : (client : ℕ) (end : Option Ended) (p : PerformanceState) → Spares P number p (with_end scenario client other end p)
+    end-spares client None p = spares-none P number p
+    end-spares client (Some (ended.Sighted end earned)) p =
+        let q = with_kept scenario.directory client earned p in
+        spares-then P number p q (with_line (end_line other end) q) (spares-kept P number p q.kept) (spares-line P number q (end_line other end) (allows.ends other end apart small))
+    end-spares client (Some (ended.Blind policy end)) p =
         let paths = paths_named scenario policy in
         spares-printed P number p (with_blind_end other paths end p) (blind-end-printed P number allows other apart small paths end p)
 
@@ -317,16 +329,16 @@ module _ (P : List ℕ → Type 0) (number : ℕ) (allows : Allows P number) (sc
     sent-spares command p =
         let reply = (answer_to p.setup p.past command.locality command.buffer).reply in
         let q = commanded scenario command.client command.locality command.buffer p in
-        let r : PerformanceState = record q { runs = with_run q.runs other (goes_on (heard_by (run_at q.runs other) reply)) } in
+        let r : PerformanceState = record q { runs = with_run q.runs other (goes_on (heard_now other reply q)) } in
         let moved : Spares P number q r = record {
           setup = refl;
-          found = found-elsewhere q.runs number other (goes_on (heard_by (run_at q.runs other) reply)) apart;
+          found = found-elsewhere q.runs number other (goes_on (heard_now other reply q)) apart;
           added = [];
           lines = sym (append-nil q.lines);
           each = All-nil P;
         } in
         spares-then P number p q _ (command-spares command.client command.locality command.buffer p)
-        (spares-then P number q r _ moved (end-spares (end_told (heard_by (run_at q.runs other) reply)) r))
+        (spares-then P number q r _ moved (end-spares command.client (end_told (heard_now other reply q)) r))
 
     by-spares : (next : Option Sent) (p : PerformanceState) → Spares P number p (turned_by scenario other next p)
     by-spares None p = spares-line P number p (over_line other) (allows.over other)
@@ -374,10 +386,10 @@ module _ (P : List ℕ → Type 0) (number : ℕ) (allows : Allows P number) (sc
       each = All-nil P;
     }
 
-    along-spares : (position : ℕ) (run : NewRun) (path : Option Path) (p : PerformanceState) → run.number ≡ other → Spares P number p (begun_along scenario position run path p)
-    along-spares position run None p same = spares-none P number p
-    along-spares position run (Some path) p same =
-        let underway = Some (begun run.client run.locality (plan_along scenario path run)) in
+    along-spares : (tickets : List HeldTicket) (position : ℕ) (run : NewRun) (path : Option Path) (p : PerformanceState) → run.number ≡ other → Spares P number p (begun_along scenario tickets position run path p)
+    along-spares tickets position run None p same = spares-none P number p
+    along-spares tickets position run (Some path) p same =
+        let underway = Some (begun run.client run.locality (plan_along scenario tickets path run)) in
         spares-then P number p (with_new_run run.number underway p) _
         (subst (λ n. Spares P number p (with_new_run n underway p)) (sym same) (new-run-spares underway p))
         (spares-line P number (with_new_run run.number underway p) (chosen_line run.number position path.steps) (allows.chosen run.number position path.steps))
@@ -409,7 +421,7 @@ module _ (P : List ℕ → Type 0) (number : ℕ) (allows : Allows P number) (sc
   at-spares : (sight : Sight) (paths : List Path) (run : NewRun) (position : Option ℕ) (p : PerformanceState) → nat_eq run.number number ≡ false → run.number < 2 ^ 16 → Spares P number p (begun_at scenario sight paths run position p)
   at-spares sight paths run None p apart small = nowhere-spares sight run paths p apart small
   at-spares sight paths run (Some position) p apart small =
-      along-spares run.number apart small position run (slice_get paths (position - 1)) p refl
+      along-spares run.number apart small (tickets_given (way_of scenario.manner) run.client sight p.kept) position run (slice_get paths (position - 1)) p refl
 
   sighted-spares : (policy : List ℕ) (run : NewRun) (p : PerformanceState) → nat_eq run.number number ≡ false → run.number < 2 ^ 16 → Spares P number p (begun_in_sight scenario policy run p)
   unfolding begun_in_sight begun_on
@@ -439,6 +451,7 @@ module _ (P : List ℕ → Type 0) (number : ℕ) (allows : Allows P number) (sc
   way-spares : (way : Way) (policy : List ℕ) (run : NewRun) (p : PerformanceState) → nat_eq run.number number ≡ false → run.number < 2 ^ 16 → Spares P number p (begun_by way scenario policy run p)
   way-spares ways.Sighted policy run p apart small = sighted-spares policy run p apart small
   way-spares ways.Blind policy run p apart small = blindly-spares policy run p apart small
+  way-spares ways.WithTickets policy run p apart small = sighted-spares policy run p apart small
 
   begin-spares : (policy : List ℕ) (run : NewRun) (p : PerformanceState) → nat_eq run.number number ≡ false → run.number < 2 ^ 16 → Spares P number p (run_begun scenario policy run p)
   unfolding run_begun

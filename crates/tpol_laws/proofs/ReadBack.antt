@@ -54,7 +54,7 @@ use Rattle.tpol_laws.proofs.HeldTickets.{found-each, found-stands, held-command,
 -- ---- what is known of where a run stands
 
 -- its session has the handle of a slot, and a ticket that it holds is within the bounds of the wire
-abbrev Knows : Standing → Type 0
+abbrev pub Knows : Standing → Type 0
 Knows Starting = ⊤
 Knows (Moving session sent ticket done) = IsSlotHandle session.handle × TicketIsFit ticket
 Knows (Closing session end) = IsSlotHandle session
@@ -159,7 +159,7 @@ module _ (run : Run) (is : IsRun run) (past : List Event) where
       goal-knows session.handle (goal_heard run.plan sent (answer_of (reply_reading (number_of_code (code_of_command (goal_command run.plan session sent))) (answer_in run past (goal_command run.plan session sent)).reply))) slot
   next-knows session sent done ticket (Some act) slot fit at = (path-goes session sent done ticket act slot fit at).1
 
-  turn-knows : (at : Standing) → Knows at → Knows (turned run (record { past = past; standing = at }) (sends run.plan at)).standing
+  pub turn-knows : (at : Standing) → Knows at → Knows (turned run (record { past = past; standing = at }) (sends run.plan at)).standing
   turn-knows Starting knows = start-knows
   turn-knows (Moving session sent ticket done) knows = next-knows session sent done ticket (slice_get run.plan.path.moves done) knows.0 knows.1 refl
   turn-knows (Closing session end) knows = tt

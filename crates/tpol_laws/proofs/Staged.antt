@@ -22,7 +22,7 @@ use Rattle.tpol_prepare.proofs.Walkable.{walkable}
 use Rattle.tpol_prepare.specs.declared.entities.CompiledEntity.{CompiledEntity}
 use Rattle.tpol_prepare.specs.declared.manner.Manner.{Manner}
 use Rattle.tpol_prepare.specs.declared.manner.Way.{Way}
-use Rattle.tpol_prepare.specs.declared.manner.Way.TheVariants.{Blind, Sighted}
+use Rattle.tpol_prepare.specs.declared.manner.Way.TheVariants.{Blind, Sighted, WithTickets}
 use Rattle.tpol_prepare.specs.declared.prepared.PreparedScene.{PreparedScene}
 use Rattle.tpol_prepare.specs.declared.scenario.StagedScene.{StagedScene}
 use Rattle.tpol_prepare.specs.Begins.{begins_step}
@@ -211,6 +211,11 @@ begun-within : (way : Way) (approvals : List ApprovedDoc) (begun : List FilledDo
 begun-within Sighted approvals begun = by (limits_step approvals begun) (documents-within approvals begun)
   where
     by : (step : Step (Unit {0})) → IfOk step (λ done. AllByRecursion (IsWithin approvals) begun) → IfOk step (λ done. AreBegun Sighted approvals begun)
+    by (Ok done) are = record { within = are; few = λ blind. absurd cc }
+    by (Err answer) are = tt
+begun-within WithTickets approvals begun = by (limits_step approvals begun) (documents-within approvals begun)
+  where
+    by : (step : Step (Unit {0})) → IfOk step (λ done. AllByRecursion (IsWithin approvals) begun) → IfOk step (λ done. AreBegun WithTickets approvals begun)
     by (Ok done) are = record { within = are; few = λ blind. absurd cc }
     by (Err answer) are = tt
 begun-within Blind approvals begun = by (tried_limits_step approvals begun) (documents-few approvals begun)

@@ -99,7 +99,7 @@ ticket-holds kept chosen alike time deadline cp_hash right takes early is =
     ∙ ap (λ b. unless b (rc_ticket + of_parameter 5)) is
 
 -- the Name of what is no index stays
-lasting-name : (setup : Setup) (world : WorldState) (name : Name) (handle : ℕ) → IsOf setup world → FoundEntity setup name handle → is_index handle ≡ false → name_at world handle ≡ name
+pub lasting-name : (setup : Setup) (world : WorldState) (name : Name) (handle : ℕ) → IsOf setup world → FoundEntity setup name handle → is_index handle ≡ false → name_at world handle ≡ name
 lasting-name setup world name handle of (inl hierarchy) apart = hierarchy-name-at world handle hierarchy.is ∙ sym hierarchy.named
 lasting-name setup world name handle of (inr (inl object)) apart = object-name-at setup world name handle of object
 lasting-name setup world name handle of (inr (inr index)) apart = absurd (false≢true (sym apart ∙ index-kind handle index.low index.high))

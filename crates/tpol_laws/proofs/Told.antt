@@ -7,6 +7,7 @@ use Rattle.std.proofs.lemmas.List.Elements.{All-append, All-contains, All-cons, 
 use Rattle.tpol_choose.specs.Blocks.{first_block}
 use Rattle.tpol_driver.specs.declared.end.End.TheVariants.{Served}
 use Rattle.tpol_driver.specs.Driving.{Over, Standing}
+use Rattle.tpol_driver.specs.declared.tickets.HeldTicket.{HeldTicket}
 use Rattle.tpol_lines.specs.Lines.{line_of}
 use Rattle.tpol_lines.specs.Runs.{chosen_line, end_line, nobranch_line, over_line}
 use Rattle.tpol_perform.specs.Begin.{begun_nowhere}
@@ -31,8 +32,7 @@ use Rattle.tpol_laws.specs.Acts.{Turn as OwnTurn, after_acts, begun}
 use Rattle.tpol_laws.specs.GoalBytes.{goal_bytes}
 use Rattle.tpol_laws.specs.PathCommands.{commands_along}
 use Rattle.tpol_laws.specs.Told.{BeginsNowhere, BeginsOn, HasTurns, IsAlone, IsServedOn, IsSighted, IsToldServed, RunOf, before_begin, begins, behind_begin, behind_own, bytes_for, chosen_for, paths_for, sight_at_begin, turns_for, turns_given, with_over}
-use Rattle.tpol_laws.specs.HeldTickets.{IsUsable}
-use Rattle.tpol_laws.proofs.Begun.{along-state, begins-nowhere, begins-on, begun-along-is, begun-is, begun-run-is, front, none-before, run-along, setup-before, stands-in}
+use Rattle.tpol_laws.proofs.Begun.{along-state, begins-nowhere, begins-on, begun-along-is, begun-is, begun-run-is, front, none-before, run-along, setup-before, stands-in, tickets-usable}
 use Rattle.tpol_laws.proofs.Followed.{Follows, allows-any, any, entry_at, own-follow, seat_of, sighted-turns, sighted_at}
 use Rattle.tpol_laws.proofs.Prints.{IsBehind, all-behind, all-spare, blocks-spare, found-begun}
 use Rattle.tpol_laws.proofs.Owing.{at-most-twice}
@@ -80,7 +80,7 @@ module _ (staged : StagedScene) (run : RunOf staged.script) where
 
 module _ (staged : StagedScene) (run : RunOf staged.script) (is : IsStaged staged) where
   pub follows-begin : (position : ℕ) (path : Path) → chosen_for staged run ≡ Some position → behind_begin staged run ≡ along-state staged run is position path
-      → Follows (seat_of (run-along staged run is path)) run.number staged.scenario (behind_begin staged run) (behind_begin staged run) (sighted_at (run-along staged run is path) (begun (before_begin staged run).past))
+      → Follows (seat_of (run-along staged run is path)) run.number staged.scenario (behind_begin staged run) (behind_begin staged run) (sighted_at (run-along staged run is path) [] (begun (before_begin staged run).past))
   follows-begin position path chosen same = record {
     setup = ap (λ (p : PerformanceState). p.setup) same ∙ setup-before staged run is;
     past = ap (λ (p : PerformanceState). p.past) same;
@@ -94,8 +94,8 @@ module _ (staged : StagedScene) (run : RunOf staged.script) (is : IsStaged stage
       not-over : (end : Ended) → None ≡ Some end → ⊥
       not-over end over = cc
 
-  over-none : (path : Path) (at : Standing) (bytes : List ℕ) → at ≡ Over (Served bytes) → run_in (Some (entry_at (seat_of (run-along staged run is path)) run.number (Sighted (record { plan = (run-along staged run is path).plan; standing = at })))) ≡ None
-  over-none path at bytes over = ap (λ s. run_in (Some (entry_at (seat_of (run-along staged run is path)) run.number (Sighted (record { plan = (run-along staged run is path).plan; standing = s }))))) over
+  over-none : (path : Path) (earned : List HeldTicket) (at : Standing) (bytes : List ℕ) → at ≡ Over (Served bytes) → run_in (Some (entry_at (seat_of (run-along staged run is path)) run.number (Sighted (record { plan = (run-along staged run is path).plan; standing = at; earned = earned })))) ≡ None
+  over-none path earned at bytes over = ap (λ s. run_in (Some (entry_at (seat_of (run-along staged run is path)) run.number (Sighted (record { plan = (run-along staged run is path).plan; standing = s; earned = earned }))))) over
 
   pub served-on : IsAlone staged.scenario run.number run.own (behind_begin staged run) → (position : ℕ) (on : BeginsOn staged run position)
       → commands_along on.path ≤ turns_for run.number run.own → IsServedOn staged run position on.path
@@ -105,19 +105,20 @@ module _ (staged : StagedScene) (run : RunOf staged.script) (is : IsStaged stage
       let same = begun-along-is staged run is on.sees position on.path on.chosen on.listed in
       let behind = front (IsBehind run.number) run.own run.after (stands-in staged run is).behind in
       let at = after_acts among (replicate (turns_for run.number run.own) OwnTurn) (begun past) in
-      let follows : Follows (seat_of among) run.number staged.scenario (behind_begin staged run) (behind_own staged run) (sighted_at among at) =
-      subst (Follows (seat_of among) run.number staged.scenario (behind_begin staged run) (behind_own staged run)) (sighted-turns among (turns_for run.number run.own) (begun past))
-      (own-follow (seat_of among) run.number staged.scenario (behind_begin staged run) (stands-in staged run is).begins.greatest run.own behind (behind_begin staged run) (sighted_at among (begun past)) alone (follows-begin position on.path on.chosen same)) in
+      let there = sighted-turns among (turns_for run.number run.own) [] (begun past) in
+      let follows : Follows (seat_of among) run.number staged.scenario (behind_begin staged run) (behind_own staged run) (sighted_at among there.earned at) =
+      subst (Follows (seat_of among) run.number staged.scenario (behind_begin staged run) (behind_own staged run)) there.is
+      (own-follow (seat_of among) run.number staged.scenario (behind_begin staged run) (stands-in staged run is).begins.greatest run.own behind (behind_begin staged run) (sighted_at among [] (begun past)) alone (follows-begin position on.path on.chosen same)) in
       let opens = subst (λ setup. first_block on.path (sight_after setup past) (begins staged run).grants run.goal run.locality ≡ None) (setup-before staged run is) on.opens in
       let bytes = goal_bytes (world_at staged.setup past) run.goal in
       let given : bytes ≡ bytes_for staged run = ap (λ setup. goal_bytes (world_at setup past) run.goal) (sym (setup-before staged run is)) in
-      let served = path-served among past (turns_for run.number run.own) (begun-run-is staged run is on.path _ on.listed) (All-nil (IsUsable among.setup past)) opens enough in
+      let served = path-served among past (turns_for run.number run.own) (begun-run-is staged run is on.path _ on.listed) (tickets-usable staged run is) opens enough in
       record {
         added = follows.added;
         printed = follows.lines ∙ ap (λ l. l ++ follows.added) on.printed ∙ append_assoc (before_begin staged run).lines (line_of (chosen_line run.number position on.path.steps) ∷ []) follows.added;
         served = subst (λ (b : List ℕ). Contains follows.added (line_of (end_line run.number (Served b)))) given
-            (follows.told (ended.Sighted (Served bytes)) (ap (λ s. end_of (Sighted (record { plan = among.plan; standing = s }))) served));
-        over = ap run_in follows.found ∙ over-none on.path _ bytes served;
+            (follows.told (ended.Sighted (Served bytes) there.earned) (ap (λ s. end_of (Sighted (record { plan = among.plan; standing = s; earned = there.earned }))) served));
+        over = ap run_in follows.found ∙ over-none on.path there.earned _ bytes served;
       }
 
   -- the report has what is told behind the begin

@@ -16,7 +16,7 @@ use Rattle.tpol_scene.specs.declared.script.ScriptEvent.{ScriptEvent}
 use Rattle.tpol_tree.specs.declared.path.Path.{Path}
 use Rattle.tpol_wire.specs.Commands.{spelling}
 use Rattle.tpol_laws.specs.Acts.{Act, Course, Other, Run, Turn, after_acts, begun}
-use Rattle.tpol_laws.specs.Told.{RunOf, before_begin, begins, behind_begin, behind_own, is_turn_of, turns_given}
+use Rattle.tpol_laws.specs.Told.{RunOf, before_begin, begins, behind_begin, behind_own, is_turn_of, tickets_at_begin, turns_given}
 
 -- ---- acts
 
@@ -42,7 +42,7 @@ run_along staged run path = record {
   setup = staged.setup;
   client = run.client;
   locality = run.locality;
-  plan = plan_along staged.scenario path (begins staged run);
+  plan = plan_along staged.scenario (tickets_at_begin staged run) path (begins staged run);
 }
 
 abbrev pub acts_for : (staged : StagedScene) → RunOf staged.script → List Act

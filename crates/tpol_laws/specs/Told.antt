@@ -3,6 +3,7 @@ use Rattle.std.specs.Prelude.{◌≡◌, ◌≢◌, ◌≤◌, ◌⊎◌, ◌+�
 use Rattle.tpol_choose.specs.declared.block.Block.{Block}
 use Rattle.tpol_choose.specs.Blocks.{chosen_path, first_block}
 use Rattle.tpol_driver.specs.declared.end.End.TheVariants.{Served}
+use Rattle.tpol_driver.specs.declared.tickets.HeldTicket.{HeldTicket}
 use Rattle.tpol_goal.specs.declared.goal.Goal.{Goal}
 use Rattle.tpol_json.specs.declared.place.Place.{Place}
 use Rattle.tpol_lines.specs.BlockLine.{block_line}
@@ -13,6 +14,7 @@ use Rattle.tpol_perform.specs.declared.new_run.NewRun.{NewRun}
 use Rattle.tpol_perform.specs.NewRuns.{new_run}
 use Rattle.tpol_perform.specs.Performance.{PerformanceState, start_of}
 use Rattle.tpol_perform.specs.Script.{all_happened, happened}
+use Rattle.tpol_perform.specs.Tickets.{tickets_given}
 use Rattle.tpol_prepare.specs.declared.manner.Way.TheVariants.{Blind}
 use Rattle.tpol_prepare.specs.declared.scenario.Scenario.{Scenario}
 use Rattle.tpol_prepare.specs.declared.scenario.StagedScene.{StagedScene}
@@ -66,6 +68,11 @@ paths_for staged run = paths_named staged.scenario run.policy
 
 abbrev pub sight_at_begin : (staged : StagedScene) → RunOf staged.script → Sight
 sight_at_begin staged run = sight_after (before_begin staged run).setup (before_begin staged run).past
+
+-- the tickets that it is given: where runs hold tickets, those that its client can use then
+abbrev pub tickets_at_begin : (staged : StagedScene) → RunOf staged.script → List HeldTicket
+tickets_at_begin staged run =
+    tickets_given (way_of staged.scenario.manner) run.client (sight_at_begin staged run) (before_begin staged run).kept
 
 -- the position, from 1, of the first path that nothing blocks
 abbrev pub chosen_for : (staged : StagedScene) → RunOf staged.script → Option ℕ

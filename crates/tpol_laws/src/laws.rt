@@ -47,7 +47,7 @@ ghost use Rattle.tpol_fill.specs.Filling.{filled};
 ghost use Rattle.tpol_generate.specs.Generate.{generate_step, generated_answer, generated_performance, generated_policy, generated_setup};
 ghost use Rattle.tpol_laws.specs.Courses.{HasCourse, acts_for, course_at_begin, course_of, run_along};
 ghost use Rattle.tpol_laws.specs.GoalBytes.{goal_bytes};
-ghost use Rattle.tpol_laws.specs.HeldTickets.{IsUsable};
+ghost use Rattle.tpol_laws.specs.HeldTickets.{IsGenuine, IsUsable};
 ghost use Rattle.tpol_laws.specs.Journal.{IsJournal};
 ghost use Rattle.tpol_steps.specs.declared.filled.FilledDocument.{FilledDocument};
 ghost use Rattle.tpol_laws.specs.Others.{AreOthersApart, AreSecretsOnWritten, HasGoneOn, place_of};
@@ -56,10 +56,10 @@ ghost use Rattle.tpol_laws.specs.PathCommands.{commands_along};
 ghost use Rattle.tpol_laws.specs.Replies.{IsNoReply, IsRefusal};
 ghost use Rattle.tpol_laws.specs.ReplyCodes.{IsSuccessReply};
 ghost use Rattle.tpol_laws.specs.Runs.{IsBegun, IsRun};
-ghost use Rattle.tpol_laws.specs.Told.{BeginsNowhere, BeginsOn, HasTurns, IsAlone, IsServedOn, IsSighted, IsToldServed, RunOf, behind_begin, behind_own, bytes_for, chosen_for, turns_for, with_over};
+ghost use Rattle.tpol_laws.specs.Told.{BeginsNowhere, BeginsOn, HasTurns, IsAlone, IsServedOn, IsSighted, IsToldServed, RunOf, before_begin, behind_begin, behind_own, bytes_for, chosen_for, tickets_at_begin, turns_for, with_over};
 ghost use Rattle.tpol_laws.specs.ToldBlind.{BeginsBlindly, HasChanceIn, IsBlindScene, IsServedBlindly, blind_plan_for};
-ghost use Rattle.tpol_perform.specs.Performance.{PerformanceState};
-ghost use Rattle.tpol_perform.specs.Script.{performed, turn_told};
+ghost use Rattle.tpol_perform.specs.Performance.{PerformanceState, start_of};
+ghost use Rattle.tpol_perform.specs.Script.{all_happened, performed, turn_told};
 ghost use Rattle.tpol_prepare.specs.declared.manner.Manner.{Manner as MannerOf};
 ghost use Rattle.tpol_prepare.specs.declared.scenario.Scenario.{Scenario};
 ghost use Rattle.tpol_prepare.specs.declared.scenario.StagedScene.{StagedScene};
@@ -195,8 +195,20 @@ pub fn scenes_are_staged()
         → staged_step manner input all ≡ Ok staged → IsStaged staged }
 {}
 
+/// The tickets that a scene keeps for later runs, behind any events at all, are the machine's own (`IsGenuine`); and those
+/// that a run of its script is given when it begins are such that the machine takes them then (`IsUsable`). That a run may
+/// hold them is so no premise of the laws on the report.
+pub fn kept_tickets_are_genuine()
+    ensures kept { (staged : StagedScene) (happening : List ScriptEvent)
+        → IsStaged staged
+        → All (λ kept. IsGenuine staged.setup kept.ticket) (all_happened staged.scenario happening (start_of staged.setup)).kept }
+    ensures given { (staged : StagedScene) (run : RunOf staged.script)
+        → IsStaged staged → All (IsUsable staged.setup (before_begin staged run).past) (tickets_at_begin staged run) }
+{}
+
 /// What the report of a scene tells of a run of its script, for each scene that is staged and whose runs see the
-/// machine (`IsSighted`: all but those of `--blind`). The run begins on the first path of its policy that nothing
+/// machine (`IsSighted`: all but those of `--blind`; with `--tickets` it may show tickets in the place of secrets and
+/// signatures, and all of this holds as without them). The run begins on the first path of its policy that nothing
 /// blocks, whose line is printed, or on none: then what blocks each path is printed, in their order. Where only the
 /// run's own turns make events behind its begin, and there is one for each command of its path, the report tells that
 /// the run is served, with what its goal gives on the machine as it was at the begin, exactly where it begins on a

@@ -16,7 +16,8 @@
 //! - `IsBegun.fits`, `IsBegun.among`: its clause `script`, for the goal of a run that is begun.
 //! - `IsBegun.directory`, `IsBegun.tickets`, `IsBegun.moves`: as for the laws below.
 //! - `IsBegun.short`: the clause `within` of `check_paths`.
-//! - `IsUsable`: of a plan without tickets nothing is asked.
+//! - `IsUsable`: `kept_tickets_are_genuine`, for the tickets that a run of a script is given; of a plan without tickets
+//!   nothing is asked.
 //! - That nothing blocks the path: for a path that `choose` answers, its clause `chosen`, over the machine's sight
 //!   at the run's begin.
 //!
@@ -60,6 +61,9 @@
 //! Its exception is no premise but part of the answer, as in `a_blocked_path_fails`.
 //!
 //! `scenes_are_staged`: none. The definition is that of the report of `policy_main`, its clause `report`.
+//!
+//! `kept_tickets_are_genuine`
+//! - `IsStaged`: `scenes_are_staged`, for the scene that the commands `run` and `explain` carry out.
 //!
 //! `runs_are_served_as_told`, whose lines are those of `performed` of tpol_perform, which `perform_scene` ensures
 //! - `IsStaged`: `scenes_are_staged`, for the scene that the commands `run` and `explain` carry out. The clause
@@ -111,6 +115,7 @@ pub use journal_tickets::{journals_tell_tickets, own_tickets_are_accepted};
 pub use laws::{
     a_blocked_path_fails, a_path_that_can_is_complete, a_path_that_can_is_served, a_run_ends,
     a_run_goes_on, blind_runs_are_served, blind_runs_are_told, gen_has_all_ways, journals_are_told,
-    refusals_end_runs, runs_are_served_as_told, runs_of_scripts_have_courses, runs_send_commands,
-    scenes_are_staged, session_digest_is_compiled, success_replies_have_code_zero,
+    kept_tickets_are_genuine, refusals_end_runs, runs_are_served_as_told,
+    runs_of_scripts_have_courses, runs_send_commands, scenes_are_staged,
+    session_digest_is_compiled, success_replies_have_code_zero,
 };
