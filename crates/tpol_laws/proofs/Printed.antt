@@ -1,5 +1,5 @@
 -- The lines of a scene that is staged tell it.
-use Rattle.std.proofs.Common.{◌≡◌, ◌∙◌, ◌-◌, ℕ, slice_get, List, ◌++◌, Ok, Some, None, ap, sym, subst}
+use Rattle.std.proofs.Common.{◌≡◌, ◌∙◌, ◌-◌, ℕ, true, slice_get, List, ◌++◌, Ok, Some, None, ap, sym, subst}
 use Rattle.std.specs.Prelude.{Option, find, length}
 use Rattle.std.proofs.Math.Seq.{take-length}
 use Rattle.tpm_engine.specs.declared.event.Event.{Event}
@@ -10,10 +10,14 @@ use Rattle.tpol_choose.specs.Blocks.{first_block}
 use Rattle.tpol_digest.specs.Digest.{digest_of_moves, policy_digest}
 use Rattle.tpol_digest.specs.Paths.{paths_of}
 use Rattle.tpol_digest.proofs.Meeting.{paths_of_meet}
+use Rattle.tpol_perform.specs.Explained.{IsExplained}
 use Rattle.tpol_perform.specs.Performance.{PerformanceState}
 use Rattle.tpol_perform.specs.Script.{performed}
+use Rattle.tpol_perform.proofs.ExplainedErased.{openable}
+use Rattle.tpol_perform.proofs.Told.{performed_explains}
 use Rattle.tpol_prepare.specs.declared.manner.Manner.{Manner}
 use Rattle.tpol_prepare.specs.declared.scenario.StagedScene.{StagedScene}
+use Rattle.tpol_prepare.specs.Manner.{explains}
 use Rattle.tpol_prepare.specs.Scenario.{is_document, paths_in, paths_named, staged_step}
 use Rattle.tpol_prepare.specs.Staged.{IsStaged}
 use Rattle.tpol_steps.specs.declared.filled.FilledDocument.{FilledDocument}
@@ -48,11 +52,17 @@ runs-told staged is run =
       served_with = λ alone turns position on. served-with staged run is alone turns position on;
     }
 
+-- where openings are told
+scene-explained : (staged : StagedScene) → IsStaged staged → explains staged.scenario.manner ≡ true → IsExplained staged (performed staged).lines
+scene-explained staged is tells =
+    performed_explains staged tells is.scenario.policies (openable staged.setup staged.scenario is.scenario is.entities is.approvals) is.setup.pcrs
+
 -- of a scene that bytes and the documents of a shelf give
 pub scene-told : (manner : Manner) (input : List ℕ) (all : List Document) (lines : List (List ℕ))
     → ((staged : StagedScene) → staged_step manner input all ≡ Ok staged → lines ≡ (performed staged).lines) → IsToldScene manner input all lines
 scene-told manner input all lines same staged e =
-    subst (IsTold staged) (sym (same staged e)) (record { journal = scene-journal staged; runs = runs-told staged (step-staged manner input all staged e) })
+    let is = step-staged manner input all staged e in
+    subst (IsTold staged) (sym (same staged e)) (record { journal = scene-journal staged; runs = runs-told staged is; explained = scene-explained staged is })
 
 -- ---- what the laws of single runs ask of the run of a script
 

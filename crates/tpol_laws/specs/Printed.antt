@@ -1,12 +1,14 @@
 -- What the lines of a scene tell of its journal and of the runs of its script.
-use Rattle.std.specs.Prelude.{◌≡◌, ◌↔◌, ◌++◌, ℕ, List, Contains, Some, None, Ok}
+use Rattle.std.specs.Prelude.{◌≡◌, ◌↔◌, ◌++◌, ℕ, true, List, Contains, Some, None, Ok}
 use Rattle.tpol_base.specs.declared.document.Document.{Document}
 use Rattle.tpol_driver.specs.declared.end.End.TheVariants.{Served}
 use Rattle.tpol_lines.specs.Lines.{line_of}
 use Rattle.tpol_lines.specs.Runs.{end_line}
+use Rattle.tpol_perform.specs.Explained.{IsExplained}
 use Rattle.tpol_perform.specs.Script.{performed}
 use Rattle.tpol_prepare.specs.declared.manner.Manner.{Manner}
 use Rattle.tpol_prepare.specs.declared.scenario.StagedScene.{StagedScene}
+use Rattle.tpol_prepare.specs.Manner.{explains}
 use Rattle.tpol_prepare.specs.Scenario.{staged_step}
 use Rattle.tpol_laws.specs.Journal.{IsJournal}
 use Rattle.tpol_laws.specs.Told.{BeginsNowhere, BeginsOn, HasTurns, IsAlone, IsSighted, IsToldServed, RunOf, behind_begin, bytes_for, chosen_for}
@@ -28,10 +30,13 @@ pub record IsRunTold (staged : StagedScene) (run : RunOf staged.script) (lines :
   pub served_with : IsAlone staged.scenario run.number run.own (behind_begin staged run) → HasTurns staged run
       → (position : ℕ) → BeginsOn staged run position → Contains lines (line_of (end_line run.number (Served (bytes_for staged run))))
 
--- Lines tell a scene: its journal, each command of which is decided and each event of which has its line, and each run.
+-- Lines tell a scene: its journal, each command of which is decided and each event of which has its line, and each run;
+-- and where openings are told, they explain it: behind the line of each command that was served on an entity whose policy
+-- the scene names stands the line of what opened it.
 pub record IsTold (staged : StagedScene) (lines : List (List ℕ)) : Type 0 where
   pub journal : IsJournal staged.setup (performed staged).past lines
   pub runs : (run : RunOf staged.script) → IsRunTold staged run lines
+  pub explained : explains staged.scenario.manner ≡ true → IsExplained staged lines
 
 -- if the bytes are the document of a scene that can be carried out with the policies of the shelf, lines tell it
 abbrev pub IsToldScene : Manner → List ℕ → List Document → List (List ℕ) → Type 0

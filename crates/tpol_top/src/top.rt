@@ -104,7 +104,8 @@ pub fn policy_main<S: Source, K: Sink, H: Shelf>(
     // the clause above says, and served exactly where it says. A run that is not blind begins on the first path that
     // nothing blocks, and
     // where only its own turns follow, one for each command of the path, it is served exactly where it begins on one,
-    // with what its goal gives; else it is printed what blocks each path.
+    // with what its goal gives; else it is printed what blocks each path. Where openings are told, the report explains the
+    // scene, as the clause above says of what was printed.
     ensures scene_told { IfPerform (request_of (map string_bytes words.now.items)) (λ manner.
         OfHeld (S.left source.old) (H.documents shelf.old) (λ input all.
         IfDone (report_of (map string_bytes words.now.items) input all).answer (IsToldScene manner input all))) }
