@@ -47,7 +47,7 @@ module _ (below : ApprovedDoc → List Path) where
   two-moves true pcr d = (refl, (refl, tt))
   two-moves false pcr d = (refl, (refl, tt))
 
-  ways : (n pcr bits : ℕ) (d : Digest32) → length (paths_at below [] (filled_elements None (generated_ors n pcr bits)) d) ≡ 2 ^ n
+  pub ways : (n pcr bits : ℕ) (d : Digest32) → length (paths_at below [] (filled_elements None (generated_ors n pcr bits)) d) ≡ 2 ^ n
   unfolding generated_ors
   ways zero pcr bits d = refl
   ways (suc n) pcr bits d =
@@ -57,7 +57,7 @@ module _ (below : ApprovedDoc → List Path) where
       doubled (paths_at_element below [] (filled_element None (generated_or swapped pcr)) d) (paths_at below [] (filled_elements None (generated_ors n (pcr + 1) (bits / 2))) later) (two-paths swapped pcr d)
       ∙ omega (arith, rest)
 
-  moves : (n pcr bits : ℕ) (d : Digest32) → AllByRecursion (HasMoves (2 * n + 1)) (paths_at below [] (filled_elements None (generated_ors n pcr bits)) d)
+  pub moves : (n pcr bits : ℕ) (d : Digest32) → AllByRecursion (HasMoves (2 * n + 1)) (paths_at below [] (filled_elements None (generated_ors n pcr bits)) d)
   unfolding generated_ors
   moves zero pcr bits d = (refl, tt)
   moves (suc n) pcr bits d =
@@ -73,7 +73,7 @@ or-faults : (swapped leads : Bool) (place : Place) (pcr : ℕ) → is_pcr pcr �
 or-faults true leads place pcr is = rw is refl
 or-faults false leads place pcr is = rw is refl
 
-no-faults : (n pcr bits : ℕ) (leads : Bool) (list : Place) (k : ℕ) → pcr + n ≤ 24 → elements_faults None leads list k (generated_ors n pcr bits) ≡ []
+pub no-faults : (n pcr bits : ℕ) (leads : Bool) (list : Place) (k : ℕ) → pcr + n ≤ 24 → elements_faults None leads list k (generated_ors n pcr bits) ≡ []
 unfolding generated_ors
 no-faults zero pcr bits leads list k few = refl
 no-faults (suc n) pcr bits leads list k few =

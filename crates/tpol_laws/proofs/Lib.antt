@@ -29,6 +29,9 @@ mod Finds
 mod Fit
 mod Followed
 mod Generated
+mod GeneratedOpen
+mod GeneratedPaths
+mod GeneratedServed
 mod Goal
 mod GoalAt
 mod GoalChecks

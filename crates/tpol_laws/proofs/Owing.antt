@@ -159,3 +159,11 @@ never-sooner run past acts bytes fewer served =
     let same : suc (turns_in acts) ≡ turns_in acts + 1 = omega arith in
     let owes : Owes run.plan 1 (after_acts run acts (begun past)).standing = owes-after run acts past Starting 1 (subst (λ k. Owes run.plan k Starting) same all) in
     subst (Owes run.plan 1) served owes
+
+-- nor does it close its session to end so
+pub never-closing : (run : Run) (past : List Event) (acts : List Act) (session : ℕ) (bytes : List ℕ) → turns_in acts < commands_along run.plan.path → (after_acts run acts (begun past)).standing ≡ Closing session (ends.Served bytes) → ⊥
+never-closing run past acts session bytes fewer closing =
+    let all : suc (turns_in acts) ≤ commands_along run.plan.path = omega (arith, fewer) in
+    let same : suc (turns_in acts) ≡ turns_in acts + 1 = omega arith in
+    let owes : Owes run.plan 1 (after_acts run acts (begun past)).standing = owes-after run acts past Starting 1 (subst (λ k. Owes run.plan k Starting) same all) in
+    subst (Owes run.plan 1) closing owes

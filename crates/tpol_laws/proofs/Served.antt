@@ -137,7 +137,7 @@ start-moved run first rule =
 
 -- ---- a run that is over
 
-over-stays : (run : Run) (turns : ℕ) (past : List Event) (end : End) → (after_acts run (replicate turns Turn) (record { past = past; standing = Over end })).standing ≡ Over end
+pub over-stays : (run : Run) (turns : ℕ) (past : List Event) (end : End) → (after_acts run (replicate turns Turn) (record { past = past; standing = Over end })).standing ≡ Over end
 unfolding after_acts
 over-stays run zero past end = refl
 over-stays run (suc turns) past end = over-stays run turns past end

@@ -2,6 +2,7 @@ pub mod Acts
 pub mod BlindRuns
 pub mod Chances
 pub mod Courses
+pub mod GeneratedRun
 pub mod GoalBytes
 pub mod HeldTickets
 pub mod Journal

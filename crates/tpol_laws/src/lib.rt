@@ -92,7 +92,7 @@
 //! - `IsBegun`, `HasShortOffset`, that the plan is complete: as for `a_blocked_path_fails`; of a run that a script begins
 //!   on a path by `runs_of_scripts_have_courses`.
 //!
-//! `gen_has_all_ways`
+//! `gen_has_all_ways`, `gen_is_served`
 //! - `ors ≤ 12`: the words of `gen` name no more (`generation` of tpol_top/Words).
 //!
 //! `journals_tell_tickets`, `own_tickets_are_accepted`
@@ -108,9 +108,11 @@
 //! long as they do, which is `a_run_goes_on`.
 #![tactic(auto)]
 
+mod generated_run;
 mod journal_tickets;
 mod laws;
 
+pub use generated_run::gen_is_served;
 pub use journal_tickets::{journals_tell_tickets, own_tickets_are_accepted};
 pub use laws::{
     a_blocked_path_fails, a_path_that_can_is_complete, a_path_that_can_is_served, a_run_ends,
