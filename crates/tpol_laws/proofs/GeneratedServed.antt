@@ -352,8 +352,10 @@ module _ (ors order : ℕ) (few : ors ≤ 12) where
   each-sends zero k within = tt
   each-sends (suc n) k within =
       let some = sends-some run.plan (after k).standing (on-before k (omega (arith, within))) in (
-        (record { client = 1; locality = 0; buffer = spelling some.command },
-        now-sent k ∙ ap (λ (drive : Drive). sent_in (underway_from (seat_of run) (driver k)) (command_in drive)) some.is),
+        (
+          record { client = 1; locality = 0; buffer = spelling some.command },
+          now-sent k ∙ ap (λ (drive : Drive). sent_in (underway_from (seat_of run) (driver k)) (command_in drive)) some.is,
+        ),
         subst (SendEach scenario 1 n) (turns-then scenario 1 k first) (each-sends n (suc k) (omega (arith, within))),
       )
 
