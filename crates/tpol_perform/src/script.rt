@@ -3,7 +3,6 @@
 ghost use Rattle.std.specs.Prelude.{◌≡◌, ◌+◌, ◌^◌, ◌<◌, ◌≤◌, All, IfOk, IfSome, OnOk, length};
 ghost use Rattle.tpm_engine.specs.Views.{time_of};
 ghost use Rattle.tpol_name.specs.Setups.{IsSetup};
-ghost use Rattle.tpol_perform.specs.Begin.{run_begun};
 ghost use Rattle.tpol_perform.specs.NewRuns.{new_run};
 ghost use Rattle.tpol_perform.specs.Performance.{start_of};
 ghost use Rattle.tpol_perform.specs.Script.{all_happened, happened, performed, turn_told};
@@ -115,55 +114,14 @@ impl Performance {
                 policy,
                 place: _,
                 goal,
-            } => self.begin_run(
-                alloc,
-                scenario,
-                *run,
-                *client,
-                *locality,
-                policy.as_str(),
-                goal,
-            ),
+            } => {
+                let run = scripted_run(alloc, scenario, *run, *client, *locality, goal)?;
+                self.begin(alloc, scenario, policy.as_str(), run)
+            }
             ScriptEvent::Turn { run, times } => self.turn_run(alloc, scenario, *run, *times),
             ScriptEvent::Time(ms) => self.pass_time(alloc, *ms),
             ScriptEvent::Presence(on) => self.set_presence(alloc, *on),
             ScriptEvent::Reset => self.reset(alloc),
-        }
-    }
-
-    // A run of the policy of this name begins.
-    fn begin_run(
-        &mut self,
-        alloc: Global,
-        scenario: &Scenario,
-        number: u16,
-        client: u32,
-        locality: u8,
-        policy: &str,
-        goal: &Goal,
-    ) -> Result<(), NoMemory>
-        requires scenario { IsScenarioOf self.old.setup scenario.now }
-        requires locality { locality ≤ 4 }
-        ensures told { OnOk result (self.new ≡ run_begun scenario.now policy.now (new_run scenario.now.clients number client locality goal.now) self.old) }
-        ensures setup { OnOk result (self.new.setup ≡ self.old.setup) }
-        ensures past { OnOk result (self.new.past ≡ self.old.past) }
-    {
-        let goal = goal.exact_clone()?;
-        match scenario.grants(alloc, client) {
-            Ok(grants) => {
-                let run = NewRun {
-                    number,
-                    client,
-                    locality,
-                    goal,
-                    grants,
-                };
-                self.begin(alloc, scenario, policy, run)
-            }
-            Err(NoMemory) => {
-                drop(goal);
-                Err(NoMemory)
-            }
         }
     }
 
@@ -186,6 +144,33 @@ impl Performance {
         match times {
             Some(times) => self.turn_times(alloc, scenario, run, times),
             None => self.turn_to_end(alloc, scenario, run),
+        }
+    }
+}
+
+// The run that an event of a script begins, with what its client may use.
+fn scripted_run(
+    alloc: Global,
+    scenario: &Scenario,
+    number: u16,
+    client: u32,
+    locality: u8,
+    goal: &Goal,
+) -> Result<NewRun, NoMemory>
+    ensures { IfOk result (λ run. run ≡ new_run scenario.now.clients number client locality goal.now) }
+{
+    let goal = goal.exact_clone()?;
+    match scenario.grants(alloc, client) {
+        Ok(grants) => Ok(NewRun {
+            number,
+            client,
+            locality,
+            goal,
+            grants,
+        }),
+        Err(NoMemory) => {
+            drop(goal);
+            Err(NoMemory)
         }
     }
 }
