@@ -4,3 +4,4 @@ pub mod NoRequest
 pub mod Positions
 pub mod ReadFirst
 mod Stands
+pub mod WhoTold

@@ -7,10 +7,11 @@ use Rattle.tpol_bridge.specs.FapiText.{fapi_text_step}
 use Rattle.tpol_bridge.specs.Steps.{steps_step}
 use Rattle.tpol_bridge.specs.Words.{reads_source_for, request_of, uses_shelf_for}
 use Rattle.tpol_bridge.specs.declared.request.Request.{Request}
-use Rattle.tpol_bridge.specs.declared.request.Request.TheVariants.{Adopt, Digests, Export, Steps}
+use Rattle.tpol_bridge.specs.declared.request.Request.TheVariants.{Adopt, Digests, Export, Steps, Who}
 use Rattle.tpol_front.specs.Commands.{Commands}
 use Rattle.tpol_steps.specs.declared.answer.Answer.{Answer}
 use Rattle.tpol_steps.specs.Steps.{Step}
+use Rattle.tpol_who.specs.Who.{who_step}
 
 -- one equation a command
 abbrev pub request_step : Request → List ℕ → List Document → Step Answer
@@ -18,6 +19,7 @@ request_step Adopt input all = adopt_step input
 request_step Export input all = fapi_text_step input
 request_step (Digests scene) input all = digests_step scene input all
 request_step (Steps position scene) input all = steps_step position scene input all
+request_step Who input all = who_step input all
 
 -- the shelf's documents afterwards, which no command changes
 abbrev pub documents_after : Request → List ℕ → List Document → List Document

@@ -8,4 +8,5 @@ pub mod Lines
 pub mod Reached
 pub mod Report
 pub mod Steps
+pub mod Who
 pub mod Words

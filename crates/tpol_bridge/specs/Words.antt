@@ -4,7 +4,7 @@ use Rattle.std.specs.Option.{is_some, option_map_or}
 use Rattle.std.specs.Str.{bytes_eq}
 use Rattle.tpol_base.specs.PolicyName.{is_policy_name, without_folder}
 use Rattle.tpol_bridge.specs.declared.request.Request.{Request}
-use Rattle.tpol_bridge.specs.declared.request.Request.TheVariants.{Adopt, Digests, Export, Steps}
+use Rattle.tpol_bridge.specs.declared.request.Request.TheVariants.{Adopt, Digests, Export, Steps, Who}
 use Rattle.tpol_front.specs.Numbers.{number_of_word}
 
 -- the command of one word
@@ -12,7 +12,8 @@ abbrev pub one_word_request : List ℕ → Option Request
 one_word_request word =
     if bytes_eq word (codes "adopt") then Some Adopt
     else (if bytes_eq word (codes "digests") then Some (Digests None)
-    else (if bytes_eq word (codes "export") then Some Export else None))
+    else (if bytes_eq word (codes "export") then Some Export
+    else (if bytes_eq word (codes "who") then Some Who else None)))
 
 -- the name of a scene, where it is one
 abbrev pub scene_stem : List ℕ → Option (List ℕ)
@@ -73,6 +74,7 @@ uses_shelf_for Adopt = false
 uses_shelf_for Export = false
 uses_shelf_for (Digests scene) = is_some scene
 uses_shelf_for (Steps position scene) = true
+uses_shelf_for Who = true
 
 -- whether the words are a command that uses the shelf
 abbrev pub uses_shelf : List (List ℕ) → Bool

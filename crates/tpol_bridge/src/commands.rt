@@ -9,15 +9,16 @@ use std::alloc::Global;
 use tpol_base::{NoMemory, Shelf};
 use tpol_front::Command;
 use tpol_steps::{Answer, Halt};
+use tpol_who::who;
 
 impl Command for Request {
     ghost use Rattle.std.specs.Prelude.{⊤};
     ghost use Rattle.tpol_bridge.specs.Commands.{bridge_commands};
-    ghost use Rattle.tpol_bridge.specs.Reached.{IsExportFor};
+    ghost use Rattle.tpol_bridge.specs.Reached.{IsDocumentFor};
 
     ghost commands = { bridge_commands };
 
-    ghost IsDocument = { IsExportFor };
+    ghost IsDocument = { IsDocumentFor };
 
     ghost IsTrueOf = { λ command input all answer. ⊤ };
 
@@ -40,6 +41,7 @@ impl Command for Request {
             Request::Export => fapi_text(alloc, input),
             Request::Digests { scene } => digests(alloc, scene, input, shelf),
             Request::Steps { position, scene } => steps(alloc, *position, scene, input, shelf),
+            Request::Who => who(alloc, input, shelf),
         }
     }
 }

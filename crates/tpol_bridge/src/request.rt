@@ -18,6 +18,8 @@ pub enum Request {
     /// `steps P`, `steps P --scene NAME`: the policy commands of the path at a position, from 1, with the digest after
     /// each; documents of the shelf are approved.
     Steps { position: u32, scene: Option<Text> },
+    /// `who`: which paths each run can go that the scene in the source begins, and what blocks the others.
+    Who,
 }
 
 /// The command that the words are, or `None` where they are none. It fails only where memory ran out.
@@ -53,6 +55,9 @@ fn one_word_request(word: &str) -> Option<Request>
     }
     if word == "export" {
         return Some(Request::Export);
+    }
+    if word == "who" {
+        return Some(Request::Who);
     }
     None
 }

@@ -2,20 +2,22 @@ ghost use Rattle.std.specs.Prelude.{◌≡◌, ◌≤◌, ◌⊎◌, Some, false
 ghost use Rattle.std.specs.String.{string_bytes};
 ghost use Rattle.tpol_base.specs.Causes.{Rose, Grows, GrowsInPart};
 ghost use Rattle.tpol_front.specs.Outside.{LosesAtMost};
-ghost use Rattle.tpol_front.specs.Report.{most_read};
+ghost use Rattle.tpol_front.specs.Report.{OfHeld, most_read};
 ghost use Rattle.tpol_steps.specs.Answer.{text_of};
 ghost use Rattle.tpol_bridge.specs.Reached.{IsReadableOf};
-ghost use Rattle.tpol_bridge.specs.Report.{OfReport};
+ghost use Rattle.tpol_bridge.specs.Report.{OfReport, report_of};
 ghost use Rattle.tpol_front.specs.Status.{IsWhole, IsWholeUnlessNoMemory, IsSilent, IsPastReading, status_of};
-ghost use Rattle.tpol_bridge.specs.Words.{reads_source, uses_shelf};
+ghost use Rattle.tpol_bridge.specs.Who.{IfDone, IfWho};
+ghost use Rattle.tpol_bridge.specs.Words.{reads_source, request_of, uses_shelf};
+ghost use Rattle.tpol_who.specs.Begins.{IsToldWho};
 
 use crate::request::Request;
 use std::alloc::Global;
 use tpol_base::{Shelf, Sink, Source};
 use tpol_front::{Status, run_program};
 
-/// Does all that the program for FAPI's exports does: takes the words behind the program's name, reads the export from
-/// `source`, prints the report to `out`, one write a line, and answers the status. A scene that a command names is on
+/// Does all that the program for FAPI's exports does: takes the words behind the program's name, reads the export or
+/// the scene from `source`, prints the report to `out`, one write a line, and answers the status. A scene that a command names is on
 /// the shelf, and so are the policies that the scene names and those that are approved.
 ///
 /// `left`, `contents` and `documents` are what source, sink and shelf tell that they hold. Each count of
@@ -53,7 +55,7 @@ pub fn bridge_main<S: Source, K: Sink, H: Shelf>(
 
     // Words that are no command leave the source alone; a command that names no scene and does not ask which
     // policies are approved leaves the shelf alone. The shelf is asked only once what was read is an export that
-    // says a policy.
+    // says a policy, or of `who` a scene.
     ensures unread { reads_source (map string_bytes words.now.items) ≡ false → source.new ≡ source.old }
     ensures untouched { uses_shelf (map string_bytes words.now.items) ≡ false → shelf.new ≡ shelf.old }
     ensures asked { IfSome (S.left source.old) (λ held.
@@ -82,6 +84,14 @@ pub fn bridge_main<S: Source, K: Sink, H: Shelf>(
     ensures source_count { S.faults source.old ≤ S.faults source.new }
     ensures sink_count { K.faults out.old ≤ K.faults out.new }
     ensures shelf_count { H.faults shelf.old ≤ H.faults shelf.new }
+
+    // The report of `who` on a scene tells of each run that its script begins one line, and behind that a line for each
+    // path of the policy in order: `can` exactly where nothing stands in the client's way, with what the machine shows
+    // right before the begin, and else what does. The first `can` is the path that `run` begins on, and there is none
+    // exactly where it begins on none.
+    ensures who_told { IfWho (request_of (map string_bytes words.now.items))
+        (OfHeld (S.left source.old) (H.documents shelf.old) (λ input all.
+        IfDone (report_of (map string_bytes words.now.items) input all).answer (IsToldWho input all))) }
 {
     run_program::<Request, S, K, H>(alloc, words, source, out, shelf)
 }
