@@ -4,11 +4,9 @@
 //! source, make the command's answer (its lines and its verdict), and print it. What a run prints, answers and leaves
 //! on the shelf is `report_of`, a definition over the definitions of the crates below. A command is a file of its own,
 //! but for `run` and `explain`, which tpol_perform carries out, and `gen`, which is tpol_generate's; it goes through
-//! steps, each of which gives a value or ends the run with an answer. `policy_main_in_brief` is the same call under a
-//! short contract, for the tests.
+//! steps, each of which gives a value or ends the run with an answer.
 #![tactic(auto)]
 
-mod brief;
 mod canon;
 mod check;
 mod commands;
@@ -18,6 +16,5 @@ mod paths;
 mod request;
 mod top;
 
-pub use brief::policy_main_in_brief;
 pub use top::policy_main;
 pub use tpol_front::Status;

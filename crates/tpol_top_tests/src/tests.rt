@@ -7,7 +7,7 @@
 
 use std::alloc::Global;
 use tpol_base::{Failing, Lapse, MemoryShelf, MemorySource, NoMemory, Shelf, StdSink};
-use tpol_top::{Status, policy_main_in_brief};
+use tpol_top::{Status, policy_main};
 
 const SECRET: &str =
     r#"{"description":"ek","policy":[{"type":"POLICYSECRET","objectPath":"/HE"}]}"#;
@@ -259,7 +259,7 @@ fn answer_over(
     sink: &mut Printer,
     shelf: &mut Failing<MemoryShelf>,
 ) -> Status {
-    policy_main_in_brief(alloc, words, source, sink, shelf)
+    policy_main(alloc, words, source, sink, shelf)
 }
 
 // The same over a new shelf.
