@@ -1,7 +1,6 @@
 mod Areas
 mod Documents
 pub mod ExportErased
-mod Floats
 mod Keys
 mod Leaves
 mod Placed

@@ -9,7 +9,7 @@ use Rattle.tpol_adopt.specs.Flags.{bits_from, count_in, index_flags, index_types
 use Rattle.tpol_adopt.specs.Words.{is_word, says}
 use Rattle.tpol_adopt.specs.declared.flags.Flags.{Flags}
 use Rattle.tpol_adopt.specs.declared.flags.Flags.TheVariants.{OfIndex, OfObject, OfLocality}
-use Rattle.tpol_export.proofs.Floats.{NoFloats, no_float_or, object_none, put_none, with_members_none}
+use Rattle.tpol_write.proofs.Floats.{NoFloats, no_float_or, object_none, put_none, with_members_none}
 use Rattle.tpol_export.specs.Rules.{item_rule, member_rule, more_entries, new_name, index_entries, wrapper_of}
 use Rattle.tpol_export.specs.Spelling.{by_rule, spelled_as, spelled_items, spelled_members}
 use Rattle.tpol_export.specs.Values.{edited, flag_entries, flagged_number, handle_or, hierarchy_in, is_number, number_entries, number_members, object_or, scheme_value, signature_value, truth_text, type_entries, word_for}

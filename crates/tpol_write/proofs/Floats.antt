@@ -36,7 +36,7 @@ use Rattle.tpol_write.specs.Wishes.{name_value, key_member, index_member, entity
 
 -- ---- objects and lists
 
-no_float_or : (a b : Bool) → a ≡ false → b ≡ false → (a || b) ≡ false
+pub no_float_or : (a b : Bool) → a ≡ false → b ≡ false → (a || b) ≡ false
 no_float_or a b ea eb = rw (ea, eb)
 
 first_none : (a b : Bool) → (a || b) ≡ false → a ≡ false
@@ -54,7 +54,7 @@ put_by Less k l d e ms nd ne nms later = rw (nd, ne, nms)
 put_by Equal k l d e ms nd ne nms later = rw (nd, nms)
 put_by Greater k l d e ms nd ne nms later = rw (ne, later)
 
-put_none : (k : List ℕ) (d : Data) (ms : Members) → has_float d ≡ false → members_have_float ms ≡ false → members_have_float (put k d ms) ≡ false
+pub put_none : (k : List ℕ) (d : Data) (ms : Members) → has_float d ≡ false → members_have_float ms ≡ false → members_have_float (put k d ms) ≡ false
 put_none k d no_members nd nms = rw nd
 put_none k d (member l e ms) nd nms =
     let ne = first_none (has_float e) (members_have_float ms) nms in
@@ -62,19 +62,19 @@ put_none k d (member l e ms) nd nms =
     put_by (slice_cmp nat_cmp k l) k l d e ms nd ne rest (put_none k d ms nd rest)
 
 -- no entry has a float
-abbrev NoFloats : List Entry → Type 0
+abbrev pub NoFloats : List Entry → Type 0
 NoFloats [] = Unit {0}
 NoFloats (entry ∷ entries) = (has_float entry.1 ≡ false) × NoFloats entries
 
-with_members_none : (entries : List Entry) (found : Members) → NoFloats entries → members_have_float found ≡ false → members_have_float (with_members entries found) ≡ false
+pub with_members_none : (entries : List Entry) (found : Members) → NoFloats entries → members_have_float found ≡ false → members_have_float (with_members entries found) ≡ false
 with_members_none [] found none nfound = nfound
 with_members_none (entry ∷ entries) found none nfound =
     with_members_none entries (put entry.0 entry.1 found) none.1 (put_none entry.0 entry.1 found none.0 nfound)
 
-object_none : (entries : List Entry) → NoFloats entries → has_float (object_of entries) ≡ false
+pub object_none : (entries : List Entry) → NoFloats entries → has_float (object_of entries) ≡ false
 object_none entries none = with_members_none entries no_members none refl
 
-list_none : {A : Type 0} (value : A → Data) (xs : List A) → ((x : A) → has_float (value x) ≡ false) → has_float (list_of (map value xs)) ≡ false
+pub list_none : {A : Type 0} (value : A → Data) (xs : List A) → ((x : A) → has_float (value x) ≡ false) → has_float (list_of (map value xs)) ≡ false
 list_none value [] each = refl
 list_none value (x ∷ xs) each = no_float_or _ _ (each x) (list_none value xs each)
 

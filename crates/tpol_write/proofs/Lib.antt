@@ -1,5 +1,5 @@
 mod Depths
-mod Floats
+pub mod Floats
 mod ReadBack
 mod BytesBack
 mod WordsBack

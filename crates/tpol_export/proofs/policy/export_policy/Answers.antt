@@ -3,7 +3,7 @@ use Rattle.std.specs.Prelude.{IfOk}
 use Rattle.serde_json.specs.View.{view}
 use Rattle.serde_json.specs.Written.{compact_text, has_float}
 use Rattle.tpol_base.specs.declared.no_memory.NoMemory.{NoMemory}
-use Rattle.tpol_export.proofs.Floats.{policy_none}
+use Rattle.tpol_write.proofs.Floats.{policy_none}
 use Rattle.tpol_export.proofs.SpelledFloats.{spelling_none}
 use Rattle.tpol_export.proofs.policy.export_policy.Goals as goal
 use Rattle.tpol_export.specs.Spelling.{policy_spelling, spelled}
