@@ -1,7 +1,8 @@
 //! The world of a machine.
 
-ghost use Rattle.std.specs.Prelude.{◌≡◌, ◌+◌, ◌≤◌, ◌<◌, ◌^◌, ◌-◌, ◌↔◌, Some, None, length, option_map, IsErr, IsSome, IfOk, IfErr, IfSome, OnOk, OnErr};
+ghost use Rattle.std.specs.Prelude.{◌≡◌, ◌+◌, ◌≤◌, ◌<◌, ◌^◌, ◌-◌, ◌↔◌, Some, None, length, option_map, map, IsErr, IsSome, IfOk, IfErr, IfSome, OnOk, OnErr};
 ghost use Rattle.std.specs.Option.{option_copied};
+ghost use Rattle.tpol_name.specs.Areas.{index_name, object_name, with_written};
 ghost use Rattle.tpol_name.specs.Setups.{IsSetup, IsSight};
 ghost use Rattle.tpm_nv.specs.Indices.{counter_rule, index_of, rule_of};
 ghost use Rattle.tpm_nv.specs.Rules.{write_rule};
@@ -94,11 +95,9 @@ impl World {
         ensures sight { IfOk result (λ sight. sight ≡ sight_of self.now free_sessions) }
         ensures condition { IfOk result IsSight }
     {
-        let objects = self.objects.to_objects(alloc)?;
-        let indices = self.indices.to_indices(alloc)?;
         Ok(Sight {
-            objects: NamedObjects::with_names(objects, self.object_names.clone()?),
-            indices: NamedIndices::with_names(indices, self.index_names.clone()?),
+            objects: named_objects(alloc, &self.objects, &self.object_names)?,
+            indices: named_indices(alloc, &self.indices, &self.index_names)?,
             owner: self.owner.clone()?,
             endorsement: self.endorsement.clone()?,
             lockout: self.lockout.clone()?,
@@ -267,4 +266,26 @@ impl World {
     {
         self.indices.increment(index)
     }
+}
+
+// A copy of the objects, with the Names that are theirs.
+fn named_objects(
+    alloc: Global,
+    objects: &ObjectTable,
+    names: &Names,
+) -> Result<NamedObjects, NoMemory>
+    requires { names.now ≡ map (λ object. object_name object.public) objects.now }
+    ensures { IfOk result (λ named. named ≡ objects.now) }
+{
+    let copies = objects.to_objects(alloc)?;
+    Ok(NamedObjects::with_names(copies, names.clone()?))
+}
+
+// A copy of the indices, with the Names that are theirs once they are written.
+fn named_indices(alloc: Global, indices: &NvTable, names: &Names) -> Result<NamedIndices, NoMemory>
+    requires { names.now ≡ map (λ index. index_name (with_written index.public)) indices.now }
+    ensures { IfOk result (λ named. named ≡ indices.now) }
+{
+    let copies = indices.to_indices(alloc)?;
+    Ok(NamedIndices::with_names(copies, names.clone()?))
 }
