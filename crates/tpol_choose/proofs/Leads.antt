@@ -1,6 +1,6 @@
 -- What a list of elements begins with leads to the same blocks and to the same find, and the rest is no larger than
 -- the list.
-use Rattle.std.proofs.Common.{◌≡◌, ℕ, ◌+◌, ◌*◌, ◌≤◌, List, Option, Some, None, subst, sym, ap, ◌∙◌, arith}
+use Rattle.std.proofs.Common.{◌≡◌, ℕ, ◌*◌, ◌≤◌, List, Option, Some, None, subst, sym, ap, ◌∙◌, arith}
 use Rattle.std.proofs.Math.Nat.{mul-le-mul_left}
 use Rattle.tpol_base.specs.declared.digest.Digest32.{Digest32}
 use Rattle.tpol_choose.specs.declared.ahead.Ahead.{Ahead}
@@ -20,7 +20,6 @@ use Rattle.tpol_tree.specs.declared.closed.ClosedElement.TheVariants as closed
 use Rattle.tpol_tree.specs.declared.closed.ClosedElements.{ClosedElements}
 use Rattle.tpol_tree.specs.declared.closed.ClosedElements.TheVariants.{More', End}
 use Rattle.tpol_tree.specs.declared.path.ApprovedDoc.{ApprovedDoc}
-use Rattle.tpol_tree.specs.declared.path.Move.{Move}
 use Rattle.tpol_tree.specs.declared.path.Move.TheVariants.{Assert}
 
 -- the blocks behind what it begins with

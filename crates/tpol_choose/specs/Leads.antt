@@ -4,10 +4,9 @@ use Rattle.tpol_base.specs.declared.digest.Digest32.{Digest32}
 use Rattle.tpol_choose.specs.declared.assert_move.AssertMove.{AssertMove}
 use Rattle.tpol_choose.specs.declared.lead.Lead.{Lead}
 use Rattle.tpol_digest.specs.Digest.{digest_after_assertion}
-use Rattle.tpol_tree.specs.declared.closed.ClosedElement.{ClosedElement}
 use Rattle.tpol_tree.specs.declared.closed.ClosedElement.TheVariants.{Assert}
 use Rattle.tpol_tree.specs.declared.closed.ClosedElements.{ClosedElements}
-use Rattle.tpol_tree.specs.declared.closed.ClosedElements.TheVariants.{More', End}
+use Rattle.tpol_tree.specs.declared.closed.ClosedElements.TheVariants.{More'}
 
 -- the list is an assertion and a rest, before which stands the digest that the assertion leads to
 abbrev pub Begins : AssertMove → ClosedElements → Digest32 → ClosedElements → Digest32 → Type 0

@@ -1,5 +1,5 @@
 -- A blind run ends: each reply leaves fewer commands than were left before.
-use Rattle.std.proofs.Common.{◌≡◌, ℕ, ◌+◌, ◌-◌, ◌*◌, ◌<◌, ◌≤◌, ◌∙◌, ap, subst, sym, true, List, [], ◌∷◌, length, Option, Some, None, is_some, slice_get, refl, arith}
+use Rattle.std.proofs.Common.{◌≡◌, ℕ, ◌+◌, ◌-◌, ◌*◌, ◌≤◌, subst, sym, true, List, [], ◌∷◌, length, Option, Some, None, is_some, slice_get, refl, arith}
 use Rattle.std.specs.List.{fold}
 use Rattle.tpol_driver.specs.declared.answer.Answer.{Answer}
 use Rattle.tpol_driver.specs.declared.answer.Answer.TheVariants.{Done, Denied, Malformed}
@@ -16,7 +16,6 @@ use Rattle.tpol_driver.specs.Driving.{Standing, hears}
 use Rattle.tpol_driver.proofs.Ending.{failed_left, left, left_on, path_left}
 use Rattle.tpol_driver.proofs.Mirror.{try_mirrored}
 use Rattle.tpol_driver.proofs.TriedPaths.{is_first_from, most_at, most_from, some_from_front}
-use Rattle.tpol_wire.specs.declared.auth_area.ReplyAuth.{ReplyAuth}
 use Rattle.tpol_wire.specs.declared.reply.Reply.{Reply}
 use Rattle.tpol_wire.specs.declared.reply.Reply.TheVariants as replies
 use Rattle.tpol_fields.specs.declared.ticket.Ticket.{Ticket}

@@ -1,5 +1,5 @@
 -- The numbers of commands: only what has no ticket yet is verified, so a move has two commands at most.
-use Rattle.std.proofs.Common.{◌≡◌, ◌≤◌, ℕ, Option, Some, None, arith}
+use Rattle.std.proofs.Common.{◌≤◌, Option, Some, None, arith}
 use Rattle.tpol_driver.specs.declared.step.Heard.{Heard}
 use Rattle.tpol_driver.specs.declared.step.Heard.TheVariants.{Verified, Accepted, Failed}
 use Rattle.tpol_driver.specs.Underway.{IsVerifiedOnce, most_before, sent_with}

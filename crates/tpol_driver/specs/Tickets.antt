@@ -12,7 +12,7 @@ use Rattle.tpol_base.specs.declared.command_code.CommandCode.TheVariants as code
 use Rattle.tpol_base.specs.declared.digest.Digest32.{Digest32}
 use Rattle.tpol_base.specs.declared.name.Name.{Name}
 use Rattle.tpol_driver.specs.declared.answer.Answer.{Answer}
-use Rattle.tpol_driver.specs.declared.answer.Answer.TheVariants.{Done, Denied, Malformed}
+use Rattle.tpol_driver.specs.declared.answer.Answer.TheVariants.{Done}
 use Rattle.tpol_driver.specs.declared.plan.Plan.{Plan}
 use Rattle.tpol_driver.specs.declared.session.Session.{Session}
 use Rattle.tpol_driver.specs.declared.tickets.HeldTicket.{HeldTicket}

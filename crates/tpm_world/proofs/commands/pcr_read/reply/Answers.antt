@@ -4,7 +4,6 @@ use Rattle.std.proofs.lemmas.Nat.{one_shl}
 use Rattle.tpol_base.specs.Pcr.{mask_of_pcrs}
 use Rattle.tpol_wire.specs.declared.reply.Reply.TheVariants.{PcrRead}
 use Rattle.tpm_pcr.specs.Pcrs.{value_of}
-use Rattle.tpm_world.specs.PcrRead as spec
 use Rattle.tpm_world.proofs.ReadLemmas.{read_all, read_none, read_past, read_with, read_without}
 use Rattle.tpm_world.proofs.commands.pcr_read.reply.Goals as goal
 use Rattle.tpm_world.proofs.commands.pcr_read.reply.Goals.{then-len-lt-MOST+then-is_in_mask+in_ok-push, else-len-lt-MOST, else-len-lt-MOST-via-then-len-lt-MOST+else-is_in_mask, else-len-lt-MOST-via-else-len-lt-MOST}

@@ -1,7 +1,7 @@
-use Rattle.std.proofs.Common.{◌≡◌, ◌+◌, List, Option, Some, ap, arith, slice_get, subst, ◌∙◌}
+use Rattle.std.proofs.Common.{◌≡◌, ◌+◌, Some, ap, arith, slice_get, subst, ◌∙◌}
 use Rattle.tpol_base.specs.CommandCode.{number_of_code}
 use Rattle.tpol_driver.specs.Answers.{answer_of}
-use Rattle.tpol_driver.specs.Blind.{BlindDriving, BlindStanding, blind_hears, plan_at, tries_on}
+use Rattle.tpol_driver.specs.Blind.{BlindDriving, BlindStanding, blind_hears, tries_on}
 use Rattle.tpol_driver.specs.BlindStates.{IsBlindNext}
 use Rattle.tpol_driver.specs.Driving.{move_heard}
 use Rattle.tpol_driver.specs.Tickets.{code_on_path}
