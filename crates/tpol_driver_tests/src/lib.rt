@@ -3,10 +3,12 @@
 #![tactic(auto)]
 
 #[cfg(test)]
+mod blind;
+#[cfg(test)]
 mod runs;
 #[cfg(test)]
-mod steps;
+mod sighted;
 #[cfg(test)]
-mod tests;
+mod steps;
 #[cfg(test)]
 mod tickets;
