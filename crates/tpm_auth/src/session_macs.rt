@@ -16,7 +16,8 @@ pub fn command_mac(
     nonce_tpm: &Digest32,
     attributes: u8,
 ) -> Digest32
-    ensures mac { result ≡ command_mac auth.now cp_hash.now nonce_caller.now nonce_tpm.now attributes }
+    ensures mac { result ≡ command_mac auth.now cp_hash.now nonce_caller.now nonce_tpm.now
+        attributes }
 {
     session_mac(auth, cp_hash, nonce_caller, &nonce_tpm.bytes, attributes)
 }
@@ -31,7 +32,8 @@ pub fn check_hmac(
     attributes: u8,
     given: &[u8],
 ) -> bool
-    ensures right { result ≡ is_command_mac auth.now cp_hash.now nonce_caller.now nonce_tpm.now attributes given.now }
+    ensures right { result ≡ is_command_mac auth.now cp_hash.now nonce_caller.now nonce_tpm.now
+        attributes given.now }
 {
     if auth.is_empty() && given.is_empty() {
         return true;
@@ -50,7 +52,8 @@ pub fn reply_mac(
     nonce_caller: &[u8],
     attributes: u8,
 ) -> Digest32
-    ensures mac { result ≡ reply_mac auth.now rp_hash.now nonce_tpm.now nonce_caller.now attributes }
+    ensures mac { result ≡ reply_mac auth.now rp_hash.now nonce_tpm.now nonce_caller.now
+        attributes }
 {
     session_mac(auth, rp_hash, &nonce_tpm.bytes, nonce_caller, attributes)
 }
@@ -63,7 +66,8 @@ fn session_mac(
     nonce_older: &[u8],
     attributes: u8,
 ) -> Digest32
-    ensures { result ≡ session_mac auth.now parameter_hash.now nonce_newer.now nonce_older.now attributes }
+    ensures { result ≡ session_mac auth.now parameter_hash.now nonce_newer.now nonce_older.now
+        attributes }
 {
     let mut mac = Mac::new(auth);
     mac.put(&parameter_hash.bytes);

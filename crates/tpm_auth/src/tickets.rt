@@ -40,7 +40,8 @@ pub fn auth_ticket(
     policy_ref: &[u8],
     key: &Name,
 ) -> Digest32
-    ensures ticket { result ≡ auth_ticket proof.now tag deadline reset_count cp_hash.now policy_ref.now key.now }
+    ensures ticket { result ≡ auth_ticket proof.now tag deadline reset_count cp_hash.now
+        policy_ref.now key.now }
 {
     let mut mac = Mac::new(&proof.bytes);
     mac.put(&tag.to_be_bytes());

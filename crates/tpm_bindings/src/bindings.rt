@@ -97,7 +97,8 @@ impl Bindings {
 
     /// Whether each command code that is set is this one.
     pub fn every_code(&self, code: u32) -> bool
-        ensures { (facts : List OneFact) → self.now ≡ merged facts → result ≡ spec.every_code facts code }
+        ensures { (facts : List OneFact) → self.now ≡ merged facts
+            → result ≡ spec.every_code facts code }
     {
         self.codes.all_are(code)
     }
@@ -121,56 +122,64 @@ impl Bindings {
 
     /// Whether a cpHash is set, by PolicyCpHash or by the cpHashA of PolicySecret or PolicySigned.
     pub fn sets_cp_hash(&self) -> bool
-        ensures { (facts : List OneFact) → self.now ≡ merged facts → result ≡ spec.sets_cp_hash facts }
+        ensures { (facts : List OneFact) → self.now ≡ merged facts
+            → result ≡ spec.sets_cp_hash facts }
     {
         self.cp_hash.is_any() || self.limit.is_any()
     }
 
     /// Whether each cpHash that is set is this one.
     pub fn every_cp_hash(&self, digest: Digest32) -> bool
-        ensures { (facts : List OneFact) → self.now ≡ merged facts → result ≡ spec.every_cp_hash facts digest }
+        ensures { (facts : List OneFact) → self.now ≡ merged facts
+            → result ≡ spec.every_cp_hash facts digest }
     {
         both_are(self.cp_hash, self.limit, digest)
     }
 
     /// Whether a nameHash is set, by PolicyNameHash or PolicyDuplicationSelect.
     pub fn sets_name_hash(&self) -> bool
-        ensures { (facts : List OneFact) → self.now ≡ merged facts → result ≡ spec.sets_name_hash facts }
+        ensures { (facts : List OneFact) → self.now ≡ merged facts
+            → result ≡ spec.sets_name_hash facts }
     {
         self.name_hash.is_any() || self.parent_hash.is_any()
     }
 
     /// Whether each nameHash that is set is this one.
     pub fn every_name_hash(&self, digest: Digest32) -> bool
-        ensures { (facts : List OneFact) → self.now ≡ merged facts → result ≡ spec.every_name_hash facts digest }
+        ensures { (facts : List OneFact) → self.now ≡ merged facts
+            → result ≡ spec.every_name_hash facts digest }
     {
         both_are(self.name_hash, self.parent_hash, digest)
     }
 
     /// Whether PolicyNvWritten asks for a state of the index.
     pub fn sets_written(&self) -> bool
-        ensures { (facts : List OneFact) → self.now ≡ merged facts → result ≡ spec.sets_written facts }
+        ensures { (facts : List OneFact) → self.now ≡ merged facts
+            → result ≡ spec.sets_written facts }
     {
         self.written.is_any()
     }
 
     /// Whether each state that PolicyNvWritten asks for is this one.
     pub fn every_written(&self, written: bool) -> bool
-        ensures { (facts : List OneFact) → self.now ≡ merged facts → result ≡ spec.every_written facts written }
+        ensures { (facts : List OneFact) → self.now ≡ merged facts
+            → result ≡ spec.every_written facts written }
     {
         self.written.all_are(written)
     }
 
     /// Whether the time, in milliseconds, is at most every deadline.
     pub fn is_in_time(&self, time: u64) -> bool
-        ensures { (facts : List OneFact) → self.now ≡ merged facts → result ≡ spec.is_in_time facts time }
+        ensures { (facts : List OneFact) → self.now ≡ merged facts
+            → result ≡ spec.is_in_time facts time }
     {
         is_before(time, self.deadline)
     }
 
     /// Whether there is a PolicyPhysicalPresence.
     pub fn asks_presence(&self) -> bool
-        ensures { (facts : List OneFact) → self.now ≡ merged facts → result ≡ spec.asks_presence facts }
+        ensures { (facts : List OneFact) → self.now ≡ merged facts
+            → result ≡ spec.asks_presence facts }
     {
         self.presence
     }
@@ -233,7 +242,8 @@ fn both(localities: u8, more: Option<u8>) -> u8
 
 // The earliest deadline with one more, if there is one.
 fn earlier(first: Option<u64>, second: Option<u64>) -> Option<u64>
-    ensures { (deadlines : List ℕ) → first ≡ least deadlines → result ≡ least (deadlines ++ listed second) }
+    ensures { (deadlines : List ℕ) → first ≡ least deadlines
+        → result ≡ least (deadlines ++ listed second) }
 {
     match (first, second) {
         (Some(first), Some(second)) => Some(first.min(second)),
@@ -251,7 +261,8 @@ fn later(before: LastAuth, auth: Option<LastAuth>) -> LastAuth
 
 // Whether each of the digests that two bindings hold is this one.
 fn both_are(first: Held<Digest32>, second: Held<Digest32>, digest: Digest32) -> bool
-    ensures { (xs ys : List OneDigest) → first ≡ held is_same_digest xs → second ≡ held is_same_digest ys
+    ensures { (xs ys : List OneDigest) → first ≡ held is_same_digest xs
+        → second ≡ held is_same_digest ys
         → result ≡ (all_are is_same_digest digest xs && all_are is_same_digest digest ys) }
 {
     first.all_are(digest) && second.all_are(digest)

@@ -15,7 +15,8 @@ pub enum Held<T> {
 impl<T: Copy + Eq> Held<T> {
     /// The values with one more, if there is one.
     pub fn with(self, value: Option<T>) -> Held<T>
-        ensures { (values : List T) → self ≡ held T.eq values → result ≡ held T.eq (values ++ listed value) }
+        ensures { (values : List T) → self ≡ held T.eq values
+            → result ≡ held T.eq (values ++ listed value) }
     {
         let Some(value) = value else {
             return self;

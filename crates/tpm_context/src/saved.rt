@@ -45,7 +45,8 @@ impl Saved {
         requires { spec.AreApart sessions.old self.old }
         ensures live { result ≡ slots.is_live sessions.old handle }
         ensures saved { result ≡ true → self.new ≡ slots.with_content self.old handle
-            (option_map (λ state. record { sequence = sequence; state = state }) (slots.state_at sessions.old handle)) }
+            (option_map (λ state. record { sequence = sequence; state = state })
+            (slots.state_at sessions.old handle)) }
         ensures sessions { sessions.new ≡ slots.with_state sessions.old handle None }
         ensures refused { result ≡ false → (self.new ≡ self.old) × (sessions.new ≡ sessions.old) }
         ensures apart { spec.AreApart sessions.new self.new }
@@ -97,7 +98,8 @@ impl Saved {
     /// The slots of saved sessions: bit k for the handle 03000000 + k.
     pub fn slots(&self) -> u64
         ensures value { result ≡ slots.bits_of self.now }
-        ensures bits { (slot : ℕ) → bit_at result slot ≡ slots.bit_of (slots.in_slot self.now slot) }
+        ensures bits { (slot : ℕ)
+            → bit_at result slot ≡ slots.bit_of (slots.in_slot self.now slot) }
     {
         self.table.occupied()
     }
@@ -121,14 +123,16 @@ impl Saved {
 
     // Keeps a saved session in the slot of its handle.
     fn put(&mut self, saved: SavedSession)
-        ensures { self.new ≡ slots.with_content self.old saved.session.handle (Some (spec.saved_state saved)) }
+        ensures { self.new ≡ slots.with_content self.old saved.session.handle
+            (Some (spec.saved_state saved)) }
     {
         self.table.replace(saved.session.handle(), Some(saved));
     }
 
     // Hands a saved session out.
     fn take_out(&mut self, handle: u32) -> Option<SavedSession>
-        ensures saved { result ≡ option_map (spec.saved_of handle) (slots.content_at self.old handle) }
+        ensures saved { result ≡ option_map (spec.saved_of handle)
+            (slots.content_at self.old handle) }
         ensures slot { is_some result ≡ true → slots.IsSlotHandle handle }
         ensures slots { self.new ≡ slots.with_content self.old handle None }
     {

@@ -38,7 +38,8 @@ impl Tables {
         locality: u8,
         command: &Command,
     ) -> Result<Option<Stop>, NoMemory>
-        ensures { IfOk result (λ stop. stop ≡ spec.authorization_stop self.now locality command.now) }
+        ensures { IfOk result (λ stop. stop
+            ≡ spec.authorization_stop self.now locality command.now) }
     {
         match command.area() {
             Some(area) => self.area_stop(alloc, locality, command, area),
@@ -54,7 +55,8 @@ impl Tables {
         command: &Command,
         area: &AuthArea,
     ) -> Result<Option<Stop>, NoMemory>
-        ensures { IfOk result (λ stop. stop ≡ spec.area_stop self.now locality command.now area.now) }
+        ensures { IfOk result (λ stop. stop
+            ≡ spec.area_stop self.now locality command.now area.now) }
     {
         match self.world.entity(authorized_handle(command)) {
             Some(entity) => self.entity_stop(alloc, locality, command, area, &entity),
@@ -71,7 +73,8 @@ impl Tables {
         area: &AuthArea,
         entity: &Entity<'_>,
     ) -> Result<Option<Stop>, NoMemory>
-        ensures { IfOk result (λ stop. stop ≡ spec.entity_stop self.now locality command.now area.now (entity_of entity.now)) }
+        ensures { IfOk result (λ stop. stop
+            ≡ spec.entity_stop self.now locality command.now area.now (entity_of entity.now)) }
     {
         if area.session == TPM_RS_PW {
             return Ok(password_stop(entity, code_of(command), area.hmac.as_slice()));
@@ -92,7 +95,9 @@ impl Tables {
         entity: &Entity<'_>,
         session: &Session,
     ) -> Result<Option<Stop>, NoMemory>
-        ensures { IfOk result (λ stop. stop ≡ spec.policy_stop self.now locality command.now area.now (entity_of entity.now) session.now.state) }
+        ensures { IfOk result (λ stop. stop
+            ≡ spec.policy_stop self.now locality command.now area.now
+            (entity_of entity.now) session.now.state) }
     {
         if !entity.is_policy_available(code_of(command)) {
             return Ok(Some(denies(Denial::Unavailable, AUTH_UNAVAILABLE)));
@@ -115,7 +120,8 @@ impl Tables {
         cp_hash: Digest32,
     ) -> Option<Check>
         requires hash { cp_hash ≡ hashes.cp_hash self.now.world command.now }
-        ensures { result ≡ spec.broken_check self.now locality command.now area.now (entity_of entity.now) session.now.state }
+        ensures { result ≡ spec.broken_check self.now locality command.now area.now
+            (entity_of entity.now) session.now.state }
     {
         let code = code_of(command);
         let attempt = Attempt {
@@ -145,7 +151,8 @@ impl Tables {
         command: &Command,
         reply: &Reply,
     ) -> Result<Option<ReplyAuth>, NoMemory>
-        ensures { IfOk result (λ auth. auth ≡ spec.reply_auth self.now number command.now reply.now) }
+        ensures { IfOk result (λ auth. auth
+            ≡ spec.reply_auth self.now number command.now reply.now) }
     {
         match command.area() {
             Some(area) => self.reply_area(alloc, number, command, reply, area),
@@ -162,7 +169,8 @@ impl Tables {
         reply: &Reply,
         area: &AuthArea,
     ) -> Result<Option<ReplyAuth>, NoMemory>
-        ensures { IfOk result (λ auth. auth ≡ spec.reply_area self.now number command.now reply.now area.now) }
+        ensures { IfOk result (λ auth. auth
+            ≡ spec.reply_area self.now number command.now reply.now area.now) }
     {
         if area.session == TPM_RS_PW {
             return Ok(Some(password_area(alloc)));
@@ -190,8 +198,10 @@ impl Tables {
         entity: &Entity<'_>,
         session: &Session,
     ) -> Result<Option<ReplyAuth>, NoMemory>
-        ensures { IfOk result (λ auth. auth ≡ Some (spec.session_area self.now exchange.now.number exchange.now.command.now
-            exchange.now.reply.now exchange.now.area.now (entity_of entity.now) session.now.state)) }
+        ensures { IfOk result (λ auth. auth
+            ≡ Some (spec.session_area self.now exchange.now.number exchange.now.command.now
+            exchange.now.reply.now exchange.now.area.now
+            (entity_of entity.now) session.now.state)) }
     {
         let Exchange {
             number,
@@ -272,7 +282,8 @@ fn reply_hmac(
     nonce: &Digest32,
 ) -> Result<Blob, NoMemory>
     ensures { IfOk result (λ hmac. hmac ≡ spec.reply_hmac last value.now area.now.hmac
-        (λ key. macs.reply_mac key (rp_hash code reply.now) nonce.now area.now.nonce area.now.attributes)) }
+        (λ key. macs.reply_mac key
+        (rp_hash code reply.now) nonce.now area.now.nonce area.now.attributes)) }
 {
     let key = match last {
         LastAuth::Password => return Ok(Blob::new(alloc)),

@@ -38,7 +38,8 @@ impl Tables {
         requires live { IfSome closing (λ it. is_live self.old.sessions it.session ≡ true) }
         requires empty { IfSome closing (λ it. it.facts ≡ []) }
         ensures opened { result ≡ spec.opened_by self.old closing }
-        ensures tables { self.new ≡ after_use number (option_map spec.use_of_closing closing) self.old }
+        ensures tables { self.new
+            ≡ after_use number (option_map spec.use_of_closing closing) self.old }
         ensures sound { IfSome result (λ opened. IsSound (moves_of opened.facts)) }
         ensures agree { IfSome result (λ opened. Agree (moves_of opened.facts)) }
     {

@@ -99,7 +99,8 @@ impl Tables {
         requires fits { FitsCommand command }
         requires room { room_stop self.old command ≡ None }
         requires rule { policy_command_rule self.old command ≡ None }
-        ensures tables { (reply : List ℕ) → self.new ≡ after_deed number (command_deed command reply) self.old }
+        ensures tables { (reply : List ℕ)
+            → self.new ≡ after_deed number (command_deed command reply) self.old }
     {
         let Some((handle, _)) = command.policy_session() else {
             unreachable!();

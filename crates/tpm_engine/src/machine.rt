@@ -78,23 +78,43 @@ impl Machine {
         requires few { length self.old.events < 2 ^ 31 }
         // the event and the answer
         ensures setup { self.new.setup ≡ self.old.setup }
-        ensures event { OnOk result (self.new.events ≡ event_of client locality buffer.now (answer_to self.old.setup self.old.events locality buffer.now) ∷ self.old.events) }
+        ensures event { OnOk result (self.new.events
+            ≡ event_of client locality buffer.now
+            (answer_to self.old.setup self.old.events locality buffer.now) ∷ self.old.events) }
         ensures number { IfOk result (λ done. done.event ≡ length self.old.events + 1) }
-        ensures reply { IfOk result (λ done. done.reply ≡ (answer_to self.old.setup self.old.events locality buffer.now).reply) }
-        ensures outcome { IfOk result (λ done. done.outcome ≡ (answer_to self.old.setup self.old.events locality buffer.now).outcome) }
+        ensures reply { IfOk result (λ done. done.reply
+            ≡ (answer_to self.old.setup self.old.events locality buffer.now).reply) }
+        ensures outcome { IfOk result (λ done. done.outcome
+            ≡ (answer_to self.old.setup self.old.events locality buffer.now).outcome) }
         // what a policy session opened
-        ensures opened { IfOk result (λ done. done.opened ≡ opened_to self.old.setup self.old.events locality buffer.now) }
-        ensures opens { IfOk result (λ done. IsSome done.opened ↔ uses.IsServedBySession self.old.setup self.old.events locality buffer.now) }
-        ensures facts { IfOk result (λ done. IfSome done.opened (λ opened. option_map (facts_of self.old.setup self.old.events) (uses.session_in (reading buffer.now)) ≡ Some opened.facts)) }
-        ensures sound { IfOk result (λ done. IfSome done.opened (λ opened. IsSound (moves_of opened.facts))) }
-        ensures agree { IfOk result (λ done. IfSome done.opened (λ opened. Agree (moves_of opened.facts))) }
-        ensures pcrs { IfOk result (λ done. IfSome done.opened (λ opened. uses.AreOfPcrs (pcrs_of self.old.setup self.old.events) opened.facts)) }
-        ensures policy { IfOk result (λ done. IfSome done.opened (λ opened. option_map auth_policy_of (entity_at (world_of self.old.setup) opened.entity) ≡ Some (digest_of_moves (moves_of opened.facts)).bytes)) }
+        ensures opened { IfOk result (λ done. done.opened
+            ≡ opened_to self.old.setup self.old.events locality buffer.now) }
+        ensures opens { IfOk result (λ done. IsSome done.opened
+            ↔ uses.IsServedBySession self.old.setup self.old.events locality buffer.now) }
+        ensures facts { IfOk result
+            (λ done. IfSome done.opened
+            (λ opened. option_map (facts_of self.old.setup self.old.events)
+            (uses.session_in (reading buffer.now)) ≡ Some opened.facts)) }
+        ensures sound { IfOk result
+            (λ done. IfSome done.opened (λ opened. IsSound (moves_of opened.facts))) }
+        ensures agree { IfOk result
+            (λ done. IfSome done.opened (λ opened. Agree (moves_of opened.facts))) }
+        ensures pcrs { IfOk result
+            (λ done. IfSome done.opened
+            (λ opened. uses.AreOfPcrs (pcrs_of self.old.setup self.old.events) opened.facts)) }
+        ensures policy { IfOk result
+            (λ done. IfSome done.opened
+            (λ opened. option_map auth_policy_of (entity_at (world_of self.old.setup) opened.entity)
+            ≡ Some (digest_of_moves (moves_of opened.facts)).bytes)) }
         // when a policy session authorizes a command, and when the command is served
-        ensures authorizes { (command : CommandOf) (session : ℕ) → uses.AsksPolicySession self.old.setup self.old.events buffer.now command session
-            → IfOk result (λ done. uses.IsNotDeniedByCheck done.outcome ↔ uses.Passes self.old.setup self.old.events locality command session) }
-        ensures serves { (command : CommandOf) (session : ℕ) → uses.AsksPolicySession self.old.setup self.old.events buffer.now command session
-            → IfOk result (λ done. (done.outcome ≡ Served) ↔ uses.IsServed self.old.setup self.old.events locality command session) }
+        ensures authorizes { (command : CommandOf) (session : ℕ)
+            → uses.AsksPolicySession self.old.setup self.old.events buffer.now command session
+            → IfOk result (λ done. uses.IsNotDeniedByCheck done.outcome
+            ↔ uses.Passes self.old.setup self.old.events locality command session) }
+        ensures serves { (command : CommandOf) (session : ℕ)
+            → uses.AsksPolicySession self.old.setup self.old.events buffer.now command session
+            → IfOk result (λ done. (done.outcome ≡ Served)
+            ↔ uses.IsServed self.old.setup self.old.events locality command session) }
         // without memory
         ensures err { OnErr result (self.new.events ≡ self.old.events) }
         ensures spare { OnErr result (self.old.spare ≤ self.new.spare) }

@@ -196,7 +196,8 @@ pub fn reply(alloc: Global, world: &World, start: u64, command: &Command) -> Res
 // The reply to a policy command that has no fields.
 fn plain_reply(command: &Command) -> Reply
     requires plain { spec.has_timeout command.now ≡ false }
-    ensures reply { (world : WorldState) (start : ℕ) → result ≡ spec.policy_reply world start command.now }
+    ensures reply { (world : WorldState) (start : ℕ)
+        → result ≡ spec.policy_reply world start command.now }
 {
     match command {
         Command::PolicyNv { .. } => Reply::PolicyNv,

@@ -44,14 +44,22 @@ impl Tables {
         locality: u8,
         buffer: &[u8],
     ) -> Result<Responded, NoMemory>
-        ensures reply { IfOk result (λ done. done.reply ≡ (spec.answer self.old number locality buffer.now).reply) }
-        ensures kept { IfOk result (λ done. done.kept ≡ (spec.answer self.old number locality buffer.now).reply) }
-        ensures outcome { IfOk result (λ done. done.outcome ≡ (spec.answer self.old number locality buffer.now).outcome) }
-        ensures opened { IfOk result (λ done. done.opened ≡ spec.opened_of self.old number locality buffer.now) }
-        ensures sound { IfOk result (λ done. IfSome done.opened (λ opened. IsSound (moves_of opened.facts))) }
-        ensures agree { IfOk result (λ done. IfSome done.opened (λ opened. Agree (moves_of opened.facts))) }
+        ensures reply { IfOk result (λ done. done.reply
+            ≡ (spec.answer self.old number locality buffer.now).reply) }
+        ensures kept { IfOk result (λ done. done.kept
+            ≡ (spec.answer self.old number locality buffer.now).reply) }
+        ensures outcome { IfOk result (λ done. done.outcome
+            ≡ (spec.answer self.old number locality buffer.now).outcome) }
+        ensures opened { IfOk result (λ done. done.opened
+            ≡ spec.opened_of self.old number locality buffer.now) }
+        ensures sound { IfOk result
+            (λ done. IfSome done.opened (λ opened. IsSound (moves_of opened.facts))) }
+        ensures agree { IfOk result
+            (λ done. IfSome done.opened (λ opened. Agree (moves_of opened.facts))) }
         ensures tables { (client : ℕ) → OnOk result (self.new
-            ≡ after_event self.old number (event_of client locality buffer.now (spec.answer self.old number locality buffer.now))) }
+            ≡ after_event self.old number
+            (event_of client locality buffer.now
+            (spec.answer self.old number locality buffer.now))) }
         ensures err { OnErr result (self.new ≡ self.old) }
     {
         match read_command(alloc, buffer) {
@@ -71,7 +79,8 @@ impl Tables {
     ) -> Result<Responded, NoMemory>
         requires fits { FitsCommand command }
         ensures response { IfOk result (λ done. IsResponse self.old number command
-            (spec.answer_to_command self.old number locality command) (spec.opened_by_command self.old locality command) self.new done) }
+            (spec.answer_to_command self.old number locality command)
+            (spec.opened_by_command self.old locality command) self.new done) }
         ensures err { OnErr result (self.new ≡ self.old) }
     {
         match self.first_stop(alloc, locality, &command) {
@@ -138,7 +147,8 @@ impl Tables {
         requires room { room_stop self.old command ≡ None }
         requires rule { spec.own_rule self.old command ≡ None }
         ensures response { IfOk result (λ done. IsResponse self.old number command
-            (spec.succeeding self.old number command) (spec.opening_of self.old command) self.new done) }
+            (spec.succeeding self.old number command)
+            (spec.opening_of self.old command) self.new done) }
         ensures err { OnErr result (self.new ≡ self.old) }
     {
         match self.prepare(alloc, number, &command) {
@@ -180,7 +190,8 @@ impl Tables {
         requires rule { spec.own_rule self.old command ≡ None }
         requires prepared { IsPrepared self.old number command prepared }
         ensures response { IsResponse self.old number command
-            (spec.succeeding self.old number command) (spec.opening_of self.old command) self.new result }
+            (spec.succeeding self.old number command)
+            (spec.opening_of self.old command) self.new result }
     {
         let Prepared {
             reply,
@@ -202,7 +213,8 @@ impl Tables {
     // The bytes of the reply to a command that succeeds.
     fn reply_bytes(&self, alloc: Global, number: u32, command: &Command) -> Result<Blob, NoMemory>
         requires rule { spec.own_rule self.now command.now ≡ None }
-        ensures { IfOk result (λ bytes. bytes ≡ (spec.succeeding self.now number command.now).reply) }
+        ensures { IfOk result (λ bytes. bytes
+            ≡ (spec.succeeding self.now number command.now).reply) }
     {
         let reply = self.reply_to(alloc, number, command)?;
         let bytes = self.spelled(alloc, number, command, &reply);
@@ -218,7 +230,8 @@ impl Tables {
         command: &Command,
         reply: &Reply,
     ) -> Result<Blob, NoMemory>
-        ensures { IfOk result (λ bytes. bytes ≡ spell_reply reply.now (reply_auth self.now number command.now reply.now)) }
+        ensures { IfOk result (λ bytes. bytes
+            ≡ spell_reply reply.now (reply_auth self.now number command.now reply.now)) }
     {
         let auth = self.reply_auth(alloc, number, command, reply)?;
         write_reply(alloc, reply, auth.as_ref())

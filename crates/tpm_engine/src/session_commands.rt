@@ -74,7 +74,8 @@ pub fn carry_out(tables: &mut Tables, number: u32, command: &Command, facts: Opt
     requires rule { spec.session_rule tables.old command.now ≡ None }
     requires empty { facts ≡ first_facts command.now }
     ensures tables { tables.new ≡ after_deed number
-        (plain_deed command.now (spell_reply (spec.session_reply tables.old number command.now) None)) tables.old }
+        (plain_deed command.now (spell_reply
+        (spec.session_reply tables.old number command.now) None)) tables.old }
 {
     match command {
         Command::StartAuthSession { .. } => match facts {

@@ -82,7 +82,8 @@ pub fn next_count(entry: &IndexEntry, greatest: u64) -> Result<u64, Rc>
     requires content { HasContent entry.now }
     ensures next { IfOk result (λ next. next ≡ count_before greatest entry.now + 1) }
     ensures ok { OnOk result (increment_rule entry.now (count_before greatest entry.now) ≡ None) }
-    ensures refused { IfErr result (λ rc. increment_rule entry.now (count_before greatest entry.now) ≡ Some rc.code) }
+    ensures refused { IfErr result (λ rc. increment_rule entry.now (count_before greatest entry.now)
+        ≡ Some rc.code) }
 {
     if index_type(entry.public.attributes) != NT_COUNTER {
         return Err(Rc {

@@ -76,9 +76,13 @@ impl NvTable {
     /// `check_read`.
     pub fn read(&self, index: u32, offset: u16, size: u16) -> Result<&[u8], Rc>
         requires there { IsSome (index_of index self.now) }
-        ensures bytes { IfOk result (λ bytes. IfSome (index_of index self.now) (λ entry. bytes.now ≡ take size (drop offset entry.content))) }
-        ensures ok { OnOk result (rule_of (λ entry. read_rule entry offset size) index self.now ≡ None) }
-        ensures refused { IfErr result (λ rc. rule_of (λ entry. read_rule entry offset size) index self.now ≡ Some rc.code) }
+        ensures bytes { IfOk result
+            (λ bytes. IfSome (index_of index self.now) (λ entry. bytes.now
+            ≡ take size (drop offset entry.content))) }
+        ensures ok { OnOk result (rule_of (λ entry. read_rule entry offset size) index self.now
+            ≡ None) }
+        ensures refused { IfErr result
+            (λ rc. rule_of (λ entry. read_rule entry offset size) index self.now ≡ Some rc.code) }
     {
         let entry = self.entry_at(index);
         check_read(entry, offset, size)?;
@@ -91,8 +95,11 @@ impl NvTable {
     pub fn write(&mut self, index: u32, offset: u16, bytes: &[u8]) -> Result<(), Rc>
         requires there { IsSome (index_of index self.old) }
         ensures written { OnOk result (self.new ≡ written_at index offset bytes.now self.old) }
-        ensures ok { OnOk result (rule_of (λ entry. write_rule entry offset (length bytes.now)) index self.old ≡ None) }
-        ensures refused { IfErr result (λ rc. rule_of (λ entry. write_rule entry offset (length bytes.now)) index self.old ≡ Some rc.code) }
+        ensures ok { OnOk result
+            (rule_of (λ entry. write_rule entry offset (length bytes.now)) index self.old ≡ None) }
+        ensures refused { IfErr result
+            (λ rc. rule_of (λ entry. write_rule entry offset (length bytes.now)) index self.old
+            ≡ Some rc.code) }
         ensures err { OnErr result (self.new ≡ self.old) }
     {
         check_write(self.entry_at(index), offset, bytes.len())?;
@@ -106,7 +113,8 @@ impl NvTable {
         requires there { IsSome (index_of index self.now) }
         ensures next { IfOk result (λ next. next ≡ count_after index self.now) }
         ensures ok { OnOk result (rule_of (counter_rule self.now) index self.now ≡ None) }
-        ensures refused { IfErr result (λ rc. rule_of (counter_rule self.now) index self.now ≡ Some rc.code) }
+        ensures refused { IfErr result (λ rc. rule_of (counter_rule self.now) index self.now
+            ≡ Some rc.code) }
     {
         let greatest = self.greatest_count();
         next_count(self.entry_at(index), greatest)
@@ -119,7 +127,8 @@ impl NvTable {
         requires there { IsSome (index_of index self.old) }
         ensures incremented { OnOk result (self.new ≡ incremented_at index self.old) }
         ensures ok { OnOk result (rule_of (counter_rule self.old) index self.old ≡ None) }
-        ensures refused { IfErr result (λ rc. rule_of (counter_rule self.old) index self.old ≡ Some rc.code) }
+        ensures refused { IfErr result (λ rc. rule_of (counter_rule self.old) index self.old
+            ≡ Some rc.code) }
         ensures err { OnErr result (self.new ≡ self.old) }
     {
         let next = next_count(self.entry_at(index), self.greatest_count())?;
@@ -152,7 +161,8 @@ impl NvTable {
     // Writes bytes into an index, which has room for them, and sets WRITTEN.
     fn overwrite(&mut self, index: u32, offset: usize, bytes: &[u8])
         requires there { IsSome (index_of index self.old) }
-        requires within { IfSome (index_of index self.old) (λ entry. offset + length bytes.now ≤ length entry.content) }
+        requires within { IfSome (index_of index self.old) (λ entry. offset + length bytes.now
+            ≤ length entry.content) }
         ensures written { self.new ≡ written_at index offset bytes.now self.old }
     {
         if let Some(entry) = self.indices.get_mut(&index) {

@@ -19,7 +19,8 @@ pub fn is_signature(
     policy_ref: &[u8],
     signature: &Digest32,
 ) -> bool
-    ensures { result ≡ spec.is_signature secret.now nonce.now expiration cp_hash policy_ref.now signature.now }
+    ensures { result ≡ spec.is_signature secret.now nonce.now expiration cp_hash policy_ref.now
+        signature.now }
 {
     let hash = signed_hash(
         nonce,
@@ -39,7 +40,8 @@ pub fn is_approval_ticket(
     key: &Name,
     ticket: &[u8],
 ) -> bool
-    ensures { result ≡ spec.is_approval_ticket proof.now approved.now policy_ref.now key.now ticket.now }
+    ensures { result ≡ spec.is_approval_ticket proof.now approved.now policy_ref.now key.now
+        ticket.now }
 {
     check_ticket(proof, &approval_hash(approved, policy_ref), key, ticket)
 }
@@ -59,7 +61,8 @@ pub struct AuthTicket<'a> {
 
 /// Whether a ticket is the one that a machine with this proof made for its values, since its last TPM Reset.
 pub fn is_auth_ticket(proof: &Digest32, reset_count: u32, ticket: &AuthTicket<'_>) -> bool
-    ensures { result ≡ spec.is_auth_ticket proof.now reset_count ticket.now.deadline ticket.now.cp_hash ticket.now.policy_ref.now
+    ensures { result ≡ spec.is_auth_ticket proof.now reset_count ticket.now.deadline
+        ticket.now.cp_hash ticket.now.policy_ref.now
         ticket.now.key ticket.now.tag ticket.now.hierarchy ticket.now.digest.now }
 {
     let expected = auth_ticket(

@@ -34,7 +34,8 @@ pub fn assert_password(session: &mut Session, event: u32) -> Result<(), Rc>
 pub fn assert_presence(session: &mut Session, event: u32) -> Result<(), Rc>
     requires room { length session.old.state.facts < 512 }
     ensures ok { IsOk result }
-    ensures session { session.new ≡ with_one_more session.old (policy_physical_presence_fact event) 0 }
+    ensures session { session.new
+        ≡ with_one_more session.old (policy_physical_presence_fact event) 0 }
 {
     add_unbound(session, fact_of(event, Assertion::PhysicalPresence), 0);
     Ok(())

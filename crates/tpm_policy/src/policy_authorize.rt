@@ -27,9 +27,12 @@ pub fn assert_authorize(
     ticket: &[u8],
 ) -> Result<(), Rc>
     requires room { length session.old.state.facts < 512 }
-    ensures rule { Obeys result (policy_authorize_rule session.old.state approved (is_approval_ticket proof.now approved policy_ref key ticket.now)) }
+    ensures rule { Obeys result
+        (policy_authorize_rule session.old.state approved
+        (is_approval_ticket proof.now approved policy_ref key ticket.now)) }
     ensures session { session.new
-        ≡ asserted (policy_authorize_rule session.old.state approved (is_approval_ticket proof.now approved policy_ref key ticket.now))
+        ≡ asserted (policy_authorize_rule session.old.state approved
+        (is_approval_ticket proof.now approved policy_ref key ticket.now))
         session.old (policy_authorize_fact event key policy_ref approved) 0 }
 {
     let right = is_approval_ticket(proof, &approved, policy_ref.as_slice(), &key, ticket);

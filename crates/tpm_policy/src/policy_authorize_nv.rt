@@ -18,7 +18,8 @@ use tpol_tree::{Fact, Move};
 pub fn assert_authorize_nv(session: &mut Session, event: u32, entry: &IndexEntry) -> Result<(), Rc>
     requires room { length session.old.state.facts < 512 }
     ensures rule { Obeys result (policy_authorize_nv_rule session.old.state entry.now) }
-    ensures session { session.new ≡ asserted (policy_authorize_nv_rule session.old.state entry.now) session.old
+    ensures session { session.new
+        ≡ asserted (policy_authorize_nv_rule session.old.state entry.now) session.old
         (policy_authorize_nv_fact event session.old.state entry.now) 0 }
 {
     let standing = session.standing();

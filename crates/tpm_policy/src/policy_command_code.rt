@@ -16,7 +16,9 @@ use tpol_tree::Assertion;
 pub fn assert_command_code(session: &mut Session, event: u32, code: u32) -> Result<(), Rc>
     requires room { length session.old.state.facts < 512 }
     ensures rule { Obeys result (policy_command_code_rule session.old.state code) }
-    ensures session { session.new ≡ asserted (policy_command_code_rule session.old.state code) session.old (policy_command_code_fact event code) 0 }
+    ensures session { session.new
+        ≡ asserted (policy_command_code_rule session.old.state code) session.old
+        (policy_command_code_fact event code) 0 }
 {
     policy_command_code_rule(&session.standing(), code)?;
     add(session, fact_of(event, Assertion::CommandCode(code)), 0);

@@ -24,7 +24,9 @@ pub fn assert_counter_timer(
 ) -> Result<(), Rc>
     requires room { length session.old.state.facts < 512 }
     ensures rule { Obeys result (policy_counter_timer_rule clock.now operand offset operation) }
-    ensures session { session.new ≡ asserted (policy_counter_timer_rule clock.now operand offset operation) session.old (policy_counter_timer_fact event operand offset operation) 0 }
+    ensures session { session.new
+        ≡ asserted (policy_counter_timer_rule clock.now operand offset operation) session.old
+        (policy_counter_timer_fact event operand offset operation) 0 }
 {
     policy_counter_timer_rule(clock, operand.as_slice(), offset, operation)?;
     add_unbound(

@@ -16,7 +16,9 @@ use tpol_tree::Assertion;
 pub fn assert_cp_hash(session: &mut Session, event: u32, digest: Digest32) -> Result<(), Rc>
     requires room { length session.old.state.facts < 512 }
     ensures rule { Obeys result (policy_cp_hash_rule session.old.state digest) }
-    ensures session { session.new ≡ asserted (policy_cp_hash_rule session.old.state digest) session.old (policy_cp_hash_fact event digest) 0 }
+    ensures session { session.new
+        ≡ asserted (policy_cp_hash_rule session.old.state digest) session.old
+        (policy_cp_hash_fact event digest) 0 }
 {
     policy_cp_hash_rule(&session.standing(), &digest)?;
     add(session, fact_of(event, Assertion::CpHash(digest)), 0);

@@ -23,7 +23,9 @@ pub fn assert_duplication(
 ) -> Result<(), Rc>
     requires room { length session.old.state.facts < 512 }
     ensures rule { Obeys result (policy_duplication_select_rule session.old.state) }
-    ensures session { session.new ≡ asserted (policy_duplication_select_rule session.old.state) session.old (policy_duplication_select_fact event object parent include) 0 }
+    ensures session { session.new
+        ≡ asserted (policy_duplication_select_rule session.old.state) session.old
+        (policy_duplication_select_fact event object parent include) 0 }
 {
     policy_duplication_select_rule(&session.standing())?;
     add(

@@ -16,7 +16,9 @@ use tpol_tree::Assertion;
 pub fn assert_locality(session: &mut Session, event: u32, localities: u8) -> Result<(), Rc>
     requires room { length session.old.state.facts < 512 }
     ensures rule { Obeys result (policy_locality_rule session.old.state localities) }
-    ensures session { session.new ≡ asserted (policy_locality_rule session.old.state localities) session.old (policy_locality_fact event localities) 0 }
+    ensures session { session.new
+        ≡ asserted (policy_locality_rule session.old.state localities) session.old
+        (policy_locality_fact event localities) 0 }
 {
     policy_locality_rule(&session.standing(), localities)?;
     add(session, fact_of(event, Assertion::Locality(localities)), 0);

@@ -27,7 +27,8 @@ pub fn assert_nv(
     requires room { length session.old.state.facts < 512 }
     requires content { length entry.now.content ≡ entry.now.public.size }
     ensures rule { Obeys result (policy_nv_rule entry.now operand offset operation) }
-    ensures session { session.new ≡ asserted (policy_nv_rule entry.now operand offset operation) session.old
+    ensures session { session.new
+        ≡ asserted (policy_nv_rule entry.now operand offset operation) session.old
         (policy_nv_fact event entry.now operand offset operation) 0 }
 {
     policy_nv_rule(entry, operand.as_slice(), offset, operation)?;

@@ -16,7 +16,9 @@ use tpol_tree::Assertion;
 pub fn assert_nv_written(session: &mut Session, event: u32, written: bool) -> Result<(), Rc>
     requires room { length session.old.state.facts < 512 }
     ensures rule { Obeys result (policy_nv_written_rule session.old.state written) }
-    ensures session { session.new ≡ asserted (policy_nv_written_rule session.old.state written) session.old (policy_nv_written_fact event written) 0 }
+    ensures session { session.new
+        ≡ asserted (policy_nv_written_rule session.old.state written) session.old
+        (policy_nv_written_fact event written) 0 }
 {
     policy_nv_written_rule(&session.standing(), written)?;
     add(session, fact_of(event, Assertion::NvWritten(written)), 0);

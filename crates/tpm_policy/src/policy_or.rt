@@ -16,7 +16,9 @@ use tpol_tree::{Fact, Move};
 pub fn assert_or(session: &mut Session, event: u32, digests: Digests) -> Result<(), Rc>
     requires room { length session.old.state.facts < 512 }
     ensures rule { Obeys result (policy_or_rule session.old.state digests) }
-    ensures session { session.new ≡ asserted (policy_or_rule session.old.state digests) session.old (policy_or_fact event digests) 0 }
+    ensures session { session.new
+        ≡ asserted (policy_or_rule session.old.state digests) session.old
+        (policy_or_fact event digests) 0 }
 {
     policy_or_rule(&session.standing(), digests.as_slice())?;
     let fact = Fact {

@@ -27,9 +27,12 @@ pub fn assert_pcr(
 ) -> Result<(), Rc>
     requires room { length session.old.state.facts < 512 }
     requires mask { mask < 2 ^ 24 }
-    ensures rule { Obeys result (policy_pcr_rule session.old.state pcrs.now.counter (selection_digest pcrs.now.values mask) given) }
+    ensures rule { Obeys result
+        (policy_pcr_rule session.old.state pcrs.now.counter
+        (selection_digest pcrs.now.values mask) given) }
     ensures session { session.new
-        ≡ asserted (policy_pcr_rule session.old.state pcrs.now.counter (selection_digest pcrs.now.values mask) given) session.old
+        ≡ asserted (policy_pcr_rule session.old.state pcrs.now.counter
+        (selection_digest pcrs.now.values mask) given) session.old
         (policy_pcr_fact event mask (selection_digest pcrs.now.values mask)) pcrs.now.counter }
 {
     let counter = pcrs.counter();

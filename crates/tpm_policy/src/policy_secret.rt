@@ -26,9 +26,13 @@ pub fn assert_secret(
     expiration: i32,
 ) -> Result<(), Rc>
     requires room { length session.old.state.facts < 512 }
-    ensures rule { Obeys result (policy_secret_rule session.old.state time nonce.now cp_hash expiration) }
-    ensures session { session.new ≡ asserted (policy_secret_rule session.old.state time nonce.now cp_hash expiration) session.old
-        (policy_secret_fact event session.old.state.start entity nonce.now cp_hash policy_ref expiration) 0 }
+    ensures rule { Obeys result
+        (policy_secret_rule session.old.state time nonce.now cp_hash expiration) }
+    ensures session { session.new
+        ≡ asserted (policy_secret_rule session.old.state time nonce.now cp_hash expiration)
+        session.old
+        (policy_secret_fact event session.old.state.start entity nonce.now cp_hash policy_ref
+        expiration) 0 }
 {
     let standing = session.standing();
     policy_secret_rule(&standing, time, nonce, cp_hash, expiration)?;

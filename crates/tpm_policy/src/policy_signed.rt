@@ -30,11 +30,14 @@ pub fn assert_signed(
     signature: &Digest32,
 ) -> Result<(), Rc>
     requires room { length session.old.state.facts < 512 }
-    ensures rule { Obeys result (policy_signed_rule session.old.state time nonce.now cp_hash expiration
+    ensures rule { Obeys result
+        (policy_signed_rule session.old.state time nonce.now cp_hash expiration
         (is_signature secret.now nonce.now expiration cp_hash policy_ref signature.now)) }
-    ensures session { session.new ≡ asserted (policy_signed_rule session.old.state time nonce.now cp_hash expiration
+    ensures session { session.new
+        ≡ asserted (policy_signed_rule session.old.state time nonce.now cp_hash expiration
         (is_signature secret.now nonce.now expiration cp_hash policy_ref signature.now)) session.old
-        (policy_signed_fact event session.old.state.start key nonce.now cp_hash policy_ref expiration) 0 }
+        (policy_signed_fact event session.old.state.start key nonce.now cp_hash policy_ref
+        expiration) 0 }
 {
     let standing = session.standing();
     let right = is_signature(

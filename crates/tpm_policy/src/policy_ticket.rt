@@ -34,9 +34,12 @@ pub fn assert_ticket(
 ) -> Result<(), Rc>
     requires room { length session.old.state.facts < 512 }
     ensures rule { Obeys result (policy_ticket_rule session.old.state time deadline cp_hash
-        (is_auth_ticket proof.now reset_count deadline cp_hash policy_ref key tag hierarchy ticket.now)) }
-    ensures session { session.new ≡ asserted (policy_ticket_rule session.old.state time deadline cp_hash
-        (is_auth_ticket proof.now reset_count deadline cp_hash policy_ref key tag hierarchy ticket.now)) session.old
+        (is_auth_ticket proof.now reset_count deadline cp_hash policy_ref key tag hierarchy
+        ticket.now)) }
+    ensures session { session.new
+        ≡ asserted (policy_ticket_rule session.old.state time deadline cp_hash
+        (is_auth_ticket proof.now reset_count deadline cp_hash policy_ref key tag hierarchy
+        ticket.now)) session.old
         (policy_ticket_fact event tag deadline key policy_ref cp_hash) 0 }
 {
     let shown = AuthTicket {

@@ -28,7 +28,8 @@ pub fn fact_of(event: u32, assertion: Assertion) -> Fact
 pub fn add(session: &mut Session, fact: Fact, counter: u32)
     requires room { length session.old.state.facts < 512 }
     requires meets { Meets (policy_digest_of session.old.state) fact.act }
-    requires agrees { Agree (moves_of session.old.state.facts) → Agree (moves_of session.old.state.facts ++ fact.act ∷ []) }
+    requires agrees { Agree (moves_of session.old.state.facts)
+        → Agree (moves_of session.old.state.facts ++ fact.act ∷ []) }
     ensures { session.new ≡ with_one_more session.old fact counter }
 {
     // Its contract says that the facts before agree.

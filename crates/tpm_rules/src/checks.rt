@@ -40,7 +40,8 @@ pub fn check_use(
     auth_policy: &[u8],
     right: bool,
 ) -> Result<(), Check>
-    ensures checks { (state : SessionState) (judge : OneAuth → Bool) → session.now ≡ standing_of state
+    ensures checks { (state : SessionState) (judge : OneAuth → Bool)
+        → session.now ≡ standing_of state
         → right ≡ judge (last_auth state.facts)
         → Breaks result (spec.first_broken_check state occasion.now auth_policy.now judge) }
 {

@@ -51,7 +51,11 @@ impl Session {
     pub(crate) fn new(handle: u32, start: u64, nonce: Digest32, facts: Facts) -> Session
         requires empty { facts ≡ [] }
         requires early { start ≤ 2 ^ 63 }
-        ensures { result ≡ record { handle = handle; state = record { start = start; nonce = nonce; facts = []; counter = None } } }
+        ensures { result ≡ record {
+          handle = handle;
+          state = record
+              { start = start; nonce = nonce; facts = []; counter = None };
+        } }
     {
         Session {
             handle,

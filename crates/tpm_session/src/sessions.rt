@@ -61,12 +61,17 @@ impl Sessions {
         requires empty { facts ≡ [] }
         requires early { time ≤ 2 ^ 63 }
         ensures handle { MatchResult result
-            (λ handle. option_map spec.handle_of_slot (spec.first_free self.old taken) ≡ Some handle)
+            (λ handle. option_map spec.handle_of_slot (spec.first_free self.old taken)
+            ≡ Some handle)
             (λ _. spec.first_free self.old taken ≡ None) }
-        ensures least { IfOk result (λ handle. (slot : ℕ) → spec.handle_of_slot slot < handle → spec.is_free self.old taken slot ≡ false) }
-        ensures free { IfOk result (λ handle. spec.is_free self.old taken (handle - spec.first_handle) ≡ true) }
-        ensures full { OnErr result ((slot : ℕ) → slot < spec.slot_count → spec.is_free self.old taken slot ≡ false) }
-        ensures slots { IfOk result (λ handle. self.new ≡ spec.with_state self.old handle (Some (kept.state_of time nonce [] None))) }
+        ensures least { IfOk result (λ handle. (slot : ℕ) → spec.handle_of_slot slot < handle
+            → spec.is_free self.old taken slot ≡ false) }
+        ensures free { IfOk result
+            (λ handle. spec.is_free self.old taken (handle - spec.first_handle) ≡ true) }
+        ensures full { OnErr result ((slot : ℕ) → slot < spec.slot_count
+            → spec.is_free self.old taken slot ≡ false) }
+        ensures slots { IfOk result (λ handle. self.new
+            ≡ spec.with_state self.old handle (Some (kept.state_of time nonce [] None))) }
         ensures err { OnErr result (self.new ≡ self.old) }
     {
         let Some(slot) = self.first_free(taken) else {
@@ -140,8 +145,10 @@ impl Sessions {
     pub fn close_use(&mut self, handle: u32, keep: bool, nonce: Digest32, facts: Facts) -> Facts
         requires live { spec.is_live self.old handle ≡ true }
         requires empty { facts ≡ [] }
-        ensures facts { option_map (λ state. state.facts) (spec.state_at self.old handle) ≡ Some result }
-        ensures kept { keep ≡ true → self.new ≡ spec.changed_at self.old handle (λ state. kept.with_nonce state nonce) }
+        ensures facts { option_map (λ state. state.facts) (spec.state_at self.old handle)
+            ≡ Some result }
+        ensures kept { keep ≡ true
+            → self.new ≡ spec.changed_at self.old handle (λ state. kept.with_nonce state nonce) }
         ensures ended { keep ≡ false → self.new ≡ spec.with_state self.old handle None }
     {
         let Some(session) = self.take_out(handle) else {

@@ -38,7 +38,8 @@ impl World {
 
     // Adds the Names of a command's handles to a message.
     fn put_names(&self, hasher: &mut Hasher, command: &Command)
-        ensures longer { (m : List ℕ) → Holds hasher.old m → Holds hasher.new (m ++ spec.joined_names self.now (handles_of command.now)) }
+        ensures longer { (m : List ℕ) → Holds hasher.old m
+            → Holds hasher.new (m ++ spec.joined_names self.now (handles_of command.now)) }
     {
         let handles = command.handles();
         for handle in handles.as_slice() {

@@ -187,7 +187,8 @@ impl World {
     /// public area says.
     pub fn index(&self, handle: u32) -> Option<&IndexEntry>
         ensures found { option_copied result ≡ index_of handle self.now.indices }
-        ensures content { IfSome result (λ entry. length entry.now.content ≡ entry.now.public.size) }
+        ensures content { IfSome result (λ entry. length entry.now.content
+            ≡ entry.now.public.size) }
     {
         self.indices.find(handle)
     }
@@ -251,7 +252,9 @@ impl World {
     pub(crate) fn write(&mut self, index: u32, offset: u16, bytes: &[u8]) -> Result<(), Rc>
         requires there { IsSome (index_of index self.old.indices) }
         ensures ok { OnOk result (self.new ≡ nv_write.after index offset bytes.now self.old) }
-        ensures refused { IfErr result (λ rc. rule_of (λ entry. write_rule entry offset (length bytes.now)) index self.old.indices ≡ Some rc.code) }
+        ensures refused { IfErr result
+            (λ rc. rule_of (λ entry. write_rule entry offset (length bytes.now)) index
+            self.old.indices ≡ Some rc.code) }
         ensures err { OnErr result (self.new ≡ self.old) }
     {
         self.indices.write(index, offset, bytes)
@@ -261,7 +264,8 @@ impl World {
     pub(crate) fn increment(&mut self, index: u32) -> Result<(), Rc>
         requires there { IsSome (index_of index self.old.indices) }
         ensures ok { OnOk result (self.new ≡ nv_increment.after index self.old) }
-        ensures refused { IfErr result (λ rc. rule_of (counter_rule self.old.indices) index self.old.indices ≡ Some rc.code) }
+        ensures refused { IfErr result
+            (λ rc. rule_of (counter_rule self.old.indices) index self.old.indices ≡ Some rc.code) }
         ensures err { OnErr result (self.new ≡ self.old) }
     {
         self.indices.increment(index)

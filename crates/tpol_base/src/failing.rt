@@ -73,7 +73,8 @@ impl<T: Source> Source for Failing<T> {
     fn read(&mut self, buf: &mut [u8]) -> Result<usize, Failed>
         requires { 0 < length buf.old }
         ensures bound { ReadsAtMost result buf.new }
-        ensures bytes { ReadConsumes (T.left (inner self.old)) (T.left (inner self.new)) result buf.new }
+        ensures bytes { ReadConsumes (T.left (inner self.old))
+            (T.left (inner self.new)) result buf.new }
         ensures cause { HasCause (own_faults self.old + T.faults (inner self.old))
             (own_faults self.new + T.faults (inner self.new)) result }
         ensures once { own_faults self.new + T.faults (inner self.new)
@@ -100,7 +101,8 @@ impl<T: Sink> Sink for Failing<T> {
     fn write(&mut self, bytes: &[u8]) -> Result<(), Failed>
         ensures written { MatchResult result
             (λ _. Grows (T.contents (inner self.old)) (T.contents (inner self.new)) bytes.now)
-            (λ _. GrowsInPart (T.contents (inner self.old)) (T.contents (inner self.new)) bytes.now) }
+            (λ _. GrowsInPart (T.contents (inner self.old))
+            (T.contents (inner self.new)) bytes.now) }
         ensures cause { HasCause (own_faults self.old + T.faults (inner self.old))
             (own_faults self.new + T.faults (inner self.new)) result }
         ensures once { own_faults self.new + T.faults (inner self.new)

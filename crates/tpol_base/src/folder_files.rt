@@ -123,8 +123,10 @@ fn is_regular<R: Files>(rt: &R, path: &str) -> io::Result<bool> {
 // What was found, or none where nothing is there.
 fn if_there<T>(answer: io::Result<T>) -> io::Result<Option<T>>
     ensures there { IfOk answer (λ found. result ≡ Ok (Some found)) }
-    ensures absent { IfErr answer (λ error. error_kind error ≡ ErrorKind.NotFound → result ≡ Ok None) }
-    ensures fault { IfErr answer (λ error. error_kind error ≢ ErrorKind.NotFound → result ≡ Err error) }
+    ensures absent { IfErr answer (λ error. error_kind error ≡ ErrorKind.NotFound
+        → result ≡ Ok None) }
+    ensures fault { IfErr answer (λ error. error_kind error ≢ ErrorKind.NotFound
+        → result ≡ Err error) }
 {
     match answer {
         Ok(found) => Ok(Some(found)),

@@ -105,7 +105,8 @@ fn copy_document(alloc: Global, name: &str, bytes: &[u8]) -> Result<Document, No
 }
 
 fn put_into(documents: &mut Vec<Document>, document: Document) -> Result<(), NoMemory>
-    ensures ok { OnOk result (documents.new.items ≡ put_document document.name document.bytes documents.old.items) }
+    ensures ok { OnOk result (documents.new.items
+        ≡ put_document document.name document.bytes documents.old.items) }
     ensures err { OnErr result (documents.new.items ≡ documents.old.items) }
 {
     match place_of(documents.as_slice(), document.name.as_str()) {

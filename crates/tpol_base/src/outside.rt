@@ -94,7 +94,8 @@ pub trait Shelf {
     /// Replaces the document of this name, or adds it. After a lapse the documents are as before.
     fn put(&mut self, name: &str, bytes: &[u8]) -> Result<(), Lapse>
         ensures put { OnOk result
-            (documents self.new ≡ option_map (put_document name.now bytes.now) (documents self.old)) }
+            (documents self.new ≡ option_map (put_document name.now bytes.now)
+            (documents self.old)) }
         ensures keeps { OnErr result (documents self.new ≡ documents self.old) }
         ensures cause { HasLapse (faults self.old) (faults self.new) result }
         ensures once { faults self.new ≤ faults self.old + 1 }

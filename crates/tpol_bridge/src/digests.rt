@@ -49,7 +49,8 @@ pub fn digests<H: Shelf>(
     ensures answer { IfSome (H.documents shelf.old) (λ all.
         Answers (λ answer. answer) (digests_step scene.now input.now all) result) }
     ensures keeps { H.documents shelf.new ≡ H.documents shelf.old }
-    ensures asks { AsksShelf (is_some scene.now) (IsOk (export_step input.now)) shelf.old shelf.new (H.faults shelf.old) (H.faults shelf.new) result }
+    ensures asks { AsksShelf (is_some scene.now) (IsOk (export_step input.now)) shelf.old shelf.new
+        (H.faults shelf.old) (H.faults shelf.new) result }
 {
     let export = read_export(alloc, input)?;
     tell_with(alloc, scene, &export, shelf)
@@ -66,7 +67,8 @@ fn tell_with<H: Shelf>(
     ensures answer { IfSome (H.documents shelf.old) (λ all.
         Answers (λ answer. answer) (told_with scene.now (seen export.now) all) result) }
     ensures keeps { H.documents shelf.new ≡ H.documents shelf.old }
-    ensures asks { AsksShelf (is_some scene.now) ⊤ shelf.old shelf.new (H.faults shelf.old) (H.faults shelf.new) result }
+    ensures asks { AsksShelf (is_some scene.now) ⊤ shelf.old shelf.new (H.faults shelf.old)
+        (H.faults shelf.new) result }
 {
     let sight = sight_of_scene(alloc, scene, shelf)?;
     tell_in(alloc, sight.as_ref(), export)
@@ -75,7 +77,8 @@ fn tell_with<H: Shelf>(
 // What is told of an export that is filled with this sight.
 #[tactic(auto, unfolding(crate::specs::Digests::told_in))]
 fn tell_in(alloc: Global, sight: Option<&Sight>, export: &Export) -> Result<Answer, Halt>
-    ensures answer { Answers (λ answer. answer) (told_in (option_copied sight.entry) (seen export.now)) result }
+    ensures answer { Answers (λ answer. answer)
+        (told_in (option_copied sight.entry) (seen export.now)) result }
     ensures inside { IsInside result }
 {
     let closed = fill_document(alloc, None, &export.policy, sight)?;
@@ -85,7 +88,8 @@ fn tell_in(alloc: Global, sight: Option<&Sight>, export: &Export) -> Result<Answ
 // What is told of an export, where this is its policy with every wish given.
 #[tactic(auto, using(tpol_steps::proofs::FilledErased::policy_digest_erased), unfolding(crate::specs::Digests::told))]
 fn tell(alloc: Global, export: &Export, closed: &Closed) -> Result<Answer, NoMemory>
-    ensures { (sight : Option Sight) → filled_step None (erased_policy export.now.policy) sight ≡ Ok (erased closed.now)
+    ensures { (sight : Option Sight)
+        → filled_step None (erased_policy export.now.policy) sight ≡ Ok (erased closed.now)
         → IfOk result (λ answer. answer ≡ told sight (seen export.now) (erased closed.now)) }
 {
     let mut lines = Lines::new(alloc);
@@ -105,7 +109,8 @@ fn push_export(
     export: &Export,
     closed: &Closed,
 ) -> Result<(), NoMemory>
-    ensures { (sight : Option Sight) → filled_step None (erased_policy export.now.policy) sight ≡ Ok (erased closed.now)
+    ensures { (sight : Option Sight)
+        → filled_step None (erased_policy export.now.policy) sight ≡ Ok (erased closed.now)
         → OnOk result (lines.new ≡ lines.old ++ export_lines sight (seen export.now)) }
 {
     push_dropped(alloc, lines, dropped(alloc, &export.document)?.as_slice())?;
@@ -115,7 +120,8 @@ fn push_export(
 }
 
 fn push_dropped(alloc: Global, lines: &mut Lines, places: &[Place]) -> Result<(), NoMemory>
-    ensures { OnOk result (lines.new ≡ lines.old ++ map (λ place. line_of (dropped_line place)) places.now) }
+    ensures { OnOk result (lines.new
+        ≡ lines.old ++ map (λ place. line_of (dropped_line place)) places.now) }
 {
     for place in places {
         let mut line = Text::from_str(alloc, "dropped ")?;
@@ -126,7 +132,8 @@ fn push_dropped(alloc: Global, lines: &mut Lines, places: &[Place]) -> Result<()
 }
 
 fn push_notes(alloc: Global, lines: &mut Lines, places: &[Place]) -> Result<(), NoMemory>
-    ensures { OnOk result (lines.new ≡ lines.old ++ map (λ place. line_of (note_line place)) places.now) }
+    ensures { OnOk result (lines.new
+        ≡ lines.old ++ map (λ place. line_of (note_line place)) places.now) }
 {
     for place in places {
         let note = note_line(alloc, place)?;
@@ -142,7 +149,8 @@ fn push_marks(
     document: &Value,
     marks: &[Mark],
 ) -> Result<(), NoMemory>
-    ensures { OnOk result (lines.new ≡ lines.old ++ flat_map (mark_lines (view document.now)) marks.now) }
+    ensures { OnOk result (lines.new
+        ≡ lines.old ++ flat_map (mark_lines (view document.now)) marks.now) }
 {
     for mark in marks {
         push_mark(alloc, lines, document, mark)?;
@@ -195,7 +203,8 @@ fn push_digest(
     place: &Place,
     digest: &Digest32,
 ) -> Result<(), NoMemory>
-    ensures { OnOk result (lines.new ≡ lines.old ++ line_of (digest_line_at word.now place.now digest.now) ∷ []) }
+    ensures { OnOk result (lines.new
+        ≡ lines.old ++ line_of (digest_line_at word.now place.now digest.now) ∷ []) }
 {
     let mut line = Text::from_str(alloc, word)?;
     line.push_str(place_text(alloc, place)?.as_str())?;

@@ -32,8 +32,10 @@ pub fn fapi_text(alloc: Global, input: &[u8]) -> Result<Answer, Halt>
 
 #[tactic(auto, using(tpol_export::proofs::ExportErased::export_text_erased))]
 fn spelled(alloc: Global, policy: &Policy) -> Result<Answer, NoMemory>
-    requires { (d : Data) × (notes : List Place) × StandsForPolicy d (erased_policy policy.now) notes }
-    ensures { IfOk result (λ answer. answer ≡ one_line (export_text (erased_policy policy.now)) Verdict.Done) }
+    requires { (d : Data) × (notes : List Place)
+        × StandsForPolicy d (erased_policy policy.now) notes }
+    ensures { IfOk result (λ answer. answer
+        ≡ one_line (export_text (erased_policy policy.now)) Verdict.Done) }
 {
     let mut lines = Lines::new(alloc);
     push_bytes(&mut lines, export_policy(alloc, policy)?)?;

@@ -104,7 +104,8 @@ fn four_word_request(
     option: &str,
     name: &str,
 ) -> Result<Option<Request>, NoMemory>
-    ensures { IfOk result (λ request. request ≡ four_word_request word.now position.now option.now name.now) }
+    ensures { IfOk result (λ request. request
+        ≡ four_word_request word.now position.now option.now name.now) }
 {
     if word == "steps" && option == "--scene" {
         return steps_scene_request(alloc, name, number_of_word(position));
@@ -118,7 +119,8 @@ fn steps_scene_request(
     name: &str,
     position: Option<u32>,
 ) -> Result<Option<Request>, NoMemory>
-    ensures { IfOk result (λ request. request ≡ steps_scene_request (scene_stem name.now) position) }
+    ensures { IfOk result (λ request. request
+        ≡ steps_scene_request (scene_stem name.now) position) }
 {
     let stem = without_folder(name);
     if is_policy_name(stem) {

@@ -44,7 +44,8 @@ pub fn steps<H: Shelf>(
     ensures answer { IfSome (H.documents shelf.old) (λ all.
         Answers (λ answer. answer) (steps_step position scene.now input.now all) result) }
     ensures keeps { H.documents shelf.new ≡ H.documents shelf.old }
-    ensures asks { AsksShelf true (IsOk (export_step input.now)) shelf.old shelf.new (H.faults shelf.old) (H.faults shelf.new) result }
+    ensures asks { AsksShelf true (IsOk (export_step input.now)) shelf.old shelf.new
+        (H.faults shelf.old) (H.faults shelf.new) result }
 {
     let export = read_export(alloc, input)?;
     tell_policy(alloc, position, scene, &export.policy, shelf)
@@ -60,9 +61,11 @@ fn tell_policy<H: Shelf>(
     shelf: &mut H,
 ) -> Result<Answer, Halt>
     ensures answer { IfSome (H.documents shelf.old) (λ all.
-        Answers (λ answer. answer) (stepped_with position scene.now (erased_policy policy.now) all) result) }
+        Answers (λ answer. answer)
+        (stepped_with position scene.now (erased_policy policy.now) all) result) }
     ensures keeps { H.documents shelf.new ≡ H.documents shelf.old }
-    ensures asks { AsksShelf true ⊤ shelf.old shelf.new (H.faults shelf.old) (H.faults shelf.new) result }
+    ensures asks { AsksShelf true ⊤ shelf.old shelf.new (H.faults shelf.old)
+        (H.faults shelf.new) result }
 {
     let scene = named_scene(alloc, scene, shelf)?;
     let store = load_store(alloc, shelf)?;
@@ -114,7 +117,8 @@ fn tell_position(
 ) -> Result<Answer, Halt>
     requires within { AreWithinLimits (paths_of closed.now approvals.now) }
     ensures answer { Answers (λ answer. answer) (found_step (erased closed.now) position
-        (path_at (paths_of (erased closed.now) (map erased_document approvals.now)) position)) result }
+        (path_at (paths_of (erased closed.now) (map erased_document approvals.now)) position))
+        result }
     ensures inside { IsInside result }
 {
     if position == 0 || u64::from(position) > count_paths(closed, approvals) {

@@ -32,14 +32,16 @@ pub fn bridge_main<S: Source, K: Sink, H: Shelf>(
     // What is printed, answered and left on the shelf is the report of the words, the source's bytes (up to
     // byte 16,777,217) and the shelf's documents.
     ensures report { IsWhole result
-        → OfReport (map string_bytes words.now.items) (S.left source.old) (H.documents shelf.old) (λ report.
+        → OfReport (map string_bytes words.now.items) (S.left source.old) (H.documents shelf.old)
+        (λ report.
         (result ≡ status_of report.answer.verdict)
         × Grows (K.contents out.old) (K.contents out.new) (text_of report.answer.lines)
         × (H.documents shelf.new ≡ Some report.documents)) }
 
     // Where the sink failed, a first part of the report was written.
     ensures prefix { result ≡ Status.WriteFault
-        → OfReport (map string_bytes words.now.items) (S.left source.old) (H.documents shelf.old) (λ report.
+        → OfReport (map string_bytes words.now.items) (S.left source.old) (H.documents shelf.old)
+        (λ report.
         GrowsInPart (K.contents out.old) (K.contents out.new) (text_of report.answer.lines)
         × (H.documents shelf.new ≡ Some report.documents)) }
 
@@ -49,24 +51,32 @@ pub fn bridge_main<S: Source, K: Sink, H: Shelf>(
 
     // A command that reads the source reads it to its end, or to its byte 16,777,217, unless the source failed or
     // memory ran out, and never further.
-    ensures read_whole { IsTrue (reads_source (map string_bytes words.now.items)) → IsPastReading result
+    ensures read_whole { IsTrue (reads_source (map string_bytes words.now.items))
+        → IsPastReading result
         → IfSome (S.left source.old) (λ held. S.left source.new ≡ Some (drop most_read held)) }
     ensures read_at_most { LosesAtMost most_read (S.left source.old) (S.left source.new) }
 
     // Words that are no command leave the source alone; a command that names no scene and does not ask which
     // policies are approved leaves the shelf alone. The shelf is asked only once what was read is an export that
     // says a policy, or of `who` a scene.
-    ensures unread { reads_source (map string_bytes words.now.items) ≡ false → source.new ≡ source.old }
-    ensures untouched { uses_shelf (map string_bytes words.now.items) ≡ false → shelf.new ≡ shelf.old }
+    ensures unread { reads_source (map string_bytes words.now.items) ≡ false
+        → source.new ≡ source.old }
+    ensures untouched { uses_shelf (map string_bytes words.now.items) ≡ false
+        → shelf.new ≡ shelf.old }
     ensures asked { IfSome (S.left source.old) (λ held.
-        (shelf.new ≡ shelf.old) ⊎ IsReadableOf (map string_bytes words.now.items) (take most_read held)) }
+        (shelf.new ≡ shelf.old) ⊎ IsReadableOf (map string_bytes words.now.items)
+        (take most_read held)) }
 
     // Each fault comes only where its object failed in this call, and only of commands that use the object.
-    ensures read_fault { result ≡ Status.ReadFault → Rose (S.faults source.old) (S.faults source.new) }
+    ensures read_fault { result ≡ Status.ReadFault
+        → Rose (S.faults source.old) (S.faults source.new) }
     ensures write_fault { result ≡ Status.WriteFault → Rose (K.faults out.old) (K.faults out.new) }
-    ensures shelf_fault { result ≡ Status.ShelfFault → Rose (H.faults shelf.old) (H.faults shelf.new) }
-    ensures read_fault_of { result ≡ Status.ReadFault → IsTrue (reads_source (map string_bytes words.now.items)) }
-    ensures shelf_fault_of { result ≡ Status.ShelfFault → IsTrue (uses_shelf (map string_bytes words.now.items)) }
+    ensures shelf_fault { result ≡ Status.ShelfFault
+        → Rose (H.faults shelf.old) (H.faults shelf.new) }
+    ensures read_fault_of { result ≡ Status.ReadFault
+        → IsTrue (reads_source (map string_bytes words.now.items)) }
+    ensures shelf_fault_of { result ≡ Status.ShelfFault
+        → IsTrue (uses_shelf (map string_bytes words.now.items)) }
 
     // Each fault is told: a count rises in no call that answers otherwise.
     ensures read_told { (result ≡ Status.ReadFault) ⊎ (S.faults source.new ≡ S.faults source.old) }
@@ -91,7 +101,8 @@ pub fn bridge_main<S: Source, K: Sink, H: Shelf>(
     // exactly where it begins on none.
     ensures who_told { IfWho (request_of (map string_bytes words.now.items))
         (OfHeld (S.left source.old) (H.documents shelf.old) (λ input all.
-        IfDone (report_of (map string_bytes words.now.items) input all).answer (IsToldWho input all))) }
+        IfDone (report_of (map string_bytes words.now.items) input all).answer
+        (IsToldWho input all))) }
 {
     run_program::<Request, S, K, H>(alloc, words, source, out, shelf)
 }

@@ -80,7 +80,8 @@ fn write_number(bytes: &mut Blob, kind: u8, number: u32) -> Result<(), NoMemory>
 // Writes the number of moves, and the digest after each.
 fn write_digests(bytes: &mut Blob, moves: &[Move]) -> Result<(), NoMemory>
     requires few { length moves.now < 2 ^ 16 }
-    ensures { OnOk result (bytes.new ≡ bytes.old ++ spelling.spelled_digests (digests_along digest.zero_digest moves.now)) }
+    ensures { OnOk result (bytes.new
+        ≡ bytes.old ++ spelling.spelled_digests (digests_along digest.zero_digest moves.now)) }
 {
     bytes.extend_from_slice(&(moves.len() as u16).to_be_bytes())?;
     write_along(bytes, zero_digest(), moves)

@@ -37,7 +37,8 @@ pub fn check(
     bytes: &[u8],
 ) -> Result<u32, CertFault>
     requires within { AreWithinLimits (paths_of policy.now approvals.now) }
-    ensures certifies { IfOk result (λ position. Certifies bytes.now policy.now approvals.now position) }
+    ensures certifies { IfOk result
+        (λ position. Certifies bytes.now policy.now approvals.now position) }
     ensures digest { IfOk result (λ position. (path : OnePath)
         → slice_get (paths_of policy.now approvals.now) (position - 1) ≡ Some path
         → digest_of_moves path.moves ≡ policy_digest policy.now) }
@@ -92,7 +93,8 @@ fn judge(
 fn position_of(policy: &Closed, approvals: &Approvals, steps: &[Choice]) -> Result<u32, CertFault>
     requires ways { length (choices_of policy.now approvals.now) ≤ 65536 }
     requires few { length steps.now < 2 ^ 16 }
-    ensures leads { IfOk result (λ position. (1 ≤ position) × (slice_get (choices_of policy.now approvals.now) (position - 1) ≡ Some steps.now)) }
+    ensures leads { IfOk result (λ position. (1 ≤ position)
+        × (slice_get (choices_of policy.now approvals.now) (position - 1) ≡ Some steps.now)) }
     ensures lost { IfErr result (IsLost (choices_of policy.now approvals.now) steps.now) }
 {
     let scope = Scope {
@@ -122,7 +124,8 @@ fn first_difference(
     moves: &[Move],
 ) -> Option<u32>
     requires few { number + length moves.now < 2 ^ 32 }
-    ensures first { result ≡ judging.first_difference number digests.now (digests_along before moves.now) }
+    ensures first { result ≡ judging.first_difference number digests.now
+        (digests_along before moves.now) }
 {
     match moves {
         [] => match digests {

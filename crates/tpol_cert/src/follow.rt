@@ -42,10 +42,15 @@ pub fn follow_elements<'a>(
     count: u64,
     steps: &'a [Choice],
 ) -> Result<Led<'a>, Stray<'a>>
-    requires counted { count ≡ length (element_list_choices scope.now.approvals.now scope.now.levels elements.now) }
+    requires counted { count ≡ length
+        (element_list_choices scope.now.approvals.now scope.now.levels elements.now) }
     requires few { count ≤ 65536 }
-    ensures leads { IfOk result (λ led. Leads (element_list_choices scope.now.approvals.now scope.now.levels elements.now) steps.now led.index led.left.now) }
-    ensures strays { IfErr result (λ stray. IsStray (element_list_choices scope.now.approvals.now scope.now.levels elements.now) steps.now stray) }
+    ensures leads { IfOk result
+        (λ led. Leads (element_list_choices scope.now.approvals.now scope.now.levels elements.now)
+        steps.now led.index led.left.now) }
+    ensures strays { IfErr result
+        (λ stray. IsStray (element_list_choices scope.now.approvals.now scope.now.levels
+        elements.now) steps.now stray) }
 {
     match elements {
         ClosedElements::End => Ok(Led {
@@ -75,9 +80,14 @@ fn follow_element<'a>(
     element: &ClosedElement,
     steps: &'a [Choice],
 ) -> Result<Led<'a>, Stray<'a>>
-    requires few { length (element_choices scope.now.approvals.now scope.now.levels element.now) ≤ 65536 }
-    ensures leads { IfOk result (λ led. Leads (element_choices scope.now.approvals.now scope.now.levels element.now) steps.now led.index led.left.now) }
-    ensures strays { IfErr result (λ stray. IsStray (element_choices scope.now.approvals.now scope.now.levels element.now) steps.now stray) }
+    requires few { length (element_choices scope.now.approvals.now scope.now.levels element.now)
+        ≤ 65536 }
+    ensures leads { IfOk result
+        (λ led. Leads (element_choices scope.now.approvals.now scope.now.levels element.now)
+        steps.now led.index led.left.now) }
+    ensures strays { IfErr result
+        (λ stray. IsStray (element_choices scope.now.approvals.now scope.now.levels element.now)
+        steps.now stray) }
 {
     match element {
         ClosedElement::Assert(_) => Ok(Led {
@@ -99,9 +109,14 @@ fn follow_branch<'a>(
     position: u32,
     steps: &'a [Choice],
 ) -> Result<Led<'a>, Stray<'a>>
-    requires few { length (branch_choices scope.now.approvals.now scope.now.levels branches.now position) ≤ 65536 }
-    ensures leads { IfOk result (λ led. Leads (branch_choices scope.now.approvals.now scope.now.levels branches.now position) steps.now led.index led.left.now) }
-    ensures strays { IfErr result (λ stray. IsStray (branch_choices scope.now.approvals.now scope.now.levels branches.now position) steps.now stray) }
+    requires few { length (branch_choices scope.now.approvals.now scope.now.levels branches.now
+        position) ≤ 65536 }
+    ensures leads { IfOk result
+        (λ led. Leads (branch_choices scope.now.approvals.now scope.now.levels branches.now
+        position) steps.now led.index led.left.now) }
+    ensures strays { IfErr result
+        (λ stray. IsStray (branch_choices scope.now.approvals.now scope.now.levels branches.now
+        position) steps.now stray) }
 {
     match branches {
         ClosedBranches::End => Err(Stray::At(steps)),
@@ -135,9 +150,14 @@ fn follow_approval<'a>(
     element: &ClosedElement,
     steps: &'a [Choice],
 ) -> Result<Led<'a>, Stray<'a>>
-    requires few { length (approval_choices scope.now.approvals.now scope.now.levels element.now) ≤ 65536 }
-    ensures leads { IfOk result (λ led. Leads (approval_choices scope.now.approvals.now scope.now.levels element.now) steps.now led.index led.left.now) }
-    ensures strays { IfErr result (λ stray. IsStray (approval_choices scope.now.approvals.now scope.now.levels element.now) steps.now stray) }
+    requires few { length (approval_choices scope.now.approvals.now scope.now.levels element.now)
+        ≤ 65536 }
+    ensures leads { IfOk result
+        (λ led. Leads (approval_choices scope.now.approvals.now scope.now.levels element.now)
+        steps.now led.index led.left.now) }
+    ensures strays { IfErr result
+        (λ stray. IsStray (approval_choices scope.now.approvals.now scope.now.levels element.now)
+        steps.now stray) }
 {
     let mut passed = 0;
     if scope.levels > 0 {

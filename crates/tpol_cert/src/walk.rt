@@ -25,10 +25,13 @@ pub fn push_elements(
     index: u64,
     count: u64,
 ) -> Result<(), NoMemory>
-    requires counted { count ≡ length (element_list_choices scope.now.approvals.now scope.now.levels elements.now) }
+    requires counted { count ≡ length
+        (element_list_choices scope.now.approvals.now scope.now.levels elements.now) }
     requires few { count ≤ 65536 }
     requires inside { index < count }
-    ensures { OnOk result (GoesOn choices.old (element_list_choices scope.now.approvals.now scope.now.levels elements.now) index choices.new) }
+    ensures { OnOk result (GoesOn choices.old
+        (element_list_choices scope.now.approvals.now scope.now.levels elements.now) index
+        choices.new) }
 {
     match elements {
         ClosedElements::End => Ok(()),
@@ -49,9 +52,12 @@ fn push_element(
     element: &ClosedElement,
     index: u64,
 ) -> Result<(), NoMemory>
-    requires few { length (element_choices scope.now.approvals.now scope.now.levels element.now) ≤ 65536 }
-    requires inside { index < length (element_choices scope.now.approvals.now scope.now.levels element.now) }
-    ensures { OnOk result (GoesOn choices.old (element_choices scope.now.approvals.now scope.now.levels element.now) index choices.new) }
+    requires few { length (element_choices scope.now.approvals.now scope.now.levels element.now)
+        ≤ 65536 }
+    requires inside { index < length
+        (element_choices scope.now.approvals.now scope.now.levels element.now) }
+    ensures { OnOk result (GoesOn choices.old
+        (element_choices scope.now.approvals.now scope.now.levels element.now) index choices.new) }
 {
     match element {
         ClosedElement::Assert(_) => Ok(()),
@@ -71,9 +77,13 @@ fn push_branch(
     position: u32,
     index: u64,
 ) -> Result<(), NoMemory>
-    requires few { length (branch_choices scope.now.approvals.now scope.now.levels branches.now position) ≤ 65536 }
-    requires inside { index < length (branch_choices scope.now.approvals.now scope.now.levels branches.now position) }
-    ensures { OnOk result (GoesOn choices.old (branch_choices scope.now.approvals.now scope.now.levels branches.now position) index choices.new) }
+    requires few { length (branch_choices scope.now.approvals.now scope.now.levels branches.now
+        position) ≤ 65536 }
+    requires inside { index < length
+        (branch_choices scope.now.approvals.now scope.now.levels branches.now position) }
+    ensures { OnOk result (GoesOn choices.old
+        (branch_choices scope.now.approvals.now scope.now.levels branches.now position) index
+        choices.new) }
 {
     match branches {
         ClosedBranches::End => Ok(()),
@@ -106,9 +116,12 @@ fn push_approval(
     element: &ClosedElement,
     index: u64,
 ) -> Result<(), NoMemory>
-    requires few { length (approval_choices scope.now.approvals.now scope.now.levels element.now) ≤ 65536 }
-    requires inside { index < length (approval_choices scope.now.approvals.now scope.now.levels element.now) }
-    ensures { OnOk result (GoesOn choices.old (approval_choices scope.now.approvals.now scope.now.levels element.now) index choices.new) }
+    requires few { length (approval_choices scope.now.approvals.now scope.now.levels element.now)
+        ≤ 65536 }
+    requires inside { index < length
+        (approval_choices scope.now.approvals.now scope.now.levels element.now) }
+    ensures { OnOk result (GoesOn choices.old
+        (approval_choices scope.now.approvals.now scope.now.levels element.now) index choices.new) }
 {
     if scope.levels > 0 {
         let inside = Scope {

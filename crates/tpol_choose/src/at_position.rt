@@ -65,13 +65,15 @@ pub fn block_at<'a>(
 // The same by the index of the path, from 0.
 fn block_at_index(walk: &Walk<'_>, policy: &Closed, index: u64) -> Result<(), Block>
     requires branches { HasFewBranches policy.now.elements }
-    requires approved { All (λ document. HasFewBranches document.closed.elements) walk.now.approvals.now }
+    requires approved { All (λ document. HasFewBranches document.closed.elements)
+        walk.now.approvals.now }
     requires sight { IsSight walk.now.client.sight.now }
     requires levels { walk.now.levels ≡ 4 }
     requires within { AreWithinLimits (paths_of policy.now walk.now.approvals.now) }
     requires inside { index < length (paths_of policy.now walk.now.approvals.now) }
     ensures { IfSome (slice_get (paths_of policy.now walk.now.approvals.now) index)
-        (λ path. Breaks result (first_block path walk.now.client.sight.now walk.now.client.grants.now walk.now.client.goal.now walk.now.client.locality)) }
+        (λ path. Breaks result (first_block path walk.now.client.sight.now
+        walk.now.client.grants.now walk.now.client.goal.now walk.now.client.locality)) }
 {
     let count = count_ways(walk.approvals, walk.levels, &policy.elements);
     let track = Track::new(&walk.client);
@@ -91,13 +93,17 @@ fn go_elements(
     count: u64,
 ) -> Track
     requires branches { HasFewBranches elements.now }
-    requires approved { All (λ document. HasFewBranches document.closed.elements) walk.now.approvals.now }
+    requires approved { All (λ document. HasFewBranches document.closed.elements)
+        walk.now.approvals.now }
     requires sight { IsSight walk.now.client.sight.now }
-    requires counted { count ≡ length (at.element_list_ways walk.now.approvals.now walk.now.levels elements.now before) }
+    requires counted { count ≡ length
+        (at.element_list_ways walk.now.approvals.now walk.now.levels elements.now before) }
     requires few { count ≤ 65536 }
     requires inside { index < count }
-    ensures { (state : TrackState) → IsTrack track state → Goes (client_of_lent walk.now.client) state
-        (at.element_list_ways walk.now.approvals.now walk.now.levels elements.now before) index result }
+    ensures { (state : TrackState) → IsTrack track state
+        → Goes (client_of_lent walk.now.client) state
+        (at.element_list_ways walk.now.approvals.now walk.now.levels elements.now before) index
+        result }
 {
     match elements {
         ClosedElements::End => track,
@@ -134,12 +140,17 @@ fn go_element(
     index: u64,
 ) -> Behind
     requires branches { ElementHasFewBranches element.now }
-    requires approved { All (λ document. HasFewBranches document.closed.elements) walk.now.approvals.now }
+    requires approved { All (λ document. HasFewBranches document.closed.elements)
+        walk.now.approvals.now }
     requires sight { IsSight walk.now.client.sight.now }
-    requires few { length (at.element_ways walk.now.approvals.now walk.now.levels element.now before) ≤ 65536 }
-    requires inside { index < length (at.element_ways walk.now.approvals.now walk.now.levels element.now before) }
-    ensures track { (state : TrackState) → IsTrack track state → Goes (client_of_lent walk.now.client) state
-        (at.element_ways walk.now.approvals.now walk.now.levels element.now before) index result.track }
+    requires few { length (at.element_ways walk.now.approvals.now walk.now.levels element.now
+        before) ≤ 65536 }
+    requires inside { index < length
+        (at.element_ways walk.now.approvals.now walk.now.levels element.now before) }
+    ensures track { (state : TrackState) → IsTrack track state
+        → Goes (client_of_lent walk.now.client) state
+        (at.element_ways walk.now.approvals.now walk.now.levels element.now before) index
+        result.track }
     ensures digest { result.digest ≡ digest_at_element element.now before }
 {
     match element {
@@ -176,12 +187,17 @@ fn go_branches(
     index: u64,
 ) -> Track
     requires branches { BranchesHaveFewBranches branches.now }
-    requires approved { All (λ document. HasFewBranches document.closed.elements) walk.now.approvals.now }
+    requires approved { All (λ document. HasFewBranches document.closed.elements)
+        walk.now.approvals.now }
     requires sight { IsSight walk.now.client.sight.now }
-    requires few { length (at.branch_ways walk.now.approvals.now walk.now.levels branches.now 1 before) ≤ 65536 }
-    requires inside { index < length (at.branch_ways walk.now.approvals.now walk.now.levels branches.now 1 before) }
-    ensures { (state : TrackState) (position : ℕ) → IsTrack track state → Goes (client_of_lent walk.now.client) state
-        (at.branch_ways walk.now.approvals.now walk.now.levels branches.now position before) index result }
+    requires few { length (at.branch_ways walk.now.approvals.now walk.now.levels branches.now 1
+        before) ≤ 65536 }
+    requires inside { index < length
+        (at.branch_ways walk.now.approvals.now walk.now.levels branches.now 1 before) }
+    ensures { (state : TrackState) (position : ℕ) → IsTrack track state
+        → Goes (client_of_lent walk.now.client) state
+        (at.branch_ways walk.now.approvals.now walk.now.levels branches.now position before) index
+        result }
 {
     match branches {
         ClosedBranches::End => track,
@@ -200,11 +216,15 @@ fn go_branches(
 // The same of an element that asks for an approval.
 #[cycle(at_position)]
 fn go_approval(walk: &Walk<'_>, track: Track, element: &ClosedElement, index: u64) -> Track
-    requires approved { All (λ document. HasFewBranches document.closed.elements) walk.now.approvals.now }
+    requires approved { All (λ document. HasFewBranches document.closed.elements)
+        walk.now.approvals.now }
     requires sight { IsSight walk.now.client.sight.now }
-    requires few { length (at.approval_ways walk.now.approvals.now walk.now.levels element.now) ≤ 65536 }
-    requires inside { index < length (at.approval_ways walk.now.approvals.now walk.now.levels element.now) }
-    ensures { (state : TrackState) → IsTrack track state → Goes (client_of_lent walk.now.client) state
+    requires few { length (at.approval_ways walk.now.approvals.now walk.now.levels element.now)
+        ≤ 65536 }
+    requires inside { index < length
+        (at.approval_ways walk.now.approvals.now walk.now.levels element.now) }
+    ensures { (state : TrackState) → IsTrack track state
+        → Goes (client_of_lent walk.now.client) state
         (at.approval_ways walk.now.approvals.now walk.now.levels element.now) index result }
 {
     let mut left = index;
@@ -232,7 +252,8 @@ fn go_approval(walk: &Walk<'_>, track: Track, element: &ClosedElement, index: u6
 fn go_outside(walk: &Walk<'_>, track: Track, element: &ClosedElement) -> Track
     requires sight { IsSight walk.now.client.sight.now }
     requires some { 0 < length (paths.outside_paths element.now) }
-    ensures { (state : TrackState) → IsTrack track state → Goes (client_of_lent walk.now.client) state
+    ensures { (state : TrackState) → IsTrack track state
+        → Goes (client_of_lent walk.now.client) state
         (paths.outside_paths element.now) 0 result }
 {
     match outside_approval(element) {

@@ -46,7 +46,8 @@ pub fn blocks<'a>(
     requires within { AreWithinLimits (paths_of policy.now approvals.now) }
     requires sight { IsSight sight.now }
     ensures { IfOk result (λ blocks. blocks.items
-        ≡ map (λ path. first_block path sight.now grants.now goal.now locality) (paths_of policy.now approvals.now)) }
+        ≡ map (λ path. first_block path sight.now grants.now goal.now locality)
+        (paths_of policy.now approvals.now)) }
 {
     let walk = Walk {
         client: Client {
@@ -70,12 +71,14 @@ fn push_policy(
     found: &mut Vec<Option<Block>>,
 ) -> Result<(), NoMemory>
     requires branches { HasFewBranches policy.now.elements }
-    requires approved { All (λ document. HasFewBranches document.closed.elements) walk.now.approvals.now }
+    requires approved { All (λ document. HasFewBranches document.closed.elements)
+        walk.now.approvals.now }
     requires sight { IsSight walk.now.client.sight.now }
     requires levels { walk.now.levels ≡ 4 }
     requires within { AreWithinLimits (paths_of policy.now walk.now.approvals.now) }
     ensures { OnOk result (found.new.items ≡ found.old.items
-        ++ map (block_on (client_of_lent walk.now.client)) (paths_of policy.now walk.now.approvals.now)) }
+        ++ map (block_on (client_of_lent walk.now.client))
+        (paths_of policy.now walk.now.approvals.now)) }
 {
     let track = Track::new(&walk.client);
     push_elements(
@@ -100,11 +103,14 @@ fn push_elements<'a>(
     found: &mut Vec<Option<Block>>,
 ) -> Result<(), NoMemory>
     requires branches { HasFewBranches elements.now }
-    requires approved { All (λ document. HasFewBranches document.closed.elements) walk.now.approvals.now }
+    requires approved { All (λ document. HasFewBranches document.closed.elements)
+        walk.now.approvals.now }
     requires sight { IsSight walk.now.client.sight.now }
     requires ahead { HasFewBranchesAhead ahead.now }
-    ensures { (state : TrackState) → IsTrack track state → OnOk result (found.new.items ≡ found.old.items
-        ++ spec.blocks_of (client_of_lent walk.now.client) (spec.blocks_ahead (client_of_lent walk.now.client) walk.now.approvals.now ahead.now)
+    ensures { (state : TrackState) → IsTrack track state
+        → OnOk result (found.new.items ≡ found.old.items
+        ++ spec.blocks_of (client_of_lent walk.now.client)
+        (spec.blocks_ahead (client_of_lent walk.now.client) walk.now.approvals.now ahead.now)
         state (at.element_list_ways walk.now.approvals.now walk.now.levels elements.now before)) }
 {
     match elements {
@@ -128,12 +134,15 @@ fn push_element<'a>(
 ) -> Result<(), NoMemory>
     requires branches { ElementHasFewBranches element.now }
     requires rest { HasFewBranches rest.now }
-    requires approved { All (λ document. HasFewBranches document.closed.elements) walk.now.approvals.now }
+    requires approved { All (λ document. HasFewBranches document.closed.elements)
+        walk.now.approvals.now }
     requires sight { IsSight walk.now.client.sight.now }
     requires ahead { HasFewBranchesAhead ahead.now }
-    ensures { (state : TrackState) → IsTrack track state → OnOk result (found.new.items ≡ found.old.items
+    ensures { (state : TrackState) → IsTrack track state
+        → OnOk result (found.new.items ≡ found.old.items
         ++ spec.blocks_of (client_of_lent walk.now.client)
-        (spec.blocks_rest (client_of_lent walk.now.client) walk.now.approvals.now walk.now.levels rest.now (digest_at_element element.now before) ahead.now)
+        (spec.blocks_rest (client_of_lent walk.now.client) walk.now.approvals.now walk.now.levels
+        rest.now (digest_at_element element.now before) ahead.now)
         state (at.element_ways walk.now.approvals.now walk.now.levels element.now before)) }
 {
     match element {
@@ -174,12 +183,16 @@ fn push_branches<'a>(
     found: &mut Vec<Option<Block>>,
 ) -> Result<(), NoMemory>
     requires branches { BranchesHaveFewBranches branches.now }
-    requires approved { All (λ document. HasFewBranches document.closed.elements) walk.now.approvals.now }
+    requires approved { All (λ document. HasFewBranches document.closed.elements)
+        walk.now.approvals.now }
     requires sight { IsSight walk.now.client.sight.now }
     requires ahead { HasFewBranchesAhead ahead.now }
-    ensures { (state : TrackState) (position : ℕ) → IsTrack track state → OnOk result (found.new.items ≡ found.old.items
-        ++ spec.blocks_of (client_of_lent walk.now.client) (spec.blocks_ahead (client_of_lent walk.now.client) walk.now.approvals.now ahead.now)
-        state (at.branch_ways walk.now.approvals.now walk.now.levels branches.now position before)) }
+    ensures { (state : TrackState) (position : ℕ) → IsTrack track state
+        → OnOk result (found.new.items ≡ found.old.items
+        ++ spec.blocks_of (client_of_lent walk.now.client)
+        (spec.blocks_ahead (client_of_lent walk.now.client) walk.now.approvals.now ahead.now)
+        state (at.branch_ways walk.now.approvals.now walk.now.levels branches.now position
+        before)) }
 {
     match branches {
         ClosedBranches::End => Ok(()),
@@ -204,12 +217,15 @@ fn push_approvals<'a>(
 ) -> Result<(), NoMemory>
     requires asks { length (outside_paths element.now) ≡ 1 }
     requires rest { HasFewBranches rest.now }
-    requires approved { All (λ document. HasFewBranches document.closed.elements) walk.now.approvals.now }
+    requires approved { All (λ document. HasFewBranches document.closed.elements)
+        walk.now.approvals.now }
     requires sight { IsSight walk.now.client.sight.now }
     requires ahead { HasFewBranchesAhead ahead.now }
-    ensures { (state : TrackState) → IsTrack track state → OnOk result (found.new.items ≡ found.old.items
+    ensures { (state : TrackState) → IsTrack track state
+        → OnOk result (found.new.items ≡ found.old.items
         ++ spec.blocks_of (client_of_lent walk.now.client)
-        (spec.blocks_rest (client_of_lent walk.now.client) walk.now.approvals.now walk.now.levels rest.now after ahead.now)
+        (spec.blocks_rest (client_of_lent walk.now.client) walk.now.approvals.now walk.now.levels
+        rest.now after ahead.now)
         state (at.approval_ways walk.now.approvals.now walk.now.levels element.now)) }
 {
     push_documents(walk, track, element, rest, after, ahead, found)?;
@@ -234,13 +250,17 @@ fn push_documents<'a>(
     found: &mut Vec<Option<Block>>,
 ) -> Result<(), NoMemory>
     requires rest { HasFewBranches rest.now }
-    requires approved { All (λ document. HasFewBranches document.closed.elements) walk.now.approvals.now }
+    requires approved { All (λ document. HasFewBranches document.closed.elements)
+        walk.now.approvals.now }
     requires sight { IsSight walk.now.client.sight.now }
     requires ahead { HasFewBranchesAhead ahead.now }
-    ensures { (state : TrackState) → IsTrack track state → OnOk result (found.new.items ≡ found.old.items
+    ensures { (state : TrackState) → IsTrack track state
+        → OnOk result (found.new.items ≡ found.old.items
         ++ spec.blocks_of (client_of_lent walk.now.client)
-        (spec.blocks_rest (client_of_lent walk.now.client) walk.now.approvals.now walk.now.levels rest.now after ahead.now)
-        state (approved_paths (document_paths walk.now.approvals.now walk.now.levels) walk.now.approvals.now element.now)) }
+        (spec.blocks_rest (client_of_lent walk.now.client) walk.now.approvals.now walk.now.levels
+        rest.now after ahead.now)
+        state (approved_paths (document_paths walk.now.approvals.now walk.now.levels)
+        walk.now.approvals.now element.now)) }
 {
     if walk.levels == 0 {
         return Ok(());
@@ -274,11 +294,14 @@ fn push_ahead<'a>(
     ahead: &'a Ahead<'a>,
     found: &mut Vec<Option<Block>>,
 ) -> Result<(), NoMemory>
-    requires approved { All (λ document. HasFewBranches document.closed.elements) walk.now.approvals.now }
+    requires approved { All (λ document. HasFewBranches document.closed.elements)
+        walk.now.approvals.now }
     requires sight { IsSight walk.now.client.sight.now }
     requires ahead { HasFewBranchesAhead ahead.now }
-    ensures { (state : TrackState) → IsTrack track state → OnOk result (found.new.items ≡ found.old.items
-        ++ spec.blocks_ahead (client_of_lent walk.now.client) walk.now.approvals.now ahead.now state) }
+    ensures { (state : TrackState) → IsTrack track state
+        → OnOk result (found.new.items ≡ found.old.items
+        ++ spec.blocks_ahead (client_of_lent walk.now.client) walk.now.approvals.now ahead.now
+        state) }
 {
     match ahead {
         Ahead::Nothing => push_end(walk, &track, found),
@@ -304,7 +327,8 @@ fn push_ahead<'a>(
 // The same of the end of a way.
 fn push_end(walk: &Walk<'_>, track: &Track, found: &mut Vec<Option<Block>>) -> Result<(), NoMemory>
     requires sight { IsSight walk.now.client.sight.now }
-    ensures { (state : TrackState) → IsTrack track.now state → OnOk result (found.new.items ≡ found.old.items
+    ensures { (state : TrackState) → IsTrack track.now state
+        → OnOk result (found.new.items ≡ found.old.items
         ++ spec.block_at_the_end (client_of_lent walk.now.client) state) }
 {
     found.push(track.end(&walk.client).err())?;

@@ -29,7 +29,8 @@ pub fn choose<'a>(
     requires few { HaveFewBranches policy.now approvals.now }
     requires within { AreWithinLimits (paths_of policy.now approvals.now) }
     requires sight { IsSight sight.now }
-    ensures chosen { result ≡ chosen_path (paths_of policy.now approvals.now) sight.now grants.now goal.now locality }
+    ensures chosen { result ≡ chosen_path
+        (paths_of policy.now approvals.now) sight.now grants.now goal.now locality }
 {
     if sight.free_sessions == 0 {
         return None;

@@ -30,7 +30,8 @@ impl GoalHashes {
     // Those of a goal on a machine as a sight shows it.
     pub fn of(sight: &Sight, goal: &Goal) -> GoalHashes
         ensures cp_hash { result.cp_hash ≡ spec.goal_cp_hash (name_in_sight sight.now) goal.now }
-        ensures name_hash { result.name_hash ≡ spec.goal_name_hash (name_in_sight sight.now) goal.now }
+        ensures name_hash { result.name_hash
+            ≡ spec.goal_name_hash (name_in_sight sight.now) goal.now }
     {
         GoalHashes {
             cp_hash: goal.cp_hash(sight),

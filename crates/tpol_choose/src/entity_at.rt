@@ -78,7 +78,8 @@ impl<'a> EntityAt<'a> {
 
     // Whether a directory lists the Name that it has as it is. No other one than that of an index differs.
     pub fn is_listed_as_is(&self) -> bool
-        ensures { result ≡ is_same_name (spec.name_as_is self.now.handle (entity_of self.now.entity))
+        ensures { result ≡ is_same_name
+            (spec.name_as_is self.now.handle (entity_of self.now.entity))
             (spec.name_in_directory self.now.handle (entity_of self.now.entity)) }
     {
         match self.entity {

@@ -34,8 +34,11 @@ pub fn check_goal(client: &Client<'_>, session: &Standing) -> Result<(), Why>
 
 // The authorization of the goal, and then its own rules.
 fn check_judged(client: &Client<'_>, session: &Standing, goal: &Judged<'_>) -> Result<(), Why>
-    ensures { (state : SessionState) (own : Option ℕ) → session.now ≡ standing_of state → Obeys goal.now.rule own
-        → Breaks result (or_else (spec.authorization_block (client_of_lent client.now) state (entity_of_lent goal.now.found)) (spec.own_block own)) }
+    ensures { (state : SessionState) (own : Option ℕ) → session.now ≡ standing_of state
+        → Obeys goal.now.rule own
+        → Breaks result (or_else
+        (spec.authorization_block (client_of_lent client.now) state (entity_of_lent goal.now.found))
+        (spec.own_block own)) }
 {
     check_authorization(client, session, &goal.found)?;
     check_rule(goal.rule)
@@ -58,7 +61,8 @@ fn check_authorization(
     found: &EntityAt<'_>,
 ) -> Result<(), Why>
     ensures { (state : SessionState) → session.now ≡ standing_of state
-        → Breaks result (spec.authorization_block (client_of_lent client.now) state (entity_of_lent found.now)) }
+        → Breaks result (spec.authorization_block (client_of_lent client.now) state
+        (entity_of_lent found.now)) }
 {
     let code = client.goal.code().number();
     if !found.entity.is_policy_available(code) {
@@ -79,7 +83,8 @@ fn check_deferred(
     found: &EntityAt<'_>,
 ) -> Result<(), Check>
     ensures { (state : SessionState) → session.now ≡ standing_of state
-        → Breaks result (spec.broken_check (client_of_lent client.now) state (entity_of_lent found.now)) }
+        → Breaks result (spec.broken_check (client_of_lent client.now) state
+        (entity_of_lent found.now)) }
 {
     let occasion = goal_use(client, found);
     let right = proves(client, found, session.bindings.last_auth());

@@ -45,7 +45,8 @@ pub fn can(
 ) -> Result<(), Block>
     requires sight { IsSight sight.now }
     requires moves { length path.now.moves ≤ 512 }
-    ensures block { Breaks result (spec.first_block path.now sight.now grants.now goal.now locality) }
+    ensures block { Breaks result
+        (spec.first_block path.now sight.now grants.now goal.now locality) }
 {
     let client = Client {
         sight,
@@ -109,9 +110,11 @@ fn make_move(
     requires sight { IsSight client.now.sight.now }
     requires start { session.now.start ≤ 2 ^ 63 }
     ensures block { (state : SessionState) → session.now ≡ standing_of state
-        → Breaks result (spec.block_of number (move_block (client_of_lent client.now) state act.now)) }
+        → Breaks result (spec.block_of number
+        (move_block (client_of_lent client.now) state act.now)) }
     ensures after { (state : SessionState) → session.now ≡ standing_of state
-        → IfOk result (λ after. after ≡ standing_of (facts.session_after client.now.sight.now state act.now)) }
+        → IfOk result (λ after. after
+        ≡ standing_of (facts.session_after client.now.sight.now state act.now)) }
 {
     let lent = Act::of(act, session.digest);
     at(number, check_move(client, session, &lent))?;
@@ -121,7 +124,8 @@ fn make_move(
 
 // What stands in the way here.
 pub fn at(number: u32, outcome: Result<(), Why>) -> Result<(), Block>
-    ensures { (why : Option OneWhy) → Breaks outcome why → Breaks result (spec.block_of number why) }
+    ensures { (why : Option OneWhy) → Breaks outcome why
+        → Breaks result (spec.block_of number why) }
 {
     match outcome {
         Ok(()) => Ok(()),

@@ -37,11 +37,14 @@ pub enum Search {
 // Looks for the first way through a policy that can be gone.
 pub fn search_policy(walk: &Walk<'_>, policy: &Closed) -> Search
     requires branches { HasFewBranches policy.now.elements }
-    requires approved { All (λ document. HasFewBranches document.closed.elements) walk.now.approvals.now }
+    requires approved { All (λ document. HasFewBranches document.closed.elements)
+        walk.now.approvals.now }
     requires sight { IsSight walk.now.client.sight.now }
     requires levels { walk.now.levels ≡ 4 }
-    ensures found { result ≡ spec.search_ways (client_of_lent walk.now.client) (spec.search_end (client_of_lent walk.now.client))
-        (fresh_track (client_of_lent walk.now.client)) 0 (paths_of policy.now walk.now.approvals.now) }
+    ensures found { result ≡ spec.search_ways (client_of_lent walk.now.client)
+        (spec.search_end (client_of_lent walk.now.client))
+        (fresh_track (client_of_lent walk.now.client)) 0
+        (paths_of policy.now walk.now.approvals.now) }
     ensures counted { spec.IsCounted result }
 {
     let track = Track::new(&walk.client);
@@ -67,12 +70,15 @@ fn search_elements<'a>(
     passed: u64,
 ) -> Search
     requires branches { HasFewBranches elements.now }
-    requires approved { All (λ document. HasFewBranches document.closed.elements) walk.now.approvals.now }
+    requires approved { All (λ document. HasFewBranches document.closed.elements)
+        walk.now.approvals.now }
     requires sight { IsSight walk.now.client.sight.now }
     requires ahead { HasFewBranchesAhead ahead.now }
     ensures { (state : TrackState) → IsTrack track state
-        → result ≡ spec.search_ways (client_of_lent walk.now.client) (spec.search_ahead (client_of_lent walk.now.client) walk.now.approvals.now ahead.now)
-        state passed (at.element_list_ways walk.now.approvals.now walk.now.levels elements.now before) }
+        → result ≡ spec.search_ways (client_of_lent walk.now.client)
+        (spec.search_ahead (client_of_lent walk.now.client) walk.now.approvals.now ahead.now)
+        state passed (at.element_list_ways walk.now.approvals.now walk.now.levels elements.now
+        before) }
 {
     if track.is_hopeless(&walk.client) {
         return pass_over(walk, elements, ahead, passed);
@@ -98,12 +104,14 @@ fn search_element<'a>(
 ) -> Search
     requires branches { ElementHasFewBranches element.now }
     requires rest { HasFewBranches rest.now }
-    requires approved { All (λ document. HasFewBranches document.closed.elements) walk.now.approvals.now }
+    requires approved { All (λ document. HasFewBranches document.closed.elements)
+        walk.now.approvals.now }
     requires sight { IsSight walk.now.client.sight.now }
     requires ahead { HasFewBranchesAhead ahead.now }
     ensures { (state : TrackState) → IsTrack track state
         → result ≡ spec.search_ways (client_of_lent walk.now.client)
-        (spec.search_rest (client_of_lent walk.now.client) walk.now.approvals.now walk.now.levels rest.now (digest_at_element element.now before) ahead.now)
+        (spec.search_rest (client_of_lent walk.now.client) walk.now.approvals.now walk.now.levels
+        rest.now (digest_at_element element.now before) ahead.now)
         state passed (at.element_ways walk.now.approvals.now walk.now.levels element.now before) }
 {
     match element {
@@ -144,12 +152,15 @@ fn search_branches<'a>(
     passed: u64,
 ) -> Search
     requires branches { BranchesHaveFewBranches branches.now }
-    requires approved { All (λ document. HasFewBranches document.closed.elements) walk.now.approvals.now }
+    requires approved { All (λ document. HasFewBranches document.closed.elements)
+        walk.now.approvals.now }
     requires sight { IsSight walk.now.client.sight.now }
     requires ahead { HasFewBranchesAhead ahead.now }
     ensures { (state : TrackState) (position : ℕ) → IsTrack track state
-        → result ≡ spec.search_ways (client_of_lent walk.now.client) (spec.search_ahead (client_of_lent walk.now.client) walk.now.approvals.now ahead.now)
-        state passed (at.branch_ways walk.now.approvals.now walk.now.levels branches.now position before) }
+        → result ≡ spec.search_ways (client_of_lent walk.now.client)
+        (spec.search_ahead (client_of_lent walk.now.client) walk.now.approvals.now ahead.now)
+        state passed (at.branch_ways walk.now.approvals.now walk.now.levels branches.now position
+        before) }
 {
     match branches {
         ClosedBranches::End => Search::Passed(passed),
@@ -177,12 +188,14 @@ fn search_approvals<'a>(
 ) -> Search
     requires asks { length (outside_paths element.now) ≡ 1 }
     requires rest { HasFewBranches rest.now }
-    requires approved { All (λ document. HasFewBranches document.closed.elements) walk.now.approvals.now }
+    requires approved { All (λ document. HasFewBranches document.closed.elements)
+        walk.now.approvals.now }
     requires sight { IsSight walk.now.client.sight.now }
     requires ahead { HasFewBranchesAhead ahead.now }
     ensures { (state : TrackState) → IsTrack track state
         → result ≡ spec.search_ways (client_of_lent walk.now.client)
-        (spec.search_rest (client_of_lent walk.now.client) walk.now.approvals.now walk.now.levels rest.now after ahead.now)
+        (spec.search_rest (client_of_lent walk.now.client) walk.now.approvals.now walk.now.levels
+        rest.now after ahead.now)
         state passed (at.approval_ways walk.now.approvals.now walk.now.levels element.now) }
 {
     match search_documents(walk, track, element, rest, after, ahead, passed) {
@@ -203,13 +216,17 @@ fn search_documents<'a>(
     passed: u64,
 ) -> Search
     requires rest { HasFewBranches rest.now }
-    requires approved { All (λ document. HasFewBranches document.closed.elements) walk.now.approvals.now }
+    requires approved { All (λ document. HasFewBranches document.closed.elements)
+        walk.now.approvals.now }
     requires sight { IsSight walk.now.client.sight.now }
     requires ahead { HasFewBranchesAhead ahead.now }
     ensures { (state : TrackState) → IsTrack track state
         → result ≡ spec.search_ways (client_of_lent walk.now.client)
-        (spec.search_rest (client_of_lent walk.now.client) walk.now.approvals.now walk.now.levels rest.now after ahead.now)
-        state passed (approved_paths (document_paths walk.now.approvals.now walk.now.levels) walk.now.approvals.now element.now) }
+        (spec.search_rest (client_of_lent walk.now.client) walk.now.approvals.now walk.now.levels
+        rest.now after ahead.now)
+        state passed (approved_paths
+        (document_paths walk.now.approvals.now walk.now.levels) walk.now.approvals.now
+        element.now) }
 {
     if walk.levels == 0 {
         return Search::Passed(passed);
@@ -242,11 +259,13 @@ fn search_documents<'a>(
 // The same of what comes behind a branch or a document.
 #[cycle(searching)]
 fn search_ahead<'a>(walk: &Walk<'_>, track: Track, ahead: &'a Ahead<'a>, passed: u64) -> Search
-    requires approved { All (λ document. HasFewBranches document.closed.elements) walk.now.approvals.now }
+    requires approved { All (λ document. HasFewBranches document.closed.elements)
+        walk.now.approvals.now }
     requires sight { IsSight walk.now.client.sight.now }
     requires ahead { HasFewBranchesAhead ahead.now }
     ensures { (state : TrackState) → IsTrack track state
-        → result ≡ spec.search_ahead (client_of_lent walk.now.client) walk.now.approvals.now ahead.now state passed }
+        → result ≡ spec.search_ahead
+        (client_of_lent walk.now.client) walk.now.approvals.now ahead.now state passed }
 {
     match ahead {
         Ahead::Nothing => search_end(walk, &track, passed),
@@ -285,7 +304,8 @@ fn search_end(walk: &Walk<'_>, track: &Track, passed: u64) -> Search
 // Passes over all ways through elements and what comes behind them.
 fn pass_over(walk: &Walk<'_>, elements: &ClosedElements, ahead: &Ahead<'_>, passed: u64) -> Search
     ensures { result ≡ found.Passed (spec.passed_more passed
-        ((extent_at (document_extent walk.now.approvals.now walk.now.levels) walk.now.approvals.now elements.now).paths
+        ((extent_at (document_extent walk.now.approvals.now walk.now.levels) walk.now.approvals.now
+        elements.now).paths
         * ways_ahead walk.now.approvals.now ahead.now)) }
 {
     let first = count_ways(walk.approvals, walk.levels, elements);

@@ -56,7 +56,8 @@ pub fn session_after(
 
 // The digest with the fact of one more move.
 fn digest_after(sight: &Sight, before: Digest32, act: &Act<'_>) -> Digest32
-    ensures { (state : SessionState) → result ≡ digest_after (spec.fact_of_move sight.now state (move_of act.now)).act before }
+    ensures { (state : SessionState)
+        → result ≡ digest_after (spec.fact_of_move sight.now state (move_of act.now)).act before }
 {
     match *act {
         Act::Assert(step) => digest_after_assertion(sight, before, &step),
@@ -72,7 +73,9 @@ fn digest_after(sight: &Sight, before: Digest32, act: &Act<'_>) -> Digest32
 
 // The same of an assertion. That of PolicySecret has the Name that the entity has as it is.
 fn digest_after_assertion(sight: &Sight, before: Digest32, step: &AssertMove<'_>) -> Digest32
-    ensures { (state : SessionState) → result ≡ digest_after (spec.fact_of_assertion sight.now state step.now.assertion.now).act before }
+    ensures { (state : SessionState)
+        → result ≡ digest_after (spec.fact_of_assertion sight.now state step.now.assertion.now).act
+        before }
 {
     match step.assertion {
         Assertion::Secret {

@@ -52,7 +52,8 @@ impl Track {
     pub fn after(self, client: &Client<'_>, act: &Act<'_>) -> Track
         requires sight { IsSight client.now.sight.now }
         ensures { (track : TrackState) → IsTrack self track
-            → IsTrack result (spec.track_after (client_of_lent client.now) track (move_of act.now)) }
+            → IsTrack result (spec.track_after (client_of_lent client.now) track
+            (move_of act.now)) }
     {
         let number = self.done.saturating_add(1);
         let bindings = bindings_after(&self.session, act);
@@ -90,7 +91,8 @@ impl Track {
 
     // By a policy that no listed document has.
     pub fn outside(self) -> Track
-        ensures { (track : TrackState) → IsTrack self track → IsTrack result (spec.gone_outside track) }
+        ensures { (track : TrackState) → IsTrack self track
+            → IsTrack result (spec.gone_outside track) }
     {
         Track {
             session: self.session,

@@ -15,7 +15,8 @@ use tpol_tree::Assertion;
 /// command of the assertion's name).
 pub fn extend(old: Digest32, assertion: &Assertion) -> Digest32
     ensures digest { result ≡ digest_after_assertion assertion.now old }
-    ensures term { (t : Term) → old ≡ bytes_of_term t → result ≡ bytes_of_term (term_after_assertion assertion.now t) }
+    ensures term { (t : Term) → old ≡ bytes_of_term t
+        → result ≡ bytes_of_term (term_after_assertion assertion.now t) }
 {
     let mut hasher = start(&old, code_of_assertion(assertion));
     put_comparison(&mut hasher, assertion);

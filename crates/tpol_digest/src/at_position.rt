@@ -45,13 +45,17 @@ pub fn path_at(
     position: u32,
 ) -> Result<Path, NoMemory>
     requires within { AreWithinLimits (spec.paths_of policy.now approvals.now) }
-    requires positions { (1 ≤ position) × (position ≤ length (spec.paths_of policy.now approvals.now)) }
-    ensures path { IfOk result (λ path. slice_get (spec.paths_of policy.now approvals.now) (position - 1) ≡ Some path) }
+    requires positions { (1 ≤ position)
+        × (position ≤ length (spec.paths_of policy.now approvals.now)) }
+    ensures path { IfOk result
+        (λ path. slice_get (spec.paths_of policy.now approvals.now) (position - 1) ≡ Some path) }
     ensures outside { IfOk result (λ path. path.outside ≡ list_any spec.is_outside path.steps) }
 
     // All branches meet.
-    ensures digest { IfOk result (λ path. digest.digest_of_moves path.moves ≡ digest.policy_digest policy.now) }
-    ensures sound { IsWellFormed policy.now approvals.now → IfOk result (λ path. IsSound path.moves) }
+    ensures digest { IfOk result (λ path. digest.digest_of_moves path.moves
+        ≡ digest.policy_digest policy.now) }
+    ensures sound { IsWellFormed policy.now approvals.now
+        → IfOk result (λ path. IsSound path.moves) }
     ensures outside_first { IsWellFormed policy.now approvals.now
         → IfOk result (λ path. IsTrue path.outside → spec.BeginsWithZeroApproval path.moves) }
 {
@@ -106,10 +110,14 @@ fn push_from_zero(
     index: u64,
     count: u64,
 ) -> Result<(), NoMemory>
-    requires counted { count ≡ length (at.element_list_ways walk.now.approvals.now walk.now.levels elements.now digest.zero_digest) }
+    requires counted { count ≡ length
+        (at.element_list_ways walk.now.approvals.now walk.now.levels elements.now
+        digest.zero_digest) }
     requires few { count ≤ 65536 }
     requires inside { index < count }
-    ensures { OnOk result (at.GoesOn path.old (at.element_list_ways walk.now.approvals.now walk.now.levels elements.now digest.zero_digest) index path.new) }
+    ensures { OnOk result (at.GoesOn path.old
+        (at.element_list_ways walk.now.approvals.now walk.now.levels elements.now
+        digest.zero_digest) index path.new) }
 {
     if has_or(elements) {
         let _ = push_elements(walk, path, elements, zero_digest(), index, count)?;
@@ -129,10 +137,14 @@ fn push_unbranched(
     count: u64,
 ) -> Result<(), NoMemory>
     requires unbranched { at.has_or elements.now ≡ false }
-    requires counted { count ≡ length (at.element_list_ways walk.now.approvals.now walk.now.levels elements.now digest.zero_digest) }
+    requires counted { count ≡ length
+        (at.element_list_ways walk.now.approvals.now walk.now.levels elements.now
+        digest.zero_digest) }
     requires few { count ≤ 65536 }
     requires inside { index < count }
-    ensures { OnOk result (at.GoesOn path.old (at.element_list_ways walk.now.approvals.now walk.now.levels elements.now digest.zero_digest) index path.new) }
+    ensures { OnOk result (at.GoesOn path.old
+        (at.element_list_ways walk.now.approvals.now walk.now.levels elements.now
+        digest.zero_digest) index path.new) }
 {
     match elements {
         ClosedElements::End => Ok(()),
@@ -154,9 +166,13 @@ fn push_unbranched_element(
     index: u64,
 ) -> Result<(), NoMemory>
     requires unbranched { at.is_or element.now ≡ false }
-    requires few { length (at.element_ways walk.now.approvals.now walk.now.levels element.now digest.zero_digest) ≤ 65536 }
-    requires inside { index < length (at.element_ways walk.now.approvals.now walk.now.levels element.now digest.zero_digest) }
-    ensures { OnOk result (at.GoesOn path.old (at.element_ways walk.now.approvals.now walk.now.levels element.now digest.zero_digest) index path.new) }
+    requires few { length (at.element_ways walk.now.approvals.now walk.now.levels element.now
+        digest.zero_digest) ≤ 65536 }
+    requires inside { index < length
+        (at.element_ways walk.now.approvals.now walk.now.levels element.now digest.zero_digest) }
+    ensures { OnOk result (at.GoesOn path.old
+        (at.element_ways walk.now.approvals.now walk.now.levels element.now digest.zero_digest)
+        index path.new) }
 {
     match element {
         ClosedElement::Assert(assertion) => path
@@ -179,11 +195,14 @@ fn push_elements(
     index: u64,
     count: u64,
 ) -> Result<Digest32, NoMemory>
-    requires counted { count ≡ length (at.element_list_ways walk.now.approvals.now walk.now.levels elements.now before) }
+    requires counted { count ≡ length
+        (at.element_list_ways walk.now.approvals.now walk.now.levels elements.now before) }
     requires few { count ≤ 65536 }
     requires inside { index < count }
     ensures digest { IfOk result (λ after. after ≡ digest.digest_at elements.now before) }
-    ensures path { OnOk result (at.GoesOn path.old (at.element_list_ways walk.now.approvals.now walk.now.levels elements.now before) index path.new) }
+    ensures path { OnOk result
+        (at.GoesOn path.old (at.element_list_ways walk.now.approvals.now walk.now.levels
+        elements.now before) index path.new) }
 {
     match elements {
         ClosedElements::End => Ok(before),
@@ -205,10 +224,14 @@ fn push_element(
     before: Digest32,
     index: u64,
 ) -> Result<Digest32, NoMemory>
-    requires few { length (at.element_ways walk.now.approvals.now walk.now.levels element.now before) ≤ 65536 }
-    requires inside { index < length (at.element_ways walk.now.approvals.now walk.now.levels element.now before) }
+    requires few { length (at.element_ways walk.now.approvals.now walk.now.levels element.now
+        before) ≤ 65536 }
+    requires inside { index < length
+        (at.element_ways walk.now.approvals.now walk.now.levels element.now before) }
     ensures digest { IfOk result (λ after. after ≡ digest.digest_at_element element.now before) }
-    ensures path { OnOk result (at.GoesOn path.old (at.element_ways walk.now.approvals.now walk.now.levels element.now before) index path.new) }
+    ensures path { OnOk result
+        (at.GoesOn path.old (at.element_ways walk.now.approvals.now walk.now.levels element.now
+        before) index path.new) }
 {
     match element {
         ClosedElement::Or(branches) => {
@@ -236,10 +259,15 @@ fn push_branch(
     position: u32,
     index: u64,
 ) -> Result<(), NoMemory>
-    requires few { length (at.branch_ways walk.now.approvals.now walk.now.levels branches.now position before) ≤ 65536 }
-    requires inside { index < length (at.branch_ways walk.now.approvals.now walk.now.levels branches.now position before) }
-    ensures digests { OnOk result (digests.new ≡ digests.old ++ digest.branch_digests branches.now before) }
-    ensures path { OnOk result (at.GoesOn path.old (at.branch_ways walk.now.approvals.now walk.now.levels branches.now position before) index path.new) }
+    requires few { length (at.branch_ways walk.now.approvals.now walk.now.levels branches.now
+        position before) ≤ 65536 }
+    requires inside { index < length
+        (at.branch_ways walk.now.approvals.now walk.now.levels branches.now position before) }
+    ensures digests { OnOk result (digests.new
+        ≡ digests.old ++ digest.branch_digests branches.now before) }
+    ensures path { OnOk result
+        (at.GoesOn path.old (at.branch_ways walk.now.approvals.now walk.now.levels branches.now
+        position before) index path.new) }
 {
     match branches {
         ClosedBranches::End => Ok(()),
@@ -276,9 +304,12 @@ fn push_approval(
     element: &ClosedElement,
     index: u64,
 ) -> Result<(), NoMemory>
-    requires few { length (at.approval_ways walk.now.approvals.now walk.now.levels element.now) ≤ 65536 }
-    requires inside { index < length (at.approval_ways walk.now.approvals.now walk.now.levels element.now) }
-    ensures { OnOk result (at.GoesOn path.old (at.approval_ways walk.now.approvals.now walk.now.levels element.now) index path.new) }
+    requires few { length (at.approval_ways walk.now.approvals.now walk.now.levels element.now)
+        ≤ 65536 }
+    requires inside { index < length
+        (at.approval_ways walk.now.approvals.now walk.now.levels element.now) }
+    ensures { OnOk result (at.GoesOn path.old
+        (at.approval_ways walk.now.approvals.now walk.now.levels element.now) index path.new) }
 {
     let mut left = index;
     if walk.levels > 0 {

@@ -13,7 +13,8 @@ pub fn extent_of_elements(
     levels: u8,
     elements: &ClosedElements,
 ) -> Extent
-    ensures { spec.IsCapped result (spec.extent_at (spec.document_extent approvals.now levels) approvals.now elements.now) }
+    ensures { spec.IsCapped result
+        (spec.extent_at (spec.document_extent approvals.now levels) approvals.now elements.now) }
 {
     match elements {
         ClosedElements::End => Extent::one_path(0),
@@ -28,7 +29,9 @@ pub fn extent_of_elements(
 // The extent of the paths of one element.
 #[cycle(counting)]
 pub fn extent_of_element(approvals: &[ApprovedDoc], levels: u8, element: &ClosedElement) -> Extent
-    ensures { spec.IsCapped result (spec.extent_at_element (spec.document_extent approvals.now levels) approvals.now element.now) }
+    ensures { spec.IsCapped result
+        (spec.extent_at_element (spec.document_extent approvals.now levels) approvals.now
+        element.now) }
 {
     match element {
         ClosedElement::Assert(_) => Extent::one_path(1),
@@ -42,7 +45,9 @@ pub fn extent_of_element(approvals: &[ApprovedDoc], levels: u8, element: &Closed
 // The extent of the paths of branches.
 #[cycle(counting)]
 fn extent_of_branches(approvals: &[ApprovedDoc], levels: u8, branches: &ClosedBranches) -> Extent
-    ensures { spec.IsCapped result (spec.extent_at_branches (spec.document_extent approvals.now levels) approvals.now branches.now) }
+    ensures { spec.IsCapped result
+        (spec.extent_at_branches
+        (spec.document_extent approvals.now levels) approvals.now branches.now) }
 {
     match branches {
         ClosedBranches::End => Extent::no_path(),
@@ -58,7 +63,9 @@ fn extent_of_branches(approvals: &[ApprovedDoc], levels: u8, branches: &ClosedBr
 // move. It stops where the limit is passed.
 #[cycle(counting)]
 fn extent_of_documents(approvals: &[ApprovedDoc], levels: u8, element: &ClosedElement) -> Extent
-    ensures { spec.IsCapped result (spec.extent_by_approval (spec.document_extent approvals.now levels) element.now approvals.now) }
+    ensures { spec.IsCapped result
+        (spec.extent_by_approval
+        (spec.document_extent approvals.now levels) element.now approvals.now) }
 {
     let mut extent = Extent::no_path();
     if levels == 0 {

@@ -35,7 +35,8 @@ impl Extent {
     // The extent of the paths of two parts one after the other.
     pub fn then(self, rest: Extent) -> Extent
         ensures paths { result.paths ≡ min (self.paths * rest.paths) 65537 }
-        ensures moves { result.moves ≡ where_paths (self.paths * rest.paths) (min (self.moves + rest.moves) 513) }
+        ensures moves { result.moves
+            ≡ where_paths (self.paths * rest.paths) (min (self.moves + rest.moves) 513) }
     {
         if self.paths == 0 || rest.paths == 0 {
             return Extent::no_path();

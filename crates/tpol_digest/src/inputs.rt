@@ -47,7 +47,8 @@ pub fn inputs_of_facts(alloc: Global, facts: &Facts) -> Result<Inputs, NoMemory>
 
 // The string of an update's first hash.
 fn string_of_first(alloc: Global, update: &UpdateBytes, before: &Digest32) -> Result<Blob, NoMemory>
-    ensures { IfOk result (λ string. string ≡ digest.first_string (update_value update.now) before.now) }
+    ensures { IfOk result (λ string. string
+        ≡ digest.first_string (update_value update.now) before.now) }
 {
     let mut string = if update.fresh {
         Blob::from_slice(alloc, &Digest32::ZERO.bytes)?
@@ -102,8 +103,10 @@ fn push_strings(
     update: &UpdateBytes,
     before: &Digest32,
 ) -> Result<Digest32, NoMemory>
-    ensures digest { IfOk result (λ after. after ≡ digest.after_update (update_value update.now) before.now) }
-    ensures strings { OnOk result (inputs.new ≡ inputs.old ++ spec.strings_of (update_value update.now) before.now) }
+    ensures digest { IfOk result (λ after. after
+        ≡ digest.after_update (update_value update.now) before.now) }
+    ensures strings { OnOk result (inputs.new
+        ≡ inputs.old ++ spec.strings_of (update_value update.now) before.now) }
 {
     push_inner(alloc, inputs, &update.inner)?;
     let string = string_of_first(alloc, update, before)?;
@@ -173,7 +176,8 @@ fn push_element(
     before: Digest32,
 ) -> Result<Digest32, NoMemory>
     ensures digest { IfOk result (λ after. after ≡ digest.digest_at_element element.now before) }
-    ensures strings { OnOk result (inputs.new ≡ inputs.old ++ spec.inputs_at_element element.now before) }
+    ensures strings { OnOk result (inputs.new
+        ≡ inputs.old ++ spec.inputs_at_element element.now before) }
 {
     match element {
         ClosedElement::Assert(assertion) => {
@@ -207,8 +211,10 @@ fn push_branches(
     branches: &ClosedBranches,
     before: Digest32,
 ) -> Result<(), NoMemory>
-    ensures digests { OnOk result (digests.new ≡ digests.old ++ digest.branch_digests branches.now before) }
-    ensures strings { OnOk result (inputs.new ≡ inputs.old ++ spec.inputs_at_branches branches.now before) }
+    ensures digests { OnOk result (digests.new
+        ≡ digests.old ++ digest.branch_digests branches.now before) }
+    ensures strings { OnOk result (inputs.new
+        ≡ inputs.old ++ spec.inputs_at_branches branches.now before) }
 {
     match branches {
         ClosedBranches::End => Ok(()),
@@ -228,7 +234,8 @@ fn push_move(
     before: &Digest32,
 ) -> Result<Digest32, NoMemory>
     ensures digest { IfOk result (λ after. after ≡ digest.digest_after act.now before.now) }
-    ensures strings { OnOk result (inputs.new ≡ inputs.old ++ spec.strings_of (update_of act.now) before.now) }
+    ensures strings { OnOk result (inputs.new
+        ≡ inputs.old ++ spec.strings_of (update_of act.now) before.now) }
 {
     let update = update_of_move(alloc, act)?;
     push_strings(alloc, inputs, &update, before)
@@ -241,7 +248,8 @@ fn push_facts(
     facts: &[Fact],
     before: Digest32,
 ) -> Result<(), NoMemory>
-    ensures { OnOk result (inputs.new ≡ inputs.old ++ spec.inputs_of_moves before (moves_of facts.now)) }
+    ensures { OnOk result (inputs.new
+        ≡ inputs.old ++ spec.inputs_of_moves before (moves_of facts.now)) }
 {
     match facts.split_first() {
         None => Ok(()),

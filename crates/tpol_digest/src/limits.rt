@@ -30,7 +30,8 @@ pub enum PathLimit {
 pub fn check_paths(policy: &Closed, approvals: &Approvals) -> Result<u32, PathLimit>
     ensures number { IfOk result (λ number. number ≡ length (paths_of policy.now approvals.now)) }
     ensures within { IfOk result (λ _. AreWithinLimits (paths_of policy.now approvals.now)) }
-    ensures too_many { IsErrOf result PathLimit.TooManyPaths ↔ (65536 < length (paths_of policy.now approvals.now)) }
+    ensures too_many { IsErrOf result PathLimit.TooManyPaths
+        ↔ (65536 < length (paths_of policy.now approvals.now)) }
     ensures too_long { IsErrOf result PathLimit.TooLong
         ↔ ((length (paths_of policy.now approvals.now) ≤ 65536)
         × Any (λ path. 512 < length path.moves) (paths_of policy.now approvals.now)) }
@@ -56,7 +57,8 @@ pub fn count_paths(policy: &Closed, approvals: &Approvals) -> u64
 /// a branch or of an approved document, and so of what stands behind an element. Documents may be entered `levels`
 /// deep. The digest before the elements does not matter. It takes no memory.
 pub fn count_ways(approvals: &[ApprovedDoc], levels: u8, elements: &ClosedElements) -> u64
-    ensures ways { (before : OneDigest) → result ≡ min (length (element_list_ways approvals.now levels elements.now before)) 65537 }
+    ensures ways { (before : OneDigest)
+        → result ≡ min (length (element_list_ways approvals.now levels elements.now before)) 65537 }
 {
     extent_of_elements(approvals, levels, elements).paths
 }
@@ -64,7 +66,8 @@ pub fn count_ways(approvals: &[ApprovedDoc], levels: u8, elements: &ClosedElemen
 /// The number of ways through one element, or 65,537 where there are more than 65,536. The number of ways through
 /// elements is that of the first times that of the rest. It takes no memory.
 pub fn count_element_ways(approvals: &[ApprovedDoc], levels: u8, element: &ClosedElement) -> u64
-    ensures ways { (before : OneDigest) → result ≡ min (length (element_ways approvals.now levels element.now before)) 65537 }
+    ensures ways { (before : OneDigest)
+        → result ≡ min (length (element_ways approvals.now levels element.now before)) 65537 }
 {
     extent_of_element(approvals, levels, element).paths
 }

@@ -60,7 +60,8 @@ impl Rest {
 
     // Adds the bytes to a message.
     pub fn put(&self, hasher: &mut Hasher)
-        ensures longer { (m : List ℕ) → Holds hasher.old m → Holds hasher.new (m ++ rest_bytes self.now) }
+        ensures longer { (m : List ℕ) → Holds hasher.old m
+            → Holds hasher.new (m ++ rest_bytes self.now) }
     {
         hasher.put(self.first.as_slice());
         hasher.put(self.second.as_slice());
@@ -121,7 +122,8 @@ pub fn rest_of(assertion: &Assertion) -> Rest
 
 // What PolicyNV and PolicyCounterTimer compare with, and the bytes behind it.
 pub fn comparison_of(assertion: &Assertion) -> Option<(&Blob, [u8; 4])>
-    ensures { option_map (λ compared. compared.0.now ++ compared.1) result ≡ (update_of_assertion assertion.now).inner }
+    ensures { option_map (λ compared. compared.0.now ++ compared.1) result
+        ≡ (update_of_assertion assertion.now).inner }
 {
     match assertion {
         Assertion::Nv {

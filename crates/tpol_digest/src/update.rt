@@ -28,7 +28,8 @@ pub fn start(old: &Digest32, code: u32) -> Hasher
 /// The digest after a command that hashes a Name, and then the first digest with the policyRef (TPM 2.0 Part 3,
 /// PolicySecret, PolicySigned and PolicyAuthorize).
 pub fn hash_twice(old: &Digest32, command: CommandCode, name: &Name, policy_ref: &Blob) -> Digest32
-    ensures { result ≡ after_update (two_hashes (number_of_code command) (name_bytes name.now) policy_ref.now) old.now }
+    ensures { result ≡ after_update
+        (two_hashes (number_of_code command) (name_bytes name.now) policy_ref.now) old.now }
 {
     let mut hasher = start(old, command.number());
     hasher.put_name(name);

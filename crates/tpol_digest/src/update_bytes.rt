@@ -94,7 +94,8 @@ fn comparison(alloc: Global, assertion: &Assertion) -> Result<Option<Blob>, NoMe
 
 // A copy of what an assertion's second hash takes, if there is one.
 fn policy_ref(alloc: Global, assertion: &Assertion) -> Result<Option<Blob>, NoMemory>
-    ensures { IfOk result (λ policy_ref. policy_ref ≡ (spec.update_of_assertion assertion.now).policy_ref) }
+    ensures { IfOk result (λ policy_ref. policy_ref
+        ≡ (spec.update_of_assertion assertion.now).policy_ref) }
 {
     match policy_ref_of(assertion) {
         None => Ok(None),
@@ -121,7 +122,8 @@ pub fn update_of_approve(
     key: &Name,
     policy_ref: &Blob,
 ) -> Result<UpdateBytes, NoMemory>
-    ensures { IfOk result (λ update. update_value update ≡ spec.update_of_approve key.now policy_ref.now) }
+    ensures { IfOk result (λ update. update_value update
+        ≡ spec.update_of_approve key.now policy_ref.now) }
 {
     let mut update = two_hashes(alloc, CommandCode::PolicyAuthorize, key, policy_ref)?;
     update.fresh = true;

@@ -27,7 +27,8 @@ pub(crate) fn read_answer(
     reply: &[u8],
 ) -> Result<Answer, NoMemory>
     ensures whole { IfOk result HasWholeTicket }
-    ensures answer { IfOk result (λ answer. answer ≡ answer_of (reply_reading (number_of_code code) reply.now)) }
+    ensures answer { IfOk result (λ answer. answer
+        ≡ answer_of (reply_reading (number_of_code code) reply.now)) }
 {
     match read_reply(alloc, code.number(), reply) {
         Ok((Reply::Refused(rc), _)) => Ok(Answer::Denied(rc)),

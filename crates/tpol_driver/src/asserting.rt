@@ -51,7 +51,8 @@ impl Asserting {
     pub(crate) fn new(plan: Plan, session: Session, earned: Tickets) -> Asserting
         requires some { 0 < length plan.path.moves }
         requires room { length plan.path.moves ≤ 512 }
-        ensures { result ≡ record { plan = plan; standing = Moving session 1 None 0; earned = earned } }
+        ensures { result ≡ record
+            { plan = plan; standing = Moving session 1 None 0; earned = earned } }
     {
         Asserting {
             plan,
@@ -87,7 +88,9 @@ impl Asserting {
 
     /// Goes on with the reply. With `NoMemory` the state comes back unchanged.
     pub fn take(self, alloc: Global, reply: &[u8]) -> Result<Next, (Asserting, NoMemory)>
-        ensures next { IfOk result (IsNext self.plan (self.earned ++ earned_by self.plan self.standing reply.now) (hears self.plan self.standing reply.now)) }
+        ensures next { IfOk result
+            (IsNext self.plan (self.earned ++ earned_by self.plan self.standing reply.now)
+            (hears self.plan self.standing reply.now)) }
         ensures back { IfErr result (λ refused. refused.0 ≡ self) }
     {
         match self.answer(alloc, reply) {
@@ -100,7 +103,8 @@ impl Asserting {
     fn answer(&self, alloc: Global, reply: &[u8]) -> Result<Answer, NoMemory>
         ensures whole { IfOk result HasWholeTicket }
         ensures answer { IfOk result (λ answer. answer
-            ≡ answer_of (reply_reading (code_sent (sends self.now.plan self.now.standing)) reply.now)) }
+            ≡ answer_of (reply_reading
+            (code_sent (sends self.now.plan self.now.standing)) reply.now)) }
     {
         answer(
             alloc,
@@ -114,7 +118,9 @@ impl Asserting {
     // The state after this answer. With `NoMemory` the state comes back unchanged.
     fn after(self, answer: Answer) -> Result<Next, (Asserting, NoMemory)>
         requires { HasWholeTicket answer }
-        ensures next { IfOk result (IsNext self.plan (self.earned ++ earned_after self.plan self.standing answer) (heard self.plan self.standing answer)) }
+        ensures next { IfOk result
+            (IsNext self.plan (self.earned ++ earned_after self.plan self.standing answer)
+            (heard self.plan self.standing answer)) }
         ensures back { IfErr result (λ refused. refused.0 ≡ self) }
     {
         let Asserting {

@@ -37,7 +37,11 @@ impl BlindAgain {
     // A blind run before the path at the attempt's place.
     pub(crate) fn new(attempt: Attempt) -> BlindAgain
         requires { attempt.sent ≤ 1026 * attempt.place }
-        ensures { result ≡ record { plan = attempt.plan; standing = Again attempt.session attempt.sent attempt.place attempt.tries } }
+        ensures { result ≡ record {
+          plan = attempt.plan;
+          standing = Again attempt.session attempt.sent attempt.place
+              attempt.tries;
+        } }
     {
         BlindAgain { attempt }
     }
@@ -54,7 +58,8 @@ impl BlindAgain {
 
     /// Goes on with the reply. With `NoMemory` the state comes back unchanged.
     pub fn take(self, alloc: Global, reply: &[u8]) -> Result<BlindNext, (BlindAgain, NoMemory)>
-        ensures next { IfOk result (IsBlindNext self.plan (blind_hears self.plan self.standing reply.now)) }
+        ensures next { IfOk result
+            (IsBlindNext self.plan (blind_hears self.plan self.standing reply.now)) }
         ensures back { IfErr result (λ refused. refused.0 ≡ self) }
     {
         match read_answer(alloc, CommandCode::PolicyRestart, reply) {
@@ -70,7 +75,8 @@ impl BlindAgain {
 // The state after this answer.
 fn after(attempt: Attempt, answer: Answer) -> BlindNext
     requires { attempt.sent ≤ 1026 * attempt.place }
-    ensures { IsBlindNext attempt.plan (restart_heard attempt.session attempt.sent attempt.place attempt.tries answer) result }
+    ensures { IsBlindNext attempt.plan
+        (restart_heard attempt.session attempt.sent attempt.place attempt.tries answer) result }
 {
     match answer {
         Answer::Done(..) => restarted(attempt),

@@ -42,7 +42,11 @@ impl BlindAsserting {
     pub(crate) fn new(attempt: Attempt, ticket: Option<Ticket>, done: usize) -> BlindAsserting
         requires left { done < length (plan_at attempt.plan attempt.place).path.moves }
         requires few { attempt.sent ≤ most_sent attempt.place done ticket }
-        ensures { result ≡ record { plan = attempt.plan; standing = Trying attempt.session attempt.sent attempt.place ticket done attempt.tries } }
+        ensures { result ≡ record {
+          plan = attempt.plan;
+          standing = Trying attempt.session attempt.sent attempt.place
+              ticket done attempt.tries;
+        } }
     {
         BlindAsserting {
             attempt,
@@ -63,7 +67,8 @@ impl BlindAsserting {
 
     /// Goes on with the reply. With `NoMemory` the state comes back unchanged.
     pub fn take(self, alloc: Global, reply: &[u8]) -> Result<BlindNext, (BlindAsserting, NoMemory)>
-        ensures next { IfOk result (IsBlindNext self.plan (blind_hears self.plan self.standing reply.now)) }
+        ensures next { IfOk result
+            (IsBlindNext self.plan (blind_hears self.plan self.standing reply.now)) }
         ensures back { IfErr result (λ refused. refused.0 ≡ self) }
     {
         let plan = self.attempt.plan.along(self.attempt.place);

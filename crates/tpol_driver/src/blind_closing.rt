@@ -47,7 +47,8 @@ impl BlindClosing {
 
     /// Ends the run with the end that is known, whatever is answered.
     pub fn take(self, _alloc: Global, reply: &[u8]) -> Result<BlindNext, (BlindClosing, NoMemory)>
-        ensures next { IfOk result (IsBlindNext self.plan (blind_hears self.plan self.standing reply.now)) }
+        ensures next { IfOk result
+            (IsBlindNext self.plan (blind_hears self.plan self.standing reply.now)) }
         ensures back { IfErr result (λ refused. refused.0 ≡ self) }
     {
         let BlindClosing { end, .. } = self;

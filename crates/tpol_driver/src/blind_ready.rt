@@ -34,8 +34,13 @@ impl Model for BlindReady {
 
 impl BlindReady {
     pub(crate) fn new(attempt: Attempt) -> BlindReady
-        requires { attempt.sent ≤ most_sent attempt.place (length (plan_at attempt.plan attempt.place).path.moves) None }
-        ensures { result ≡ record { plan = attempt.plan; standing = Trying attempt.session attempt.sent attempt.place None (length (plan_at attempt.plan attempt.place).path.moves) attempt.tries } }
+        requires { attempt.sent ≤ most_sent attempt.place
+            (length (plan_at attempt.plan attempt.place).path.moves) None }
+        ensures { result ≡ record {
+          plan = attempt.plan;
+          standing = Trying attempt.session attempt.sent attempt.place None
+              (length (plan_at attempt.plan attempt.place).path.moves) attempt.tries;
+        } }
     {
         BlindReady { attempt }
     }
@@ -51,7 +56,8 @@ impl BlindReady {
 
     /// Goes on with the reply. With `NoMemory` the state comes back unchanged.
     pub fn take(self, alloc: Global, reply: &[u8]) -> Result<BlindNext, (BlindReady, NoMemory)>
-        ensures next { IfOk result (IsBlindNext self.plan (blind_hears self.plan self.standing reply.now)) }
+        ensures next { IfOk result
+            (IsBlindNext self.plan (blind_hears self.plan self.standing reply.now)) }
         ensures back { IfErr result (λ refused. refused.0 ≡ self) }
     {
         let plan = self.attempt.plan.along(self.attempt.place);

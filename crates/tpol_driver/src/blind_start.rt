@@ -64,7 +64,8 @@ impl BlindStart {
 
     /// Goes on with the reply. With `NoMemory` the state comes back unchanged.
     pub fn take(self, alloc: Global, reply: &[u8]) -> Result<BlindNext, (BlindStart, NoMemory)>
-        ensures next { IfOk result (IsBlindNext self.plan (blind_hears self.plan self.standing reply.now)) }
+        ensures next { IfOk result
+            (IsBlindNext self.plan (blind_hears self.plan self.standing reply.now)) }
         ensures back { IfErr result (λ refused. refused.0 ≡ self) }
     {
         match read_answer(alloc, CommandCode::StartAuthSession, reply) {
@@ -96,7 +97,8 @@ impl BlindStart {
 
     // The state at the front of the first path that is tried.
     fn started(self, session: Session) -> BlindNext
-        ensures { IsBlindNext self.plan (first_try self.plan session (tried_from self.plan 0)) result }
+        ensures { IsBlindNext self.plan
+            (first_try self.plan session (tried_from self.plan 0)) result }
     {
         let BlindStart { plan, tries } = self;
         match plan.tried_from(0) {

@@ -32,7 +32,8 @@ impl Model for Closing {
 
 impl Closing {
     pub(crate) fn new(plan: Plan, session: u32, end: End, earned: Tickets) -> Closing
-        ensures { result ≡ record { plan = plan; standing = StandsClosing session end; earned = earned } }
+        ensures { result ≡ record
+            { plan = plan; standing = StandsClosing session end; earned = earned } }
     {
         Closing {
             plan,
@@ -61,7 +62,9 @@ impl Closing {
 
     /// Ends the run with the end that is known, whatever is answered.
     pub fn take(self, _alloc: Global, reply: &[u8]) -> Result<Next, (Closing, NoMemory)>
-        ensures next { IfOk result (IsNext self.plan (self.earned ++ earned_by self.plan self.standing reply.now) (hears self.plan self.standing reply.now)) }
+        ensures next { IfOk result
+            (IsNext self.plan (self.earned ++ earned_by self.plan self.standing reply.now)
+            (hears self.plan self.standing reply.now)) }
         ensures back { IfErr result (λ refused. refused.0 ≡ self) }
     {
         let Closing { end, earned, .. } = self;

@@ -80,7 +80,8 @@ fn command_hmac(
     nonce_caller: &Digest32,
 ) -> Result<Blob, NoMemory>
     ensures { IfOk result (λ hmac. hmac ≡ unless_empty (mac_key (plan_of plan.now))
-        (command_mac (mac_key (plan_of plan.now)) (plan_cp_hash (plan_of plan.now)) nonce_caller.now.bytes session.now.nonce 0)) }
+        (command_mac (mac_key (plan_of plan.now))
+        (plan_cp_hash (plan_of plan.now)) nonce_caller.now.bytes session.now.nonce 0)) }
 {
     let key = mac_key(plan);
     if key.is_empty() {
@@ -104,7 +105,8 @@ fn goal_hmac(
     session: &Session,
     nonce_caller: &Digest32,
 ) -> Result<Blob, NoMemory>
-    ensures { IfOk result (λ hmac. hmac ≡ goal_hmac (plan_of plan.now) session.now nonce_caller.now) }
+    ensures { IfOk result (λ hmac. hmac
+        ≡ goal_hmac (plan_of plan.now) session.now nonce_caller.now) }
 {
     match auth_of_path(plan.path.moves.as_slice()) {
         LastAuth::Password => Blob::from_slice(alloc, goal_secret(plan)),
@@ -119,7 +121,8 @@ pub(crate) fn command(
     session: &Session,
     number: u32,
 ) -> Result<Command, NoMemory>
-    ensures { IfOk result (λ command. command ≡ goal_command (plan_of plan.now) session.now number) }
+    ensures { IfOk result (λ command. command
+        ≡ goal_command (plan_of plan.now) session.now number) }
 {
     let nonce_caller = caller_nonce(plan.nonce_seed, number);
     let hmac = goal_hmac(alloc, plan, session, &nonce_caller)?;
@@ -137,7 +140,8 @@ fn is_right_hmac(
     given: &[u8],
 ) -> Result<bool, NoMemory>
     requires { length nonce.now ≡ 32 }
-    ensures { IfOk result (λ right. right ≡ bytes_eq given.now (right_hmac (plan_of plan.now) number reply.now nonce.now)) }
+    ensures { IfOk result (λ right. right
+        ≡ bytes_eq given.now (right_hmac (plan_of plan.now) number reply.now nonce.now)) }
 {
     let key = mac_key(plan);
     if key.is_empty() {
@@ -164,7 +168,8 @@ fn is_right_area(
     reply: &Reply,
     area: &ReplyAuth,
 ) -> Result<bool, NoMemory>
-    ensures { IfOk result (λ right. right ≡ is_right_area (plan_of plan.now) number reply.now area.now) }
+    ensures { IfOk result (λ right. right
+        ≡ is_right_area (plan_of plan.now) number reply.now area.now) }
 {
     if area.nonce.len() != 32 || area.attributes != ATTRIBUTES {
         return Ok(false);
@@ -188,7 +193,8 @@ pub(crate) fn hear(
     reply: &[u8],
 ) -> Result<End, NoMemory>
     ensures { IfOk result (λ end. end
-        ≡ goal_heard (plan_of plan.now) number (answer_of (reply_reading (number_of_code (code_of_goal plan.now.goal.now)) reply.now))) }
+        ≡ goal_heard (plan_of plan.now) number
+        (answer_of (reply_reading (number_of_code (code_of_goal plan.now.goal.now)) reply.now))) }
 {
     match read_answer(alloc, plan.goal.code(), reply)? {
         Answer::Done(reply, area) => done(alloc, plan, number, reply, &area),

@@ -29,29 +29,50 @@ ghost use Rattle.tpol_wire.specs.ReplyReading.{reply_reading};
 /// does what it does then, or earns. So the states, which keep where a run stands and what it has earned, are `drive`
 /// and `tickets_after` of all replies.
 pub fn driving_goes_on()
-    ensures stands { (plan : Plan) (replies : List (List ℕ)) (reply : List ℕ) → stands_after plan (replies ++ reply ∷ []) ≡ hears plan (stands_after plan replies) reply }
-    ensures drives { (plan : Plan) (replies : List (List ℕ)) (reply : List ℕ) → drive plan (replies ++ reply ∷ []) ≡ sends plan (hears plan (stands_after plan replies) reply) }
-    ensures earns { (plan : Plan) (replies : List (List ℕ)) (reply : List ℕ) → tickets_after plan (replies ++ reply ∷ []) ≡ tickets_after plan replies ++ earned_by plan (stands_after plan replies) reply }
+    ensures stands { (plan : Plan) (replies : List (List ℕ)) (reply : List ℕ)
+        → stands_after plan (replies ++ reply ∷ []) ≡ hears plan (stands_after plan replies) reply }
+    ensures drives { (plan : Plan) (replies : List (List ℕ)) (reply : List ℕ)
+        → drive plan (replies ++ reply ∷ [])
+        ≡ sends plan (hears plan (stands_after plan replies) reply) }
+    ensures earns { (plan : Plan) (replies : List (List ℕ)) (reply : List ℕ)
+        → tickets_after plan (replies ++ reply ∷ [])
+        ≡ tickets_after plan replies ++ earned_by plan (stands_after plan replies) reply }
 {}
 
 /// A run of n moves ends after 2n + 3 replies at the latest, whatever they are: it has at most two commands for
 /// each move, and the start, the goal and the end of its session.
 pub fn driving_ends()
-    ensures { (plan : Plan) (replies : List (List ℕ)) → 2 * length plan.path.moves + 3 ≤ length replies → is_over (stands_after plan replies) ≡ true }
+    ensures { (plan : Plan) (replies : List (List ℕ))
+        → 2 * length plan.path.moves + 3 ≤ length replies
+        → is_over (stands_after plan replies) ≡ true }
 {}
 
 /// A reply is bad only where it is no reply to the command that was sent, be that the start, a command of a move,
 /// by a ticket or not, the goal's, or the PolicyRestart of a blind run, or where the authorization of the goal's reply
 /// is wrong: what is read as a reply to a command is one of that command.
 pub fn bad_replies_have_their_causes()
-    ensures start { (bytes : List ℕ) → IsBytes bytes → start_heard (answer_of (reply_reading (number_of_code codes.StartAuthSession) bytes)) ≡ Over (ends.BadReply stages.Start) → reply_reading (number_of_code codes.StartAuthSession) bytes ≡ None }
-    ensures moves { (plan : Plan) (session : Session) (ticket : Option Ticket) (act : Move) (at : ℕ) (bytes : List ℕ) → IsBytes bytes
-        → move_heard ticket act at (answer_of (reply_reading (number_of_code (code_of_command (command_on_path plan session ticket act))) bytes)) ≡ Failed (ends.BadReply (stage_of_move ticket act at))
-        → reply_reading (number_of_code (code_of_command (command_on_path plan session ticket act))) bytes ≡ None }
-    ensures goal { (plan : Plan) (number : ℕ) (bytes : List ℕ) → IsBytes bytes → goal_heard plan number (answer_of (reply_reading (number_of_code (code_of_goal plan.goal)) bytes)) ≡ ends.BadReply stages.Goal
-        → (reply_reading (number_of_code (code_of_goal plan.goal)) bytes ≡ None) ⊎ HasWrongArea plan number (reply_reading (number_of_code (code_of_goal plan.goal)) bytes) }
+    ensures start { (bytes : List ℕ) → IsBytes bytes
+        → start_heard (answer_of (reply_reading (number_of_code codes.StartAuthSession) bytes))
+        ≡ Over (ends.BadReply stages.Start)
+        → reply_reading (number_of_code codes.StartAuthSession) bytes ≡ None }
+    ensures moves { (plan : Plan) (session : Session) (ticket : Option Ticket) (act : Move) (at : ℕ)
+        (bytes : List ℕ) → IsBytes bytes
+        → move_heard ticket act at
+        (answer_of (reply_reading
+        (number_of_code (code_of_command (command_on_path plan session ticket act))) bytes))
+        ≡ Failed (ends.BadReply (stage_of_move ticket act at))
+        → reply_reading (number_of_code (code_of_command (command_on_path plan session ticket act)))
+        bytes ≡ None }
+    ensures goal { (plan : Plan) (number : ℕ) (bytes : List ℕ) → IsBytes bytes
+        → goal_heard plan number
+        (answer_of (reply_reading (number_of_code (code_of_goal plan.goal)) bytes))
+        ≡ ends.BadReply stages.Goal
+        → (reply_reading (number_of_code (code_of_goal plan.goal)) bytes ≡ None)
+        ⊎ HasWrongArea plan number (reply_reading (number_of_code (code_of_goal plan.goal)) bytes) }
     ensures restart { (session : Session) (sent place : ℕ) (tries : List Tried) (bytes : List ℕ)
-        → restart_heard session sent place tries (answer_of (reply_reading (number_of_code codes.PolicyRestart) bytes)) ≡ blind.Closing session.handle (blind_ends.BadReply stages.Restart)
+        → restart_heard session sent place tries
+        (answer_of (reply_reading (number_of_code codes.PolicyRestart) bytes))
+        ≡ blind.Closing session.handle (blind_ends.BadReply stages.Restart)
         → reply_reading (number_of_code codes.PolicyRestart) bytes ≡ None }
 {}
 
@@ -59,21 +80,29 @@ pub fn bad_replies_have_their_causes()
 /// session and from the same number of commands on; where that ends, the try ends so (`tried`). So what holds of runs
 /// on one path, begun anywhere, holds of each try.
 pub fn mirrored()
-    ensures { (plan : BlindPlan) (session : Session) (sent place : ℕ) (ticket : Option Ticket) (done : ℕ) (tries : List Tried) (reply : List ℕ)
+    ensures { (plan : BlindPlan) (session : Session) (sent place : ℕ) (ticket : Option Ticket)
+        (done : ℕ) (tries : List Tried) (reply : List ℕ)
         → blind_hears plan (Trying session sent place ticket done tries) reply
-        ≡ on_try plan session sent place tries (hears (plan_at plan place) (Moving session sent ticket done) reply) }
+        ≡ on_try plan session sent place tries
+        (hears (plan_at plan place) (Moving session sent ticket done) reply) }
 {}
 
 /// A blind run goes on from where it stands, as a run on one path does. So the states, which keep where it stands,
 /// are `blind_drive` of all replies.
 pub fn blind_driving_goes_on()
-    ensures stands { (plan : BlindPlan) (replies : List (List ℕ)) (reply : List ℕ) → blind_stands_after plan (replies ++ reply ∷ []) ≡ blind_hears plan (blind_stands_after plan replies) reply }
-    ensures drives { (plan : BlindPlan) (replies : List (List ℕ)) (reply : List ℕ) → blind_drive plan (replies ++ reply ∷ []) ≡ blind_sends plan (blind_hears plan (blind_stands_after plan replies) reply) }
+    ensures stands { (plan : BlindPlan) (replies : List (List ℕ)) (reply : List ℕ)
+        → blind_stands_after plan (replies ++ reply ∷ [])
+        ≡ blind_hears plan (blind_stands_after plan replies) reply }
+    ensures drives { (plan : BlindPlan) (replies : List (List ℕ)) (reply : List ℕ)
+        → blind_drive plan (replies ++ reply ∷ [])
+        ≡ blind_sends plan (blind_hears plan (blind_stands_after plan replies) reply) }
 {}
 
 /// A blind run that has a path to try is over after as many replies as it has commands at most, whatever they are: the
 /// start, and for each path that is tried two for each move, the goal, and the PolicyRestart or the end of the session
 /// behind it.
 pub fn blind_driving_ends()
-    ensures { (plan : BlindPlan) (replies : List (List ℕ)) → is_some (first_complete plan) ≡ true → most_blind plan ≤ length replies → is_blind_over (blind_stands_after plan replies) ≡ true }
+    ensures { (plan : BlindPlan) (replies : List (List ℕ)) → is_some (first_complete plan) ≡ true
+        → most_blind plan ≤ length replies
+        → is_blind_over (blind_stands_after plan replies) ≡ true }
 {}

@@ -51,7 +51,8 @@ impl Plan {
 
 // Whether each command of a path can be made with this directory and these grants.
 pub(crate) fn is_complete_along(directory: &[DirEntry], grants: &Grants, path: &Path) -> bool
-    ensures { result ≡ (not path.now.outside && list_all (is_known_move directory.now grants.now) path.now.moves) }
+    ensures { result ≡ (not path.now.outside && list_all
+        (is_known_move directory.now grants.now) path.now.moves) }
 {
     !path.outside && are_known(directory, grants, path.moves.as_slice())
 }

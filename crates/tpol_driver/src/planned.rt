@@ -54,7 +54,9 @@ impl Planned {
 
     /// Goes on with the reply. With `NoMemory` the state comes back unchanged.
     pub fn take(self, alloc: Global, reply: &[u8]) -> Result<Next, (Planned, NoMemory)>
-        ensures next { IfOk result (IsNext self.plan (self.earned ++ earned_by self.plan self.standing reply.now) (hears self.plan self.standing reply.now)) }
+        ensures next { IfOk result
+            (IsNext self.plan (self.earned ++ earned_by self.plan self.standing reply.now)
+            (hears self.plan self.standing reply.now)) }
         ensures back { IfErr result (λ refused. refused.0 ≡ self) }
     {
         match read_answer(alloc, CommandCode::StartAuthSession, reply) {

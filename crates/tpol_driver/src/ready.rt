@@ -37,7 +37,12 @@ impl Model for Ready {
 
 impl Ready {
     pub(crate) fn new(plan: Plan, session: Session, sent: u32, earned: Tickets) -> Ready
-        ensures { result ≡ record { plan = plan; standing = Moving session sent None (length plan.path.moves); earned = earned } }
+        ensures { result ≡ record {
+          plan = plan;
+          standing = Moving session sent None
+              (length plan.path.moves);
+          earned = earned;
+        } }
     {
         Ready {
             plan,
@@ -64,7 +69,9 @@ impl Ready {
 
     /// Goes on with the reply. With `NoMemory` the state comes back unchanged.
     pub fn take(self, alloc: Global, reply: &[u8]) -> Result<Next, (Ready, NoMemory)>
-        ensures next { IfOk result (IsNext self.plan (self.earned ++ earned_by self.plan self.standing reply.now) (hears self.plan self.standing reply.now)) }
+        ensures next { IfOk result
+            (IsNext self.plan (self.earned ++ earned_by self.plan self.standing reply.now)
+            (hears self.plan self.standing reply.now)) }
         ensures back { IfErr result (λ refused. refused.0 ≡ self) }
     {
         match goal_use::hear(alloc, &self.plan.lent(), self.sent, reply) {

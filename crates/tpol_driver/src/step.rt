@@ -39,7 +39,8 @@ pub(crate) fn command(
     ticket: &Option<Ticket>,
     act: &Move,
 ) -> Result<Command, NoMemory>
-    ensures { IfOk result (λ command. command ≡ command_on_path (plan_of plan.now) session.now ticket.now act.now) }
+    ensures { IfOk result (λ command. command
+        ≡ command_on_path (plan_of plan.now) session.now ticket.now act.now) }
 {
     match ticket_for(plan.tickets, act) {
         Some(held) => policy_ticket::command(alloc, session, held),
@@ -74,7 +75,8 @@ pub(crate) fn answer(
 ) -> Result<Answer, NoMemory>
     ensures whole { IfOk result HasWholeTicket }
     ensures answer { IfOk result (λ answer. answer
-        ≡ answer_of (reply_reading (number_of_code (code_on_path tickets.now ticket.now act.now)) reply.now)) }
+        ≡ answer_of (reply_reading
+        (number_of_code (code_on_path tickets.now ticket.now act.now)) reply.now)) }
 {
     read_answer(alloc, code(tickets, ticket, act), reply)
 }

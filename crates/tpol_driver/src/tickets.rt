@@ -144,7 +144,9 @@ fn put(
     ticket: &Ticket,
 ) -> Result<(), NoMemory>
     requires { length ticket.now.digest ≡ 32 }
-    ensures ok { OnOk result (earned.new ≡ earned.old ++ earned_ticket signed key.now policy_ref.now cp_hash deadline ticket.now ∷ []) }
+    ensures ok { OnOk result (earned.new
+        ≡ earned.old ++ earned_ticket signed key.now policy_ref.now cp_hash deadline ticket.now
+        ∷ []) }
     ensures err { OnErr result (earned.new ≡ earned.old) }
 {
     let ticket = HeldTicket {

@@ -22,7 +22,8 @@ use tpol_base::Rc;
 pub(crate) fn stands_before(attempt: Attempt, done: usize) -> BlindNext
     requires within { done ≤ length (plan_at attempt.plan attempt.place).path.moves }
     requires few { attempt.sent ≤ most_sent attempt.place done None }
-    ensures { IsBlindNext attempt.plan (Trying attempt.session attempt.sent attempt.place None done attempt.tries) result }
+    ensures { IsBlindNext attempt.plan
+        (Trying attempt.session attempt.sent attempt.place None done attempt.tries) result }
 {
     if done == attempt.path().moves.len() {
         BlindNext::Ready(BlindReady::new(attempt))
@@ -34,7 +35,8 @@ pub(crate) fn stands_before(attempt: Attempt, done: usize) -> BlindNext
 /// The state after PolicyRestart: the path begins.
 pub(crate) fn restarted(attempt: Attempt) -> BlindNext
     requires { attempt.sent ≤ 1026 * attempt.place }
-    ensures { IsBlindNext attempt.plan (Trying attempt.session (attempt.sent + 1) attempt.place None 0 attempt.tries) result }
+    ensures { IsBlindNext attempt.plan
+        (Trying attempt.session (attempt.sent + 1) attempt.place None 0 attempt.tries) result }
 {
     stands_before(attempt.after_command(), 0)
 }
@@ -43,7 +45,9 @@ pub(crate) fn restarted(attempt: Attempt) -> BlindNext
 pub(crate) fn goes_on(attempt: Attempt, done: usize, heard: Heard) -> BlindNext
     requires left { done < length (plan_at attempt.plan attempt.place).path.moves }
     requires few { attempt.sent ≤ 1026 * attempt.place + 2 * done + most_before heard }
-    ensures { IsBlindNext attempt.plan (tries_on attempt.plan attempt.session attempt.sent attempt.place done attempt.tries heard) result }
+    ensures { IsBlindNext attempt.plan
+        (tries_on attempt.plan attempt.session attempt.sent attempt.place done attempt.tries heard)
+        result }
 {
     let attempt = attempt.after_command();
     match heard {
@@ -60,7 +64,9 @@ pub(crate) fn goes_on(attempt: Attempt, done: usize, heard: Heard) -> BlindNext
 /// The state after the goal's command, whose end this is.
 pub(crate) fn after_goal(attempt: Attempt, end: End) -> BlindNext
     requires { attempt.sent < 1026 * (attempt.place + 1) }
-    ensures { IsBlindNext attempt.plan (tried attempt.plan attempt.session (attempt.sent + 1) attempt.place attempt.tries end) result }
+    ensures { IsBlindNext attempt.plan
+        (tried attempt.plan attempt.session (attempt.sent + 1) attempt.place attempt.tries end)
+        result }
 {
     ended(attempt.after_command(), end)
 }
@@ -68,7 +74,8 @@ pub(crate) fn after_goal(attempt: Attempt, end: End) -> BlindNext
 // The state after a try, which ends so.
 fn ended(attempt: Attempt, end: End) -> BlindNext
     requires { attempt.sent ≤ 1026 * (attempt.place + 1) }
-    ensures { IsBlindNext attempt.plan (tried attempt.plan attempt.session attempt.sent attempt.place attempt.tries end) result }
+    ensures { IsBlindNext attempt.plan
+        (tried attempt.plan attempt.session attempt.sent attempt.place attempt.tries end) result }
 {
     match end {
         End::Served(bytes) => BlindNext::Over(BlindOver {
@@ -86,7 +93,9 @@ fn ended(attempt: Attempt, end: End) -> BlindNext
 fn refused(attempt: Attempt, at: Stage, rc: Rc) -> BlindNext
     requires { attempt.sent ≤ 1026 * (attempt.place + 1) }
     ensures { IsBlindNext attempt.plan
-        (next_try attempt.session attempt.sent (slice_set attempt.tries attempt.place (Refused at rc)) (tried_from attempt.plan (attempt.place + 1))) result }
+        (next_try attempt.session attempt.sent
+        (slice_set attempt.tries attempt.place (Refused at rc))
+        (tried_from attempt.plan (attempt.place + 1))) result }
 {
     let Attempt {
         plan,

@@ -173,7 +173,8 @@ fn object_within(
     place: &PlaceRef<'_>,
     walk: &mut Walk,
 ) -> Result<ObjectPublicText, ElementFault>
-    ensures { Leaves result walk.new (through wrapper.now object_public (view value.now) place.now walk.old) }
+    ensures { Leaves result walk.new
+        (through wrapper.now object_public (view value.now) place.now walk.old) }
 {
     match member(value, wrapper) {
         Some(inner) => {
@@ -206,7 +207,8 @@ fn index_within(
     place: &PlaceRef<'_>,
     walk: &mut Walk,
 ) -> Result<NvPublicText, ElementFault>
-    ensures { Leaves result walk.new (through wrapper.now index_public (view value.now) place.now walk.old) }
+    ensures { Leaves result walk.new
+        (through wrapper.now index_public (view value.now) place.now walk.old) }
 {
     match member(value, wrapper) {
         Some(inner) => {

@@ -175,7 +175,8 @@ pub fn note_leaf(
     place: &PlaceRef<'_>,
     walk: &mut Walk,
 ) -> Result<(), NoMemory>
-    ensures { OnOk result (walk.new ≡ noted (leaf_members leaf) (view value.now) place.now walk.old) }
+    ensures { OnOk result (walk.new
+        ≡ noted (leaf_members leaf) (view value.now) place.now walk.old) }
 {
     note_unknown(alloc, value, leaf_members(leaf), place, walk)
 }

@@ -104,7 +104,8 @@ fn add_entity(
     item: &Value,
     place: &PlaceRef<'_>,
 ) -> Result<(), PartFault>
-    ensures { Leaves result entities.new (entity_by heading.kind entities.old heading (view item.now) place.now) }
+    ensures { Leaves result entities.new
+        (entity_by heading.kind entities.old heading (view item.now) place.now) }
 {
     match heading.kind {
         EntityKind::Seal => {
@@ -183,7 +184,8 @@ fn add_policy(
     handle: u32,
     named: Option<NamedPolicy>,
 ) -> Result<(), NoMemory>
-    ensures policies { OnOk result (entities.new.policies ≡ policies_with entities.old handle named) }
+    ensures policies { OnOk result (entities.new.policies
+        ≡ policies_with entities.old handle named) }
     ensures objects { entities.new.objects ≡ entities.old.objects }
     ensures indices { entities.new.indices ≡ entities.old.indices }
 {

@@ -31,7 +31,8 @@ pub trait ItemReader<T> {
         item: &Value,
         place: &PlaceRef<'_>,
     ) -> Result<(), PartFault>
-        ensures { Leaves result so_far.new (reading self.now so_far.old index (view item.now) place.now) };
+        ensures { Leaves result so_far.new
+            (reading self.now so_far.old index (view item.now) place.now) };
 }
 
 /// The member of this name as a list, read into what there is at the start. Without the member that is all. A value
@@ -45,7 +46,8 @@ pub fn optional_list<T: Drop, R: ItemReader<T>>(
     place: &PlaceRef<'_>,
 ) -> Result<T, PartFault>
     ensures { Gives result
-        (optional (list_in (R.reading reader.now) start) start name.now (view value.now) place.now) }
+        (optional (list_in (R.reading reader.now) start) start name.now
+        (view value.now) place.now) }
 {
     match member(value, name) {
         Some(list) => list_of(alloc, reader, start, list, &place.member(name)),
@@ -73,7 +75,8 @@ fn list_of_items<T: Drop, R: ItemReader<T>>(
     items: &[Value],
     place: &PlaceRef<'_>,
 ) -> Result<T, PartFault>
-    ensures { Gives result (items_from (R.reading reader.now) start 0 (items_view items.now) place.now) }
+    ensures { Gives result (items_from (R.reading reader.now) start 0
+        (items_view items.now) place.now) }
 {
     let mut read = start;
     for (index, item) in items.iter().enumerate() {

@@ -36,7 +36,8 @@ pub fn needed_target(
     name: &str,
     place: &PlaceRef<'_>,
 ) -> Result<u32, PartFault>
-    ensures { Gives result (needed (target_in entities.now target) name.now (view value.now) place.now) }
+    ensures { Gives result (needed (target_in entities.now target) name.now
+        (view value.now) place.now) }
 {
     let (path, place) = needed(alloc, value, name, place)?;
     target_of(alloc, entities, target, path, &place)

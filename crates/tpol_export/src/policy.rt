@@ -17,7 +17,8 @@ use tpol_write::{canonical_values_stand, write_policy};
 /// The text without spaces of a policy in FAPI's spelling. The policy is one that some document stands for, as each is
 /// that was read.
 pub fn export_policy(alloc: Global, policy: &Policy) -> Result<Blob, NoMemory>
-    requires { (d : Data) × (notes : List Place) × StandsForPolicy d (erased_policy policy.now) notes }
+    requires { (d : Data) × (notes : List Place)
+        × StandsForPolicy d (erased_policy policy.now) notes }
     ensures text { IfOk result (λ text. text ≡ export_text policy.now) }
 {
     canonical_values_stand();

@@ -197,7 +197,8 @@ pub fn put_more(
 #[tactic(auto, unfolding(crate::specs::Rules::more_entries))]
 fn put_index(alloc: Global, object: &mut Object, whole: &Value) -> Result<(), NoMemory>
     ensures { OnOk result (members_view object.new.entries
-        ≡ with_members (more_entries Part.Element (view whole.now)) (members_view object.old.entries)) }
+        ≡ with_members (more_entries Part.Element (view whole.now))
+        (members_view object.old.entries)) }
 {
     if !says(whole, "type", "POLICYNV") {
         return Ok(());

@@ -96,7 +96,8 @@ fn number_object(alloc: Global, flags: Flags, number: u32) -> Result<Object, NoM
 // Sets the type of an index, if it has a name.
 fn put_type(alloc: Global, object: &mut Object, name: Option<&str>) -> Result<(), NoMemory>
     ensures { OnOk result (members_view object.new.entries
-        ≡ with_members (type_entries (option_map (λ text. text.now) name.entry)) (members_view object.old.entries)) }
+        ≡ with_members (type_entries (option_map (λ text. text.now) name.entry))
+        (members_view object.old.entries)) }
 {
     match name {
         Some(name) => Ok(put(object, alloc, "TPM2_NT", Value::try_from_str(alloc, name)?)?),
@@ -125,7 +126,8 @@ fn put_flags(
     number: u32,
 ) -> Result<(), NoMemory>
     ensures { OnOk result (members_view object.new.entries ≡ with_members
-        (flag_entries (map (λ word. (word.0.now, word.1)) flags.now) number) (members_view object.old.entries)) }
+        (flag_entries (map (λ word. (word.0.now, word.1)) flags.now) number)
+        (members_view object.old.entries)) }
 {
     for (name, flag) in flags {
         let bit: u32 = if number & *flag == 0 { 0 } else { 1 };

@@ -40,7 +40,8 @@ fn within(alloc: Global, part: Part, value: &Value) -> Result<Value, NoMemory>
 #[cycle(walk)]
 #[tactic(auto, unfolding(crate::specs::Spelling::spelled_items))]
 fn items_within(alloc: Global, part: Part, items: &Vec<Value>) -> Result<Vec<Value>, NoMemory>
-    ensures { IfOk result (λ v. items_view v.items ≡ spelled_items part (items_view items.now.items)) }
+    ensures { IfOk result (λ v. items_view v.items
+        ≡ spelled_items part (items_view items.now.items)) }
 {
     let mut kept = Vec::new(alloc);
     for item in items {

@@ -109,7 +109,8 @@ fn any_buffer<'a>(cursor: &mut Cursor<'a>, n: u8) -> Result<&'a [u8], Rc>
 
 /// A 2B of at most `most` bytes, lent.
 fn bounded_buffer<'a>(cursor: &mut Cursor<'a>, n: u8, most: u16) -> Result<&'a [u8], Rc>
-    ensures { LendsInPlace result (sized_at (of_parameter n) (λ k. nat_le k most) cursor.old) cursor.new }
+    ensures { LendsInPlace result
+        (sized_at (of_parameter n) (λ k. nat_le k most) cursor.old) cursor.new }
 {
     let length = number16(cursor, n)?;
     if length > most {
@@ -133,7 +134,8 @@ pub fn handle(cursor: &mut Cursor, n: u8, named: HandleType) -> Result<u32, Rc>
 
 /// A handle of this type among the parameters.
 pub fn handle_parameter(cursor: &mut Cursor, n: u8, named: HandleType) -> Result<u32, Rc>
-    ensures { ReadsInPlace result (read (of_parameter n) (handle_type named) cursor.old) cursor.new }
+    ensures { ReadsInPlace result
+        (read (of_parameter n) (handle_type named) cursor.old) cursor.new }
 {
     let handle = number32(cursor, n)?;
     if !named.has(handle) {
@@ -197,7 +199,8 @@ pub fn operation(cursor: &mut Cursor, n: u8) -> Result<Compare, Rc>
 /// A number of two bytes that is fixed; another is refused with `code`.
 pub fn fixed(cursor: &mut Cursor, n: u8, value: u16, code: u32) -> Result<(), Rc>
     requires { code < 0x100 }
-    ensures { ReadsInPlace result (read (of_parameter n) (fixed_kind value code) cursor.old) cursor.new }
+    ensures { ReadsInPlace result
+        (read (of_parameter n) (fixed_kind value code) cursor.old) cursor.new }
 {
     if number16(cursor, n)? != value {
         return Err(refused_parameter(n, code));
@@ -208,7 +211,8 @@ pub fn fixed(cursor: &mut Cursor, n: u8, value: u16, code: u32) -> Result<(), Rc
 /// A byte that is fixed; another is refused with `code`.
 pub fn fixed_byte(cursor: &mut Cursor, n: u8, value: u8, code: u32) -> Result<(), Rc>
     requires { code < 0x100 }
-    ensures { ReadsInPlace result (read (of_parameter n) (fixed_byte_kind value code) cursor.old) cursor.new }
+    ensures { ReadsInPlace result
+        (read (of_parameter n) (fixed_byte_kind value code) cursor.old) cursor.new }
 {
     if number8(cursor, n)? != value {
         return Err(refused_parameter(n, code));
@@ -233,7 +237,8 @@ fn digest(cursor: &mut Cursor, n: u8) -> Result<Digest32, Rc>
 
 /// A 2B of 32 bytes.
 pub fn sized_digest(cursor: &mut Cursor, n: u8) -> Result<Digest32, Rc>
-    ensures field { ReadsInPlace result (read (of_parameter n) sized_digest_kind cursor.old) cursor.new }
+    ensures field { ReadsInPlace result
+        (read (of_parameter n) sized_digest_kind cursor.old) cursor.new }
     ensures listed { ReadsInPlace result (listed_digest (of_parameter n) cursor.old) cursor.new }
 {
     fixed(cursor, n, 32, SIZE)?;

@@ -135,7 +135,8 @@ pub fn timeout(out: &mut Blob, deadline: u64) -> Result<(), NoMemory>
 
 /// A deadline or none, and the ticket that goes with it.
 pub fn timed_ticket(out: &mut Blob, deadline: Option<u64>, given: &Ticket) -> Result<(), NoMemory>
-    ensures { Appends result out.old out.new (sized_bytes (timeout_bytes deadline) ++ ticket_bytes given.now) }
+    ensures { Appends result out.old out.new (sized_bytes (timeout_bytes deadline)
+        ++ ticket_bytes given.now) }
 {
     match deadline {
         None => number16(out, 0)?,
@@ -151,7 +152,8 @@ pub fn context(
     session: u32,
     digest: &Digest32,
 ) -> Result<(), NoMemory>
-    ensures { Appends result out.old out.new (spell context_kind (sequence, (session, digest.now))) }
+    ensures { Appends result out.old out.new
+        (spell context_kind (sequence, (session, digest.now))) }
 {
     number64(out, sequence)?;
     number32(out, session)?;
@@ -186,7 +188,8 @@ pub fn signature(out: &mut Blob, hmac: &Digest32) -> Result<(), NoMemory>
 
 /// A count, and that many 2Bs of 32 bytes.
 pub fn digests(out: &mut Blob, digests: &Digests) -> Result<(), NoMemory>
-    ensures { Appends result out.old out.new (to_be_bytes w32 (length digests.now) ++ flat_map (λ digest. sized_bytes digest.bytes) digests.now) }
+    ensures { Appends result out.old out.new (to_be_bytes w32 (length digests.now)
+        ++ flat_map (λ digest. sized_bytes digest.bytes) digests.now) }
 {
     length32(out, digests.len())?;
     for digest in digests.as_slice() {

@@ -45,10 +45,13 @@ use tpol_tree::{
 /// - `VoidPrefix`: a POLICYAUTHORIZE or POLICYAUTHORIZENV has an element before it in its list, or before a
 ///   POLICYOR that encloses it. It comes before the other kinds at that element.
 pub fn fill(alloc: Global, policy: &Policy, sight: Option<&Sight>) -> Result<Closed, FillFault>
-    ensures filled { IfOk result (λ closed. erased closed ≡ filled policy.now (option_copied sight.entry)) }
+    ensures filled { IfOk result (λ closed. erased closed
+        ≡ filled policy.now (option_copied sight.entry)) }
     ensures clear { IfOk result (λ _. fill_faults policy.now (option_copied sight.entry) ≡ []) }
-    ensures refused { IfErr result (λ fault. IsRefusal (cause fault) (first_fault policy.now (option_copied sight.entry))) }
-    ensures branches { written.HasBranchCounts policy.now.elements → IfOk result (λ closed. HasBranchCounts closed.elements) }
+    ensures refused { IfErr result
+        (λ fault. IsRefusal (cause fault) (first_fault policy.now (option_copied sight.entry))) }
+    ensures branches { written.HasBranchCounts policy.now.elements
+        → IfOk result (λ closed. HasBranchCounts closed.elements) }
     ensures approvals_lead { IfOk result (λ closed. ApprovalsLead true closed.elements) }
     ensures pcr_digests { IfOk result (λ closed. EachAssertion HasPcrDigest closed.elements) }
     ensures well_formed { IfOk result IsWellFormedPolicy }
@@ -57,7 +60,8 @@ pub fn fill(alloc: Global, policy: &Policy, sight: Option<&Sight>) -> Result<Clo
     ensures digest { IfOk result (λ closed.
         policy_digest closed ≡ policy_digest (filled policy.now (option_copied sight.entry))) }
     ensures paths { IfOk result (λ closed. (documents : List ApprovedDocument) →
-        paths_of closed documents ≡ paths_of (filled policy.now (option_copied sight.entry)) documents) }
+        paths_of closed documents
+        ≡ paths_of (filled policy.now (option_copied sight.entry)) documents) }
 {
     let root = Place::root(alloc);
     let document = PlaceRef::at(&root);

@@ -40,7 +40,8 @@ fn in_groups(
     branches: ClosedBranches,
     number: u64,
 ) -> Result<ClosedBranches, NoMemory>
-    ensures { IfOk result (λ closed. branches_in closed ≡ numbered number (in_eights (branches_in branches))) }
+    ensures { IfOk result (λ closed. branches_in closed
+        ≡ numbered number (in_eights (branches_in branches))) }
 {
     match branches {
         ClosedBranches::End => Ok(ClosedBranches::End),

@@ -245,7 +245,8 @@ pub fn fill_authorize_nv(
     leads: bool,
     place: &PlaceRef<'_>,
 ) -> Result<ClosedElement, FillFault>
-    ensures { FillsElement (option_copied sight.entry) leads place.now (AuthorizeNv index.now) result }
+    ensures { FillsElement (option_copied sight.entry) leads place.now
+        (AuthorizeNv index.now) result }
 {
     if !leads {
         return Err(fault_at(alloc, FillKind::VoidPrefix, place));

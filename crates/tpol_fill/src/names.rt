@@ -44,7 +44,8 @@ fn digest_of_paths(
     list: &PlaceRef<'_>,
 ) -> Result<Digest32, FillFault>
     ensures { Fills (each_fault (path_faults (option_copied sight.entry) list.now) 0 paths.now)
-        (λ digest. digest ≡ names_digest (map (λ path. or_empty (path_name path (option_copied sight.entry))) paths.now)) result }
+        (λ digest. digest ≡ names_digest
+        (map (λ path. or_empty (path_name path (option_copied sight.entry))) paths.now)) result }
 {
     let mut hasher = Hasher::new();
     for (index, path) in paths.iter().enumerate() {

@@ -48,7 +48,8 @@ fn current_pcrs(
     sight: Option<&Sight>,
     list: &PlaceRef<'_>,
 ) -> Result<Assertion, FillFault>
-    ensures { Fills (each_fault (current_faults (option_copied sight.entry) list.now) 0 (pcrs_of_mask mask))
+    ensures { Fills (each_fault (current_faults (option_copied sight.entry) list.now) 0
+        (pcrs_of_mask mask))
         (λ assertion. assertion ≡ filled_pcrs (Current mask) (option_copied sight.entry)) result }
 {
     let pcrs = pcrs_of_mask(alloc, mask)?;
@@ -63,7 +64,8 @@ fn written_pcrs(
     list: &PlaceRef<'_>,
 ) -> Result<Assertion, FillFault>
     ensures { Fills (each_fault (value_faults list.now) 0 values.now)
-        (λ assertion. assertion ≡ pcr_assertion (mask_of_pcrs (map (λ v. v.0) values.now)) (map (λ v. v.1) values.now)) result }
+        (λ assertion. assertion ≡ pcr_assertion (mask_of_pcrs (map (λ v. v.0) values.now))
+        (map (λ v. v.1) values.now)) result }
 {
     let mut mask = 0;
     let mut digests = Digests::new(alloc);
@@ -86,7 +88,8 @@ fn current_values(
     list: &PlaceRef<'_>,
 ) -> Result<Digests, FillFault>
     ensures { Fills (each_fault (current_faults (option_copied sight.entry) list.now) 0 pcrs.now)
-        (λ values. values ≡ map (λ pcr. or_zero (current_value (option_copied sight.entry) pcr)) pcrs.now) result }
+        (λ values. values ≡ map (λ pcr. or_zero (current_value (option_copied sight.entry) pcr))
+        pcrs.now) result }
 {
     let mut values = Digests::new(alloc);
     for (index, pcr) in pcrs.iter().enumerate() {

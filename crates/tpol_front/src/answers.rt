@@ -27,14 +27,16 @@ pub fn answer_of_words<C: Command, S: Source, H: Shelf>(
     shelf: &mut H,
 ) -> Result<Answer, Halt>
     ensures report { IfAnswered result (λ answer.
-        OfReport C.commands (map string_bytes words.now.items) (S.left source.old) (H.documents shelf.old) (λ report.
+        OfReport C.commands (map string_bytes words.now.items) (S.left source.old)
+        (H.documents shelf.old) (λ report.
         (answer ≡ report.answer) × (H.documents shelf.new ≡ Some report.documents))) }
     ensures told { OfDone result (λ answer.
         IfCommand (C.commands.command_of (map string_bytes words.now.items)) (λ command.
         OfHeld (S.left source.old) (H.documents shelf.old) (λ input all.
         C.IsTrueOf command (seen_by C.commands command input) all answer))) }
     ensures keeps { OnErr result (H.documents shelf.new ≡ H.documents shelf.old) }
-    ensures reads { AsksSource (reads_source C.commands (map string_bytes words.now.items)) source.old source.new
+    ensures reads { AsksSource
+        (reads_source C.commands (map string_bytes words.now.items)) source.old source.new
         (S.left source.old) (S.left source.new) (S.faults source.old) (S.faults source.new) result }
     ensures asks { UsesShelf (uses_shelf C.commands (map string_bytes words.now.items))
         (S.left source.old) (λ held. IsReadableOf C.commands C.IsDocument
@@ -59,7 +61,8 @@ fn answer_of_command<C: Command, S: Source, H: Shelf>(
 ) -> Result<Answer, Halt>
     ensures report { IfAnswered result (λ answer.
         OfHeld (S.left source.old) (H.documents shelf.old) (λ input all.
-        let report = report_of_input C.commands command.now (seen_by C.commands command.now input) all in
+        let report = report_of_input C.commands command.now
+        (seen_by C.commands command.now input) all in
         (answer ≡ report.answer) × (H.documents shelf.new ≡ Some report.documents))) }
     ensures told { OfDone result (λ answer.
         OfHeld (S.left source.old) (H.documents shelf.old) (λ input all.
@@ -102,7 +105,8 @@ fn answer_of_input<C: Command, H: Shelf>(
     ensures told { OfDone result (λ answer.
         IfSome (H.documents shelf.old) (λ all. C.IsTrueOf command.now input.now all answer)) }
     ensures keeps { OnErr result (H.documents shelf.new ≡ H.documents shelf.old) }
-    ensures asks { AsksShelf (C.commands.uses command.now) (IsReadable (C.IsDocument command.now) input.now)
+    ensures asks { AsksShelf (C.commands.uses command.now)
+        (IsReadable (C.IsDocument command.now) input.now)
         shelf.old shelf.new (H.faults shelf.old) (H.faults shelf.new) result }
 {
     if input.len() >= most_read() {

@@ -24,7 +24,8 @@ pub trait Command: Drop {
 
     /// The command that the words are, or `None` where they are none. It fails only where memory ran out.
     fn from_words(alloc: Global, words: &Vec<String>) -> Result<Option<Self>, NoMemory>
-        ensures { IfOk result (λ command. command ≡ commands.command_of (map string_bytes words.now.items)) };
+        ensures { IfOk result (λ command. command
+            ≡ commands.command_of (map string_bytes words.now.items)) };
 
     /// Whether the command reads the source.
     fn reads_source(&self) -> bool
@@ -48,6 +49,7 @@ pub trait Command: Drop {
         ensures leaves { IfAnswered result (λ _. IfSome (H.documents shelf.old) (λ all.
             H.documents shelf.new ≡ Some (commands.documents_after self.now input.now all))) }
         ensures keeps { OnErr result (H.documents shelf.new ≡ H.documents shelf.old) }
-        ensures asks { AsksShelf (commands.uses self.now) (IsDocument self.now input.now) shelf.old shelf.new
+        ensures asks { AsksShelf (commands.uses self.now)
+            (IsDocument self.now input.now) shelf.old shelf.new
             (H.faults shelf.old) (H.faults shelf.new) result };
 }

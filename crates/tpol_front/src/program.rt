@@ -33,12 +33,14 @@ pub fn run_program<C: Command, S: Source, K: Sink, H: Shelf>(
     // The report of the words, of the source's bytes up to byte 16,777,217, and of the shelf's documents, in whole or,
     // where the sink failed, a first part of it.
     ensures report { IsWhole result
-        → OfReport C.commands (map string_bytes words.now.items) (S.left source.old) (H.documents shelf.old) (λ report.
+        → OfReport C.commands (map string_bytes words.now.items) (S.left source.old)
+        (H.documents shelf.old) (λ report.
         (result ≡ status_of report.answer.verdict)
         × Grows (K.contents out.old) (K.contents out.new) (text_of report.answer.lines)
         × (H.documents shelf.new ≡ Some report.documents)) }
     ensures prefix { result ≡ Status.WriteFault
-        → OfReport C.commands (map string_bytes words.now.items) (S.left source.old) (H.documents shelf.old) (λ report.
+        → OfReport C.commands (map string_bytes words.now.items) (S.left source.old)
+        (H.documents shelf.old) (λ report.
         GrowsInPart (K.contents out.old) (K.contents out.new) (text_of report.answer.lines)
         × (H.documents shelf.new ≡ Some report.documents)) }
 
@@ -47,18 +49,24 @@ pub fn run_program<C: Command, S: Source, K: Sink, H: Shelf>(
     ensures unchanged { IsSilent result → H.documents shelf.new ≡ H.documents shelf.old }
 
     // What is read of the source, and how far the run came before the shelf was asked.
-    ensures read_whole { IsTrue (reads_source C.commands (map string_bytes words.now.items)) → IsPastReading result
+    ensures read_whole { IsTrue (reads_source C.commands (map string_bytes words.now.items))
+        → IsPastReading result
         → IfSome (S.left source.old) (λ held. S.left source.new ≡ Some (drop most_read held)) }
     ensures read_at_most { LosesAtMost most_read (S.left source.old) (S.left source.new) }
-    ensures unread { reads_source C.commands (map string_bytes words.now.items) ≡ false → source.new ≡ source.old }
-    ensures untouched { uses_shelf C.commands (map string_bytes words.now.items) ≡ false → shelf.new ≡ shelf.old }
-    ensures asked { IfSome (S.left source.old) (λ held. (shelf.new ≡ shelf.old) ⊎ IsReadableOf C.commands C.IsDocument
+    ensures unread { reads_source C.commands (map string_bytes words.now.items) ≡ false
+        → source.new ≡ source.old }
+    ensures untouched { uses_shelf C.commands (map string_bytes words.now.items) ≡ false
+        → shelf.new ≡ shelf.old }
+    ensures asked { IfSome (S.left source.old) (λ held. (shelf.new ≡ shelf.old)
+        ⊎ IsReadableOf C.commands C.IsDocument
         (C.commands.command_of (map string_bytes words.now.items)) (take most_read held)) }
 
     // Each fault comes only where its object failed in this call, and only of commands that use the object.
-    ensures read_fault { result ≡ Status.ReadFault → Rose (S.faults source.old) (S.faults source.new) }
+    ensures read_fault { result ≡ Status.ReadFault
+        → Rose (S.faults source.old) (S.faults source.new) }
     ensures write_fault { result ≡ Status.WriteFault → Rose (K.faults out.old) (K.faults out.new) }
-    ensures shelf_fault { result ≡ Status.ShelfFault → Rose (H.faults shelf.old) (H.faults shelf.new) }
+    ensures shelf_fault { result ≡ Status.ShelfFault
+        → Rose (H.faults shelf.old) (H.faults shelf.new) }
     ensures read_fault_of { result ≡ Status.ReadFault
         → IsTrue (reads_source C.commands (map string_bytes words.now.items)) }
     ensures shelf_fault_of { result ≡ Status.ShelfFault
@@ -77,7 +85,8 @@ pub fn run_program<C: Command, S: Source, K: Sink, H: Shelf>(
     ensures shelf_count { H.faults shelf.old ≤ H.faults shelf.new }
 
     // What the program's commands tell besides.
-    ensures told { result ≡ Status.Done → IfCommand (C.commands.command_of (map string_bytes words.now.items)) (λ command.
+    ensures told { result ≡ Status.Done
+        → IfCommand (C.commands.command_of (map string_bytes words.now.items)) (λ command.
         OfHeld (S.left source.old) (H.documents shelf.old) (λ input all.
         C.IsTrueOf command (seen_by C.commands command input) all
         (report_of C.commands (map string_bytes words.now.items) input all).answer)) }

@@ -24,7 +24,8 @@ pub fn perform_run(
     requires setup { IsSetup setup }
     requires scenario { IsScenarioOf setup scenario.now }
     requires locality { run.locality ≤ 4 }
-    ensures told { IfOk result (λ performance. performance ≡ performed_run scenario.now policy.now run (start_of setup)) }
+    ensures told { IfOk result (λ performance. performance
+        ≡ performed_run scenario.now policy.now run (start_of setup)) }
     ensures few { IfOk result (λ performance. length performance.past ≤ 65700) }
 {
     let mut performance = match Performance::new(alloc, setup) {
@@ -54,7 +55,8 @@ fn run_first(
     requires scenario { IsScenarioOf performance.old.setup scenario.now }
     requires locality { run.locality ≤ 4 }
     requires first { length performance.old.past ≡ 0 }
-    ensures told { OnOk result (performance.new ≡ performed_run scenario.now policy.now run performance.old) }
+    ensures told { OnOk result (performance.new
+        ≡ performed_run scenario.now policy.now run performance.old) }
     ensures few { OnOk result (length performance.new.past ≤ 65700) }
 {
     performance.begin(alloc, scenario, policy, run)?;

@@ -126,7 +126,8 @@ fn push_digest(alloc: Global, lines: &mut Lines, digest: &Digest32) -> Result<()
 fn push_run(alloc: Global, lines: &mut Lines, order: u32, closed: Closed) -> Result<(), NoMemory>
     requires form { IsFilledPolicy closed }
     requires within { AreWithinLimits (paths_of closed []) }
-    ensures { OnOk result (lines.new ≡ lines.old ++ generated_run_lines (generated_performance order closed)) }
+    ensures { OnOk result (lines.new
+        ≡ lines.old ++ generated_run_lines (generated_performance order closed)) }
 {
     let performance = generated_performance(alloc, order, closed)?;
     let pushed = push_performance(alloc, lines, &performance);

@@ -38,7 +38,8 @@ pub fn generated_policy(alloc: Global, ors: u8, order: u32) -> Result<Policy, No
 #[tactic(auto, using(crate::proofs::GeneratedSetups::ors_step), unfolding(crate::specs::Generate::generated_ors))]
 fn generated_ors(alloc: Global, more: u8, pcr: u8, bits: u32) -> Result<Elements, NoMemory>
     requires few { pcr + more ≤ 255 }
-    ensures elements { IfOk result (λ elements. erased_elements elements ≡ generated_ors more pcr bits) }
+    ensures elements { IfOk result (λ elements. erased_elements elements
+        ≡ generated_ors more pcr bits) }
     ensures branches { IfOk result HasBranchCounts }
 {
     if more == 0 {
@@ -56,8 +57,10 @@ fn generated_ors(alloc: Global, more: u8, pcr: u8, bits: u32) -> Result<Elements
 
 // An element and those behind it.
 fn before(alloc: Global, element: Element, rest: Elements) -> Result<Elements, NoMemory>
-    ensures elements { IfOk result (λ elements. erased_elements elements ≡ before (erased_element element) (erased_elements rest)) }
-    ensures branches { EachElementWithin HasBranchCount element → HasBranchCounts rest → IfOk result HasBranchCounts }
+    ensures elements { IfOk result (λ elements. erased_elements elements
+        ≡ before (erased_element element) (erased_elements rest)) }
+    ensures branches { EachElementWithin HasBranchCount element → HasBranchCounts rest
+        → IfOk result HasBranchCounts }
 {
     match Box::new(alloc, element) {
         Ok(element) => {
@@ -105,8 +108,10 @@ fn zero_pcr(alloc: Global, pcr: u8) -> Result<Element, NoMemory>
 fn branch(alloc: Global, name: &str, element: Element) -> Result<Branch, NoMemory>
     ensures name { IfOk result (λ branch. branch.name ≡ name.now) }
     ensures description { IfOk result (λ branch. branch.description ≡ []) }
-    ensures elements { IfOk result (λ branch. erased_elements branch.elements ≡ before (erased_element element) End) }
-    ensures branches { EachElementWithin HasBranchCount element → IfOk result (λ branch. HasBranchCounts branch.elements) }
+    ensures elements { IfOk result (λ branch. erased_elements branch.elements
+        ≡ before (erased_element element) End) }
+    ensures branches { EachElementWithin HasBranchCount element
+        → IfOk result (λ branch. HasBranchCounts branch.elements) }
 {
     let elements = before(alloc, element, Elements::End)?;
     match Text::from_str(alloc, name) {
@@ -124,8 +129,11 @@ fn branch(alloc: Global, name: &str, element: Element) -> Result<Branch, NoMemor
 
 fn two_branches(alloc: Global, first: Branch, second: Branch) -> Result<Element, NoMemory>
     requires descriptions { (first.description ≡ []) × (second.description ≡ []) }
-    ensures branches { HasBranchCounts first.elements → HasBranchCounts second.elements → IfOk result (EachElementWithin HasBranchCount) }
-    ensures element { IfOk result (λ element. erased_element element ≡ Or (two_branches first.name (erased_elements first.elements) second.name (erased_elements second.elements))) }
+    ensures branches { HasBranchCounts first.elements → HasBranchCounts second.elements
+        → IfOk result (EachElementWithin HasBranchCount) }
+    ensures element { IfOk result (λ element. erased_element element
+        ≡ Or (two_branches first.name (erased_elements first.elements) second.name
+        (erased_elements second.elements))) }
 {
     match branch_before(alloc, second, Branches::End) {
         Ok(behind) => {
@@ -142,9 +150,11 @@ fn two_branches(alloc: Global, first: Branch, second: Branch) -> Result<Element,
 // A branch and those behind it.
 fn branch_before(alloc: Global, branch: Branch, rest: Branches) -> Result<Branches, NoMemory>
     ensures branches { IfOk result (λ branches. erased_branches branches
-        ≡ MoreBranches' nowhere branch.name branch.description (erased_elements branch.elements) nowhere (erased_branches rest)) }
+        ≡ MoreBranches' nowhere branch.name branch.description
+        (erased_elements branch.elements) nowhere (erased_branches rest)) }
     ensures count { IfOk result (λ branches. branch_count branches ≡ branch_count rest + 1) }
-    ensures within { HasBranchCounts branch.elements → EachElementOfBranches HasBranchCount rest → IfOk result (EachElementOfBranches HasBranchCount) }
+    ensures within { HasBranchCounts branch.elements → EachElementOfBranches HasBranchCount rest
+        → IfOk result (EachElementOfBranches HasBranchCount) }
 {
     match Box::new(alloc, branch) {
         Ok(branch) => {

@@ -61,7 +61,8 @@ pub fn name_of_handle(directory: &[DirEntry], handle: u32) -> Name
 /// The same as `entity_of_name` for the directory of what a sight shows. No memory is taken.
 pub fn entity_in_sight(sight: &Sight, name: &Name) -> Option<u32>
     ensures entity { result ≡ entity_in_sight sight.now name.now }
-    ensures directory { result ≡ entity_of_name (lines_of sight.now.objects sight.now.indices) name.now }
+    ensures directory { result
+        ≡ entity_of_name (lines_of sight.now.objects sight.now.indices) name.now }
 {
     find_entity(sight, name)
 }

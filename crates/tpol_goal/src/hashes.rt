@@ -49,7 +49,8 @@ fn put_names<N: Naming>(goal: &Goal, names: &N, hasher: &mut Hasher)
 
 // Adds the parameters of the goal's command (TPM 2.0 Part 3, under its name).
 fn put_parameters(goal: &Goal, hasher: &mut Hasher)
-    ensures { (m : List ℕ) → Holds hasher.old m → Holds hasher.new (m ++ parameters_of_goal goal.now) }
+    ensures { (m : List ℕ) → Holds hasher.old m
+        → Holds hasher.new (m ++ parameters_of_goal goal.now) }
 {
     match goal {
         Goal::Unseal { .. } | Goal::NvIncrement { .. } => {}

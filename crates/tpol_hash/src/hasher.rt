@@ -32,7 +32,8 @@ impl Hasher {
 
     /// Adds the bytes of a Name to the message.
     pub fn put_name(&mut self, name: &Name)
-        ensures longer { (m : List ℕ) → Holds self.old m → Holds self.new (m ++ name_bytes name.now) }
+        ensures longer { (m : List ℕ) → Holds self.old m
+            → Holds self.new (m ++ name_bytes name.now) }
     {
         self.put(name.bytes().as_slice());
     }

@@ -31,7 +31,8 @@ pub fn needed<'a>(
 ) -> Result<(&'a Value, PlaceRef<'a>), MemberFault>
     ensures there { IfOk result (λ found. get name.now (view value.now) ≡ Some (view found.0.now)) }
     ensures place { IfOk result (λ found. found.1 ≡ at_member place.now name.now) }
-    ensures missing { IfErr result (λ fault. IsMissing fault (get name.now (view value.now)) (at_member place.now name.now)) }
+    ensures missing { IfErr result
+        (λ fault. IsMissing fault (get name.now (view value.now)) (at_member place.now name.now)) }
 {
     let found = present(alloc, value, name, place)?;
     Ok((found, place.member(name)))
@@ -45,7 +46,8 @@ fn present<'a>(
     place: &PlaceRef<'_>,
 ) -> Result<&'a Value, MemberFault>
     ensures there { IfOk result (λ found. get name.now (view value.now) ≡ Some (view found.now)) }
-    ensures missing { IfErr result (λ fault. IsMissing fault (get name.now (view value.now)) (at_member place.now name.now)) }
+    ensures missing { IfErr result
+        (λ fault. IsMissing fault (get name.now (view value.now)) (at_member place.now name.now)) }
 {
     match member(value, name) {
         Some(found) => Ok(found),
@@ -62,7 +64,8 @@ pub fn without<K: Copy>(
     twice: K,
     place: &PlaceRef<'_>,
 ) -> Result<(), Fault<K>>
-    ensures { Gives result (without twice (map (λ name. name.now) names.now) (view value.now) place.now) }
+    ensures { Gives result (without twice (map (λ name. name.now) names.now)
+        (view value.now) place.now) }
 {
     for name in names {
         if member(value, name).is_some() {
@@ -92,7 +95,8 @@ pub fn note_unknown(
     place: &PlaceRef<'_>,
     notes: &mut Notes,
 ) -> Result<(), NoMemory>
-    ensures { OnOk result (notes.new ≡ notes.old ++ unknown (map (λ name. name.now) known.now) (view value.now) place.now) }
+    ensures { OnOk result (notes.new
+        ≡ notes.old ++ unknown (map (λ name. name.now) known.now) (view value.now) place.now) }
 {
     let Some(members) = value.as_object() else {
         return Ok(());

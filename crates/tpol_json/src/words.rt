@@ -35,7 +35,8 @@ fn is_joined(text: &[u8], prefix: &[u8], word: &[u8]) -> bool
 /// What the first of these words that the text is, in any case and with or without the prefix, stands for.
 #[tactic(auto, unfolding(crate::specs::Words::find_word))]
 fn find_word<T: Copy>(text: &str, prefix: &str, words: &[(&str, T)]) -> Option<T>
-    ensures { result ≡ find_word prefix.now (map (λ word. (word.0.now, word.1)) words.now) text.now }
+    ensures { result ≡ find_word prefix.now
+        (map (λ word. (word.0.now, word.1)) words.now) text.now }
 {
     for (word, meaning) in words {
         if same_word(text, prefix, word) {
@@ -47,7 +48,8 @@ fn find_word<T: Copy>(text: &str, prefix: &str, words: &[(&str, T)]) -> Option<T
 
 /// The same of a value that is a text; None for any other value.
 pub fn word_in<T: Copy>(value: &Value, prefix: &str, words: &[(&str, T)]) -> Option<T>
-    ensures { result ≡ word_in prefix.now (map (λ word. (word.0.now, word.1)) words.now) (view value.now) }
+    ensures { result ≡ word_in prefix.now (map (λ word. (word.0.now, word.1)) words.now)
+        (view value.now) }
 {
     match value.as_str() {
         Some(text) => find_word(text, prefix, words),
@@ -64,7 +66,8 @@ pub fn word<T: Copy>(
     words: &[(&str, T)],
     place: &PlaceRef<'_>,
 ) -> Result<Option<T>, MemberFault>
-    ensures { Gives result (one_word prefix.now (map (λ word. (word.0.now, word.1)) words.now) (view value.now) place.now) }
+    ensures { Gives result (one_word prefix.now (map (λ word. (word.0.now, word.1)) words.now)
+        (view value.now) place.now) }
 {
     match value {
         Value::String(text) => Ok(find_word(text.as_str(), prefix, words)),

@@ -9,5 +9,6 @@ ghost use Rattle.tpol_laws.specs.GeneratedRun.{IsGeneratedText, closed_of};
 /// executed, the last of them, which is the goal's Unseal with the machine's answer, and that the run is served with the
 /// object's secret (`IsGeneratedText`). The number of ORs is what `gen` takes, at most 12.
 pub fn gen_is_served()
-    ensures { (ors order : ℕ) → ors ≤ 12 → IsGeneratedText ors order (generated_answer ors order (closed_of ors order)).lines }
+    ensures { (ors order : ℕ) → ors ≤ 12
+        → IsGeneratedText ors order (generated_answer ors order (closed_of ors order)).lines }
 {}

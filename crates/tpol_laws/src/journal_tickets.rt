@@ -25,15 +25,23 @@ ghost use Rattle.tpol_laws.specs.JournalTickets.{CommandIn, IsApprovalAccepted, 
 /// where the command succeeds and it is the machine's for the digest and the key (`IsVerificationTicket`).
 pub fn journals_tell_tickets()
     ensures told { (setup : SetupOf) (journal : List EventOf) (it : CommandIn journal)
-        → IsLegal setup journal → IsOfBytes it.buffer → time_of setup it.earlier ≤ 2 ^ 63 → has_timeout it.command ≡ true
-        → ticket_told it.command it.reply ≡ option_map (λ given. (given.deadline, given.ticket)) (given_by setup it.earlier it.command it.outcome) }
-    ensures given { (setup : SetupOf) (journal : List EventOf) (it : CommandIn journal) (given : Ticketed)
+        → IsLegal setup journal → IsOfBytes it.buffer → time_of setup it.earlier ≤ 2 ^ 63
+        → has_timeout it.command ≡ true
+        → ticket_told it.command it.reply
+        ≡ option_map (λ given. (given.deadline, given.ticket))
+        (given_by setup it.earlier it.command it.outcome) }
+    ensures given { (setup : SetupOf) (journal : List EventOf) (it : CommandIn journal)
+        (given : Ticketed)
         → given_by setup it.earlier it.command it.outcome ≡ Some given
-        → IsAuthorizationTicket setup it.earlier given.deadline given.cp_hash given.policy_ref given.name given.ticket }
-    ensures verified { (setup : SetupOf) (journal : List EventOf) (it : CommandIn journal) (key : ℕ) (digest signature : Digest32) (ticket : Ticket)
-        → IsLegal setup journal → IsOfBytes it.buffer → it.command ≡ VerifySignature key digest signature
+        → IsAuthorizationTicket setup it.earlier given.deadline given.cp_hash given.policy_ref
+        given.name given.ticket }
+    ensures verified { (setup : SetupOf) (journal : List EventOf) (it : CommandIn journal) (key : ℕ)
+        (digest signature : Digest32) (ticket : Ticket)
+        → IsLegal setup journal → IsOfBytes it.buffer
+        → it.command ≡ VerifySignature key digest signature
         → (verification_told it.command it.reply ≡ Some ticket)
-        ↔ ((is_success it.outcome ≡ true) × IsVerificationTicket setup digest (name_at (world_at setup it.earlier) key) ticket) }
+        ↔ ((is_success it.outcome ≡ true)
+        × IsVerificationTicket setup digest (name_at (world_at setup it.earlier) key) ticket) }
 {}
 
 /// A PolicyTicket of a journal is accepted exactly where its session is live, has room and a slot that takes the cpHashA,
@@ -43,17 +51,30 @@ pub fn journals_tell_tickets()
 /// given in the journal comes back: the PolicyTicket with its fields can be sent to each session that takes it, and is
 /// accepted while its deadline has not passed and no Reset came since.
 pub fn own_tickets_are_accepted()
-    ensures tickets { (setup : SetupOf) (journal : List EventOf) (it : CommandIn journal) (own deadline : ℕ) (cp_hash : Option Digest32) (policy_ref : List ℕ) (name : Name) (ticket : Ticket)
-        → IsLegal setup journal → it.command ≡ PolicyTicket own deadline cp_hash policy_ref name ticket
-        → (it.outcome ≡ Accepted) ↔ IsTicketAccepted setup it.earlier own deadline cp_hash policy_ref name ticket }
-    ensures approvals { (setup : SetupOf) (journal : List EventOf) (it : CommandIn journal) (own : ℕ) (approved : Digest32) (policy_ref : List ℕ) (key : Name) (ticket : Ticket)
+    ensures tickets { (setup : SetupOf) (journal : List EventOf) (it : CommandIn journal)
+        (own deadline : ℕ) (cp_hash : Option Digest32) (policy_ref : List ℕ) (name : Name)
+        (ticket : Ticket)
+        → IsLegal setup journal → it.command
+        ≡ PolicyTicket own deadline cp_hash policy_ref name ticket
+        → (it.outcome ≡ Accepted)
+        ↔ IsTicketAccepted setup it.earlier own deadline cp_hash policy_ref name ticket }
+    ensures approvals { (setup : SetupOf) (journal : List EventOf) (it : CommandIn journal)
+        (own : ℕ) (approved : Digest32) (policy_ref : List ℕ) (key : Name) (ticket : Ticket)
         → IsLegal setup journal → it.command ≡ PolicyAuthorize own approved policy_ref key ticket
-        → (it.outcome ≡ Accepted) ↔ IsApprovalAccepted setup it.earlier own approved policy_ref key ticket }
-    ensures can_be_sent { (setup : SetupOf) (journal : List EventOf) (it : CommandIn journal) (given : Ticketed) (own : ℕ)
-        → given_by setup it.earlier it.command it.outcome ≡ Some given → IsOfBytes it.buffer → time_of setup it.earlier ≤ 2 ^ 63
-        → TakesAuthorization setup journal own given.cp_hash → reading (spelling (ticket_command own given)) ≡ Ok (ticket_command own given) }
-    ensures come_back { (setup : SetupOf) (journal : List EventOf) (it : CommandIn journal) (given : Ticketed) (own locality : ℕ)
-        → given_by setup it.earlier it.command it.outcome ≡ Some given → IsOfBytes it.buffer → time_of setup it.earlier ≤ 2 ^ 63
-        → has_reset it.later ≡ false → TakesAuthorization setup journal own given.cp_hash → time_of setup journal ≤ given.deadline
-        → (answer_to setup journal locality (spelling (ticket_command own given))).outcome ≡ Accepted }
+        → (it.outcome ≡ Accepted)
+        ↔ IsApprovalAccepted setup it.earlier own approved policy_ref key ticket }
+    ensures can_be_sent { (setup : SetupOf) (journal : List EventOf) (it : CommandIn journal)
+        (given : Ticketed) (own : ℕ)
+        → given_by setup it.earlier it.command it.outcome ≡ Some given → IsOfBytes it.buffer
+        → time_of setup it.earlier ≤ 2 ^ 63
+        → TakesAuthorization setup journal own given.cp_hash
+        → reading (spelling (ticket_command own given)) ≡ Ok (ticket_command own given) }
+    ensures come_back { (setup : SetupOf) (journal : List EventOf) (it : CommandIn journal)
+        (given : Ticketed) (own locality : ℕ)
+        → given_by setup it.earlier it.command it.outcome ≡ Some given → IsOfBytes it.buffer
+        → time_of setup it.earlier ≤ 2 ^ 63
+        → has_reset it.later ≡ false → TakesAuthorization setup journal own given.cp_hash
+        → time_of setup journal ≤ given.deadline
+        → (answer_to setup journal locality (spelling (ticket_command own given))).outcome
+        ≡ Accepted }
 {}

@@ -75,7 +75,8 @@ use tpol_driver::{blind_driving_ends, mirrored};
 pub fn a_path_that_can_is_complete()
     ensures { (setup : SetupOf) (past : List EventOf) (plan : Plan) (locality : ℕ)
         → IsSetup setup → plan.directory ≡ directory_of setup
-        → first_block plan.path (sight_after setup past) plan.grants plan.goal locality ≡ None → is_complete plan ≡ true }
+        → first_block plan.path (sight_after setup past) plan.grants plan.goal locality ≡ None
+        → is_complete plan ≡ true }
 {}
 
 /// A run as a script begins it (`IsBegun`), whose path nothing blocks on the machine as it is at the run's begin, and
@@ -86,11 +87,14 @@ pub fn a_path_that_can_is_complete()
 pub fn a_path_that_can_is_served()
     ensures served { (run : Run) (past : List EventOf) (turns : ℕ)
         → IsBegun run → All (IsUsable run.setup past) run.plan.tickets
-        → first_block run.plan.path (sight_after run.setup past) run.plan.grants run.plan.goal run.locality ≡ None
+        → first_block run.plan.path
+        (sight_after run.setup past) run.plan.grants run.plan.goal run.locality ≡ None
         → commands_along run.plan.path ≤ turns
-        → (after_acts run (replicate turns Turn) (begun past)).standing ≡ Over (Served (goal_bytes (world_at run.setup past) run.plan.goal)) }
+        → (after_acts run (replicate turns Turn) (begun past)).standing
+        ≡ Over (Served (goal_bytes (world_at run.setup past) run.plan.goal)) }
     ensures never_sooner { (run : Run) (past : List EventOf) (acts : List Act) (bytes : List ℕ)
-        → turns_in acts < commands_along run.plan.path → (after_acts run acts (begun past)).standing ≢ Over (Served bytes) }
+        → turns_in acts < commands_along run.plan.path
+        → (after_acts run acts (begun past)).standing ≢ Over (Served bytes) }
 {}
 
 /// A run as a script begins it (`IsBegun`; the offset of its goal, if it has one, has two bytes) that holds no tickets,
@@ -101,23 +105,32 @@ pub fn a_path_that_can_is_served()
 /// right once serves where the secret that is granted is wrong by now.
 pub fn a_blocked_path_fails()
     ensures served { (run : Run) (past : List EventOf) (turns : ℕ) (block : Block) (bytes : List ℕ)
-        → IsBegun run → run.plan.tickets ≡ [] → HasShortOffset run.plan.goal → is_complete run.plan ≡ true
-        → first_block run.plan.path (sight_after run.setup past) run.plan.grants run.plan.goal run.locality ≡ Some block
+        → IsBegun run → run.plan.tickets ≡ [] → HasShortOffset run.plan.goal
+        → is_complete run.plan ≡ true
+        → first_block run.plan.path
+        (sight_after run.setup past) run.plan.grants run.plan.goal run.locality ≡ Some block
         → (after_acts run (replicate turns Turn) (begun past)).standing ≡ Over (Served bytes)
-        → (before : ℕ) × (before ≤ turns) × IsByChance run (after_acts run (replicate before Turn) (begun past)) }
+        → (before : ℕ) × (before ≤ turns)
+        × IsByChance run (after_acts run (replicate before Turn) (begun past)) }
     ensures fails { (run : Run) (past : List EventOf) (turns : ℕ) (block : Block) (session : ℕ)
-        → IsBegun run → run.plan.tickets ≡ [] → HasShortOffset run.plan.goal → is_complete run.plan ≡ true
-        → first_block run.plan.path (sight_after run.setup past) run.plan.grants run.plan.goal run.locality ≡ Some block
-        → place_of (after_acts run (replicate turns Turn) (begun past)).standing ≡ Some (session, length run.plan.path.moves)
-        → succeeds run (after_acts run (replicate turns Turn) (begun past)) (sends run.plan (after_acts run (replicate turns Turn) (begun past)).standing) ≡ true
-        → (before : ℕ) × (before ≤ turns) × IsByChance run (after_acts run (replicate before Turn) (begun past)) }
+        → IsBegun run → run.plan.tickets ≡ [] → HasShortOffset run.plan.goal
+        → is_complete run.plan ≡ true
+        → first_block run.plan.path
+        (sight_after run.setup past) run.plan.grants run.plan.goal run.locality ≡ Some block
+        → place_of (after_acts run (replicate turns Turn) (begun past)).standing
+        ≡ Some (session, length run.plan.path.moves)
+        → succeeds run (after_acts run (replicate turns Turn) (begun past))
+        (sends run.plan (after_acts run (replicate turns Turn) (begun past)).standing) ≡ true
+        → (before : ℕ) × (before ≤ turns)
+        × IsByChance run (after_acts run (replicate before Turn) (begun past)) }
 {}
 
 /// A run is over after as many turns as it has commands at most, whatever others do: two for each move, and the
 /// start, the goal and the end of its session.
 pub fn a_run_ends()
     ensures { (run : Run) (past : List EventOf) (acts : List Act)
-        → 2 * length run.plan.path.moves + 3 ≤ turns_in acts → is_over (after_acts run acts (begun past)).standing ≡ true }
+        → 2 * length run.plan.path.moves + 3 ≤ turns_in acts
+        → is_over (after_acts run acts (begun past)).standing ≡ true }
 {}
 
 /// Where the machine started from a scene, the plan has the scene's directory, is complete, and its grants and
@@ -130,12 +143,17 @@ pub fn a_run_ends()
 pub fn a_run_goes_on()
     ensures starts { (run : Run) (past : List EventOf)
         → succeeds run (begun past) (sends run.plan Starting) ≡ true
-        → option_map (λ place. place.1) (place_of (after_act run (begun past) Turn).standing) ≡ Some 0 }
+        → option_map (λ place. place.1) (place_of (after_act run (begun past) Turn).standing)
+        ≡ Some 0 }
     ensures goes_on { (run : Run) (past : List EventOf) (acts : List Act) (session done : ℕ)
-        → IsRun run → AreOthersApart run acts (begun past) → AreSecretsOnWritten run acts (begun past)
-        → place_of (after_acts run acts (begun past)).standing ≡ Some (session, done) → done < length run.plan.path.moves
-        → succeeds run (after_acts run acts (begun past)) (sends run.plan (after_acts run acts (begun past)).standing) ≡ true
-        → HasGoneOn session done (place_of (after_act run (after_acts run acts (begun past)) Turn).standing) }
+        → IsRun run → AreOthersApart run acts (begun past)
+        → AreSecretsOnWritten run acts (begun past)
+        → place_of (after_acts run acts (begun past)).standing ≡ Some (session, done)
+        → done < length run.plan.path.moves
+        → succeeds run (after_acts run acts (begun past))
+        (sends run.plan (after_acts run acts (begun past)).standing) ≡ true
+        → HasGoneOn session done
+        (place_of (after_act run (after_acts run acts (begun past)) Turn).standing) }
 {}
 
 /// Of a run as in the law before (`IsRun`): while its commands succeed, no event of anybody else names its
@@ -145,17 +163,28 @@ pub fn a_run_goes_on()
 /// has this path. Where a command of the run does not succeed, the run does not stand on its path any more.
 pub fn session_digest_is_compiled()
     ensures hashes { (run : Run) (past : List EventOf) (acts : List Act) (session done : ℕ)
-        → IsRun run → AreOthersApart run acts (begun past) → AreSecretsOnWritten run acts (begun past)
+        → IsRun run → AreOthersApart run acts (begun past)
+        → AreSecretsOnWritten run acts (begun past)
         → place_of (after_acts run acts (begun past)).standing ≡ Some (session, done)
-        → map update_of (moves_of_facts (facts_of run.setup (after_acts run acts (begun past)).past session)) ≡ map update_of (take done run.plan.path.moves) }
+        → map update_of (moves_of_facts
+        (facts_of run.setup (after_acts run acts (begun past)).past session))
+        ≡ map update_of (take done run.plan.path.moves) }
     ensures path { (run : Run) (past : List EventOf) (acts : List Act) (session done : ℕ)
-        → IsRun run → AreOthersApart run acts (begun past) → AreSecretsOnWritten run acts (begun past)
+        → IsRun run → AreOthersApart run acts (begun past)
+        → AreSecretsOnWritten run acts (begun past)
         → place_of (after_acts run acts (begun past)).standing ≡ Some (session, done)
-        → digest_of_moves (moves_of_facts (facts_of run.setup (after_acts run acts (begun past)).past session)) ≡ digest_of_moves (take done run.plan.path.moves) }
-    ensures compiled { (run : Run) (past : List EventOf) (acts : List Act) (session : ℕ) (policy : Closed) (approvals : List ApprovedDoc)
-        → IsRun run → Contains (paths_of policy approvals) run.plan.path → AreOthersApart run acts (begun past) → AreSecretsOnWritten run acts (begun past)
-        → place_of (after_acts run acts (begun past)).standing ≡ Some (session, length run.plan.path.moves)
-        → digest_of_moves (moves_of_facts (facts_of run.setup (after_acts run acts (begun past)).past session)) ≡ policy_digest policy }
+        → digest_of_moves (moves_of_facts
+        (facts_of run.setup (after_acts run acts (begun past)).past session))
+        ≡ digest_of_moves (take done run.plan.path.moves) }
+    ensures compiled { (run : Run) (past : List EventOf) (acts : List Act) (session : ℕ)
+        (policy : Closed) (approvals : List ApprovedDoc)
+        → IsRun run → Contains (paths_of policy approvals) run.plan.path
+        → AreOthersApart run acts (begun past) → AreSecretsOnWritten run acts (begun past)
+        → place_of (after_acts run acts (begun past)).standing
+        ≡ Some (session, length run.plan.path.moves)
+        → digest_of_moves (moves_of_facts
+        (facts_of run.setup (after_acts run acts (begun past)).past session))
+        ≡ policy_digest policy }
 {}
 
 /// A blind run as a script begins it (`IsBlindBegun`; the offset of its goal, if it has one, has two bytes) sees
@@ -171,15 +200,21 @@ pub fn session_digest_is_compiled()
 pub fn blind_runs_are_served()
     ensures exactly_on { (run : BlindRun) (past : List EventOf) (turns position : ℕ)
         → IsBlindBegun run → HasShortOffset run.plan.goal
-        → chosen_path run.plan.paths (sight_after run.setup past) run.plan.grants run.plan.goal run.locality ≡ Some position
+        → chosen_path run.plan.paths
+        (sight_after run.setup past) run.plan.grants run.plan.goal run.locality ≡ Some position
         → most_to run.plan position ≤ turns
-        → ((blind_turns run turns (blind_begun past)).standing ≡ blind.Over (blind_ends.Served position (goal_bytes (world_at run.setup past) run.plan.goal)))
+        → ((blind_turns run turns (blind_begun past)).standing
+        ≡ blind.Over (blind_ends.Served position
+        (goal_bytes (world_at run.setup past) run.plan.goal)))
         ⊎ HasBlindChance run turns past }
     ensures only { (run : BlindRun) (past : List EventOf) (turns position : ℕ) (bytes : List ℕ)
         → IsBlindBegun run → HasShortOffset run.plan.goal
-        → (blind_turns run turns (blind_begun past)).standing ≡ blind.Over (blind_ends.Served position bytes)
-        → ((chosen_path run.plan.paths (sight_after run.setup past) run.plan.grants run.plan.goal run.locality ≡ Some position)
-        × (bytes ≡ goal_bytes (world_at run.setup past) run.plan.goal)) ⊎ HasBlindChance run turns past }
+        → (blind_turns run turns (blind_begun past)).standing
+        ≡ blind.Over (blind_ends.Served position bytes)
+        → ((chosen_path run.plan.paths
+        (sight_after run.setup past) run.plan.grants run.plan.goal run.locality ≡ Some position)
+        × (bytes ≡ goal_bytes (world_at run.setup past) run.plan.goal))
+        ⊎ HasBlindChance run turns past }
     ensures ends { (run : BlindRun) (past : List EventOf) (turns : ℕ)
         → is_some (first_complete run.plan) ≡ true → most_blind run.plan ≤ turns
         → is_blind_over (blind_turns run turns (blind_begun past)).standing ≡ true }
@@ -201,9 +236,11 @@ pub fn scenes_are_staged()
 pub fn kept_tickets_are_genuine()
     ensures kept { (staged : StagedScene) (happening : List ScriptEvent)
         → IsStaged staged
-        → All (λ kept. IsGenuine staged.setup kept.ticket) (all_happened staged.scenario happening (start_of staged.setup)).kept }
+        → All (λ kept. IsGenuine staged.setup kept.ticket)
+        (all_happened staged.scenario happening (start_of staged.setup)).kept }
     ensures given { (staged : StagedScene) (run : RunOf staged.script)
-        → IsStaged staged → All (IsUsable staged.setup (before_begin staged run).past) (tickets_at_begin staged run) }
+        → IsStaged staged → All (IsUsable staged.setup (before_begin staged run).past)
+        (tickets_at_begin staged run) }
 {}
 
 /// What the report of a scene tells of a run of its script, for each scene that is staged and whose runs see the
@@ -216,28 +253,40 @@ pub fn kept_tickets_are_genuine()
 /// places in memory of its documents' parts is carried out with the same lines.
 pub fn runs_are_served_as_told()
     ensures begins_on { (staged : StagedScene) (run : RunOf staged.script) (position : ℕ)
-        → IsStaged staged → IsSighted staged → chosen_for staged run ≡ Some position → BeginsOn staged run position }
+        → IsStaged staged → IsSighted staged → chosen_for staged run ≡ Some position
+        → BeginsOn staged run position }
     ensures begins_nowhere { (staged : StagedScene) (run : RunOf staged.script)
-        → IsStaged staged → IsSighted staged → chosen_for staged run ≡ None → BeginsNowhere staged run }
+        → IsStaged staged → IsSighted staged → chosen_for staged run ≡ None
+        → BeginsNowhere staged run }
     ensures served_on { (staged : StagedScene) (run : RunOf staged.script) (position : ℕ)
         → IsStaged staged → IsAlone staged.scenario run.number run.own (behind_begin staged run)
-        → (on : BeginsOn staged run position) → commands_along on.path ≤ turns_for run.number run.own
+        → (on : BeginsOn staged run position)
+        → commands_along on.path ≤ turns_for run.number run.own
         → IsServedOn staged run position on.path }
-    ensures to_end { (staged : StagedScene) (run : RunOf staged.script) (before after : List ScriptEvent)
-        → IsStaged staged → run.own ≡ before ++ events.Turn run.number None ∷ after → HasTurns staged run }
+    ensures to_end { (staged : StagedScene) (run : RunOf staged.script)
+        (before after : List ScriptEvent)
+        → IsStaged staged → run.own ≡ before ++ events.Turn run.number None ∷ after
+        → HasTurns staged run }
     ensures exactly { (staged : StagedScene) (run : RunOf staged.script)
         → IsStaged staged → IsSighted staged
         → IsAlone staged.scenario run.number run.own (behind_begin staged run) → HasTurns staged run
-        → IsToldServed run.number (performed staged).lines ↔ ((position : ℕ) × BeginsOn staged run position) }
+        → IsToldServed run.number (performed staged).lines
+        ↔ ((position : ℕ) × BeginsOn staged run position) }
     ensures served_with { (staged : StagedScene) (run : RunOf staged.script) (position : ℕ)
-        → IsStaged staged → IsAlone staged.scenario run.number run.own (behind_begin staged run) → HasTurns staged run
+        → IsStaged staged → IsAlone staged.scenario run.number run.own (behind_begin staged run)
+        → HasTurns staged run
         → BeginsOn staged run position
-        → Contains (performed staged).lines (line_of (end_line run.number (Served (bytes_for staged run)))) }
+        → Contains (performed staged).lines
+        (line_of (end_line run.number (Served (bytes_for staged run)))) }
     ensures stays_over { (staged : StagedScene) (run : RunOf staged.script)
-        → IsStaged staged → BeginsNowhere staged run → run_at (behind_own staged run).runs run.number ≡ None }
-    ensures tells_over { (scenario : Scenario) (number : ℕ) (times : Option ℕ) (p : PerformanceState)
-        → run_at p.runs number ≡ None → turn_told scenario number times p ≡ with_over number times p }
-    ensures as_printed { (staged : StagedScene) → performed (erased_staged staged) ≡ performed staged }
+        → IsStaged staged → BeginsNowhere staged run
+        → run_at (behind_own staged run).runs run.number ≡ None }
+    ensures tells_over { (scenario : Scenario) (number : ℕ) (times : Option ℕ)
+        (p : PerformanceState)
+        → run_at p.runs number ≡ None
+        → turn_told scenario number times p ≡ with_over number times p }
+    ensures as_printed { (staged : StagedScene)
+        → performed (erased_staged staged) ≡ performed staged }
 {}
 
 /// What the report of a scene tells of a run of its script where the runs are those of `--blind` (`IsBlindScene`). The
@@ -267,19 +316,23 @@ pub fn blind_runs_are_told()
         → IsStaged staged → IsBlindScene staged → HasShortOffset run.goal
         → IsAlone staged.scenario run.number run.own (behind_begin staged run)
         → IsToldServed run.number (behind_own staged run).lines
-        → ((position : ℕ) × (chosen_for staged run ≡ Some position) × IsServedBlindly staged run position) ⊎ HasChanceIn staged run }
+        → ((position : ℕ) × (chosen_for staged run ≡ Some position)
+        × IsServedBlindly staged run position) ⊎ HasChanceIn staged run }
     ensures ends { (staged : StagedScene) (run : RunOf staged.script)
         → IsStaged staged → IsBlindScene staged
         → IsAlone staged.scenario run.number run.own (behind_begin staged run)
         → most_blind (blind_plan_for staged run) ≤ turns_for run.number run.own
         → run_at (behind_own staged run).runs run.number ≡ None }
-    ensures to_end { (staged : StagedScene) (run : RunOf staged.script) (before after : List ScriptEvent) (position : ℕ)
-        → IsStaged staged → IsBlindScene staged → run.own ≡ before ++ events.Turn run.number None ∷ after
+    ensures to_end { (staged : StagedScene) (run : RunOf staged.script)
+        (before after : List ScriptEvent) (position : ℕ)
+        → IsStaged staged → IsBlindScene staged
+        → run.own ≡ before ++ events.Turn run.number None ∷ after
         → (most_to (blind_plan_for staged run) position ≤ turns_for run.number run.own)
         × (most_blind (blind_plan_for staged run) ≤ turns_for run.number run.own) }
     ensures in_report { (staged : StagedScene) (run : RunOf staged.script)
         → IsStaged staged → run_at (behind_own staged run).runs run.number ≡ None
-        → IsToldServed run.number (performed staged).lines ↔ IsToldServed run.number (behind_own staged run).lines }
+        → IsToldServed run.number (performed staged).lines
+        ↔ IsToldServed run.number (behind_own staged run).lines }
 {
     mirrored();
     blind_driving_ends();
@@ -289,8 +342,10 @@ pub fn blind_runs_are_told()
 /// up, is one that a machine makes; each command of it that asks for a policy session is decided as the machine's
 /// definitions say, by the events before it alone; and each event has its line among those of the whole.
 pub fn journals_are_told()
-    ensures scene { (staged : StagedScene) → IsJournal staged.setup (performed staged).past (performed staged).lines }
-    ensures generated { (order : ℕ) (closed : Closed) → IsJournal (generated_setup order (policy_digest closed))
+    ensures scene { (staged : StagedScene)
+        → IsJournal staged.setup (performed staged).past (performed staged).lines }
+    ensures generated { (order : ℕ) (closed : Closed)
+        → IsJournal (generated_setup order (policy_digest closed))
         (generated_performance order closed).past (generated_performance order closed).lines }
 {}
 
@@ -298,7 +353,8 @@ pub fn journals_are_told()
 /// command prints that many (`generated_answer`). The number of ORs is what `gen` takes, at most 12.
 pub fn gen_has_all_ways()
     ensures answered { (ors order : ℕ) → ors ≤ 12
-        → generate_step ors order ≡ Ok (generated_answer ors order (filled (generated_policy ors order) None)) }
+        → generate_step ors order
+        ≡ Ok (generated_answer ors order (filled (generated_policy ors order) None)) }
     ensures ways { (ors order : ℕ) → ors ≤ 12
         → length (paths_of (filled (generated_policy ors order) None) []) ≡ 2 ^ ors }
 {}
@@ -311,24 +367,33 @@ pub fn gen_has_all_ways()
 /// script names.
 pub fn runs_of_scripts_have_courses()
     ensures begun { (staged : StagedScene) (run : RunOf staged.script) (position : ℕ)
-        → IsStaged staged → (on : BeginsOn staged run position) → IsBegun (run_along staged run on.path) }
+        → IsStaged staged → (on : BeginsOn staged run position)
+        → IsBegun (run_along staged run on.path) }
     ensures complete { (staged : StagedScene) (run : RunOf staged.script) (position : ℕ)
-        → IsStaged staged → (on : BeginsOn staged run position) → IsRun (run_along staged run on.path) }
+        → IsStaged staged → (on : BeginsOn staged run position)
+        → IsRun (run_along staged run on.path) }
     ensures course { (staged : StagedScene) (run : RunOf staged.script) (position : ℕ)
         → IsStaged staged → (on : BeginsOn staged run position) → HasCourse staged run on.path }
-    ensures digest { (staged : StagedScene) (run : RunOf staged.script) (position session : ℕ) (document : FilledDocument)
-        → IsStaged staged → (on : BeginsOn staged run position) → find (is_document run.policy) staged.scenario.begun ≡ Some document
-        → AreOthersApart (run_along staged run on.path) (acts_for staged run) (course_at_begin staged run)
-        → AreSecretsOnWritten (run_along staged run on.path) (acts_for staged run) (course_at_begin staged run)
+    ensures digest { (staged : StagedScene) (run : RunOf staged.script) (position session : ℕ)
+        (document : FilledDocument)
+        → IsStaged staged → (on : BeginsOn staged run position)
+        → find (is_document run.policy) staged.scenario.begun ≡ Some document
+        → AreOthersApart (run_along staged run on.path) (acts_for staged run)
+        (course_at_begin staged run)
+        → AreSecretsOnWritten (run_along staged run on.path) (acts_for staged run)
+        (course_at_begin staged run)
         → place_of (course_of staged run on.path).standing ≡ Some (session, length on.path.moves)
-        → digest_of_moves (moves_of_facts (facts_of staged.setup (behind_own staged run).past session)) ≡ policy_digest document.closed }
+        → digest_of_moves (moves_of_facts
+        (facts_of staged.setup (behind_own staged run).past session))
+        ≡ policy_digest document.closed }
 {}
 
 /// The reply to a command, whatever its bytes are, has the response code 0 exactly where the command was accepted or
 /// served: each code by which a command is refused or denied is another one.
 pub fn success_replies_have_code_zero()
     ensures { (setup : SetupOf) (past : List EventOf) (locality : ℕ) (buffer : List ℕ)
-        → IsSuccessReply (answer_to setup past locality buffer).reply ↔ (is_success (answer_to setup past locality buffer).outcome ≡ true) }
+        → IsSuccessReply (answer_to setup past locality buffer).reply
+        ↔ (is_success (answer_to setup past locality buffer).outcome ≡ true) }
 {}
 
 /// Each buffer that a run of a scene's plan sends, whatever others do between, spells the command that it sends, and
@@ -337,7 +402,8 @@ pub fn success_replies_have_code_zero()
 pub fn runs_send_commands()
     ensures { (run : Run) (past : List EventOf) (acts : List Act) (command : CommandOf)
         → IsBegun run → HasShortOffset run.plan.goal → is_complete run.plan ≡ true
-        → sends run.plan (after_acts run acts (begun past)).standing ≡ Sends command → reading (spelling command) ≡ Ok command }
+        → sends run.plan (after_acts run acts (begun past)).standing ≡ Sends command
+        → reading (spelling command) ≡ Ok command }
 {}
 
 /// Where a run hears a reply to its start, to a command of a move or to its goal, it ends denied with a code exactly
@@ -345,21 +411,32 @@ pub fn runs_send_commands()
 /// else an end is a bad reply says `bad_replies_have_their_causes` of tpol_driver.
 pub fn refusals_end_runs()
     ensures start { (plan : Plan) (bytes : List ℕ) (rc : RcOf)
-        → (hears plan Starting bytes ≡ Over (Denied stages.Start rc)) ↔ IsRefusal plan Starting bytes rc }
+        → (hears plan Starting bytes ≡ Over (Denied stages.Start rc))
+        ↔ IsRefusal plan Starting bytes rc }
     ensures no_start { (plan : Plan) (bytes : List ℕ)
         → IsNoReply plan Starting bytes → hears plan Starting bytes ≡ Over (BadReply stages.Start) }
-    ensures moves { (plan : Plan) (session : Session) (sent done : ℕ) (ticket : Option Ticket) (act : Move) (bytes : List ℕ) (rc : RcOf)
+    ensures moves { (plan : Plan) (session : Session) (sent done : ℕ) (ticket : Option Ticket)
+        (act : Move) (bytes : List ℕ) (rc : RcOf)
         → slice_get plan.path.moves done ≡ Some act
-        → (hears plan (Moving session sent ticket done) bytes ≡ Closing session.handle (Denied (stage_of_move ticket act (done + 1)) rc))
+        → (hears plan (Moving session sent ticket done) bytes
+        ≡ Closing session.handle (Denied (stage_of_move ticket act (done + 1)) rc))
         ↔ IsRefusal plan (Moving session sent ticket done) bytes rc }
-    ensures no_move { (plan : Plan) (session : Session) (sent done : ℕ) (ticket : Option Ticket) (act : Move) (bytes : List ℕ)
-        → slice_get plan.path.moves done ≡ Some act → IsNoReply plan (Moving session sent ticket done) bytes
-        → hears plan (Moving session sent ticket done) bytes ≡ Closing session.handle (BadReply (stage_of_move ticket act (done + 1))) }
-    ensures goal { (plan : Plan) (session : Session) (sent done : ℕ) (ticket : Option Ticket) (bytes : List ℕ) (rc : RcOf)
+    ensures no_move { (plan : Plan) (session : Session) (sent done : ℕ) (ticket : Option Ticket)
+        (act : Move) (bytes : List ℕ)
+        → slice_get plan.path.moves done ≡ Some act
+        → IsNoReply plan (Moving session sent ticket done) bytes
+        → hears plan (Moving session sent ticket done) bytes
+        ≡ Closing session.handle (BadReply (stage_of_move ticket act (done + 1))) }
+    ensures goal { (plan : Plan) (session : Session) (sent done : ℕ) (ticket : Option Ticket)
+        (bytes : List ℕ) (rc : RcOf)
         → slice_get plan.path.moves done ≡ None
-        → (hears plan (Moving session sent ticket done) bytes ≡ Closing session.handle (Denied stages.Goal rc))
+        → (hears plan (Moving session sent ticket done) bytes
+        ≡ Closing session.handle (Denied stages.Goal rc))
         ↔ IsRefusal plan (Moving session sent ticket done) bytes rc }
-    ensures no_goal { (plan : Plan) (session : Session) (sent done : ℕ) (ticket : Option Ticket) (bytes : List ℕ)
-        → slice_get plan.path.moves done ≡ None → IsNoReply plan (Moving session sent ticket done) bytes
-        → hears plan (Moving session sent ticket done) bytes ≡ Closing session.handle (BadReply stages.Goal) }
+    ensures no_goal { (plan : Plan) (session : Session) (sent done : ℕ) (ticket : Option Ticket)
+        (bytes : List ℕ)
+        → slice_get plan.path.moves done ≡ None
+        → IsNoReply plan (Moving session sent ticket done) bytes
+        → hears plan (Moving session sent ticket done) bytes
+        ≡ Closing session.handle (BadReply stages.Goal) }
 {}

@@ -26,7 +26,8 @@ pub fn command_line(
     reply: &[u8],
     outcome: &Outcome,
 ) -> Result<Text, NoMemory>
-    ensures { IfOk result (λ line. line ≡ command_line event client locality buffer.now reply.now outcome.now) }
+    ensures { IfOk result (λ line. line
+        ≡ command_line event client locality buffer.now reply.now outcome.now) }
 {
     let code = code_of_buffer(alloc, buffer)?;
     let room = reply
@@ -49,7 +50,8 @@ fn push_answer(
     reply: &[u8],
     outcome: &Outcome,
 ) -> Result<(), NoMemory>
-    ensures { OnOk result (string_bytes line.new ≡ string_bytes line.old ++ answer_text reply.now outcome.now) }
+    ensures { OnOk result (string_bytes line.new
+        ≡ string_bytes line.old ++ answer_text reply.now outcome.now) }
 {
     let rc = code_of_buffer(alloc, reply)?;
     write!(line, "rc {rc} ")?;
@@ -61,7 +63,8 @@ fn push_answer(
 
 // Adds what became of a command.
 fn push_class(line: &mut String, outcome: &Outcome) -> Result<(), NoMemory>
-    ensures { OnOk result (string_bytes line.new ≡ string_bytes line.old ++ class_text outcome.now) }
+    ensures { OnOk result (string_bytes line.new
+        ≡ string_bytes line.old ++ class_text outcome.now) }
 {
     match outcome {
         Outcome::Accepted => line.push_str("accepted")?,

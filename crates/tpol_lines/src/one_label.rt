@@ -33,7 +33,8 @@ pub fn label_at(
 ) -> Result<Text, NoMemory>
     requires within { AreWithinLimits (paths_of policy.now approvals.now) }
     requires positions { (1 ≤ position) × (position ≤ length (paths_of policy.now approvals.now)) }
-    ensures { IfOk result (λ text. text ≡ label (steps_of (slice_get (paths_of policy.now approvals.now) (position - 1)))) }
+    ensures { IfOk result (λ text. text
+        ≡ label (steps_of (slice_get (paths_of policy.now approvals.now) (position - 1)))) }
 {
     let scope = Scope {
         alloc,
@@ -67,10 +68,13 @@ fn push_elements(
     index: u64,
     count: u64,
 ) -> Result<(), NoMemory>
-    requires counted { count ≡ length (texts.element_list_texts scope.now.approvals.now scope.now.levels elements.now) }
+    requires counted { count ≡ length
+        (texts.element_list_texts scope.now.approvals.now scope.now.levels elements.now) }
     requires few { count ≤ 65536 }
     requires inside { index < count }
-    ensures { OnOk result (texts.GoesOn choices.old (texts.element_list_texts scope.now.approvals.now scope.now.levels elements.now) index choices.new) }
+    ensures { OnOk result (texts.GoesOn choices.old
+        (texts.element_list_texts scope.now.approvals.now scope.now.levels elements.now) index
+        choices.new) }
 {
     match elements {
         ClosedElements::End => Ok(()),
@@ -91,9 +95,13 @@ fn push_element(
     element: &ClosedElement,
     index: u64,
 ) -> Result<(), NoMemory>
-    requires few { length (texts.element_texts scope.now.approvals.now scope.now.levels element.now) ≤ 65536 }
-    requires inside { index < length (texts.element_texts scope.now.approvals.now scope.now.levels element.now) }
-    ensures { OnOk result (texts.GoesOn choices.old (texts.element_texts scope.now.approvals.now scope.now.levels element.now) index choices.new) }
+    requires few { length (texts.element_texts scope.now.approvals.now scope.now.levels element.now)
+        ≤ 65536 }
+    requires inside { index < length
+        (texts.element_texts scope.now.approvals.now scope.now.levels element.now) }
+    ensures { OnOk result (texts.GoesOn choices.old
+        (texts.element_texts scope.now.approvals.now scope.now.levels element.now) index
+        choices.new) }
 {
     match element {
         ClosedElement::Assert(_) => Ok(()),
@@ -112,9 +120,13 @@ fn push_branch(
     branches: &ClosedBranches,
     index: u64,
 ) -> Result<(), NoMemory>
-    requires few { length (texts.branch_texts scope.now.approvals.now scope.now.levels branches.now) ≤ 65536 }
-    requires inside { index < length (texts.branch_texts scope.now.approvals.now scope.now.levels branches.now) }
-    ensures { OnOk result (texts.GoesOn choices.old (texts.branch_texts scope.now.approvals.now scope.now.levels branches.now) index choices.new) }
+    requires few { length (texts.branch_texts scope.now.approvals.now scope.now.levels branches.now)
+        ≤ 65536 }
+    requires inside { index < length
+        (texts.branch_texts scope.now.approvals.now scope.now.levels branches.now) }
+    ensures { OnOk result (texts.GoesOn choices.old
+        (texts.branch_texts scope.now.approvals.now scope.now.levels branches.now) index
+        choices.new) }
 {
     match branches {
         ClosedBranches::End => Ok(()),
@@ -147,9 +159,13 @@ fn push_approval(
     element: &ClosedElement,
     index: u64,
 ) -> Result<(), NoMemory>
-    requires few { length (texts.approval_texts scope.now.approvals.now scope.now.levels element.now) ≤ 65536 }
-    requires inside { index < length (texts.approval_texts scope.now.approvals.now scope.now.levels element.now) }
-    ensures { OnOk result (texts.GoesOn choices.old (texts.approval_texts scope.now.approvals.now scope.now.levels element.now) index choices.new) }
+    requires few { length (texts.approval_texts scope.now.approvals.now scope.now.levels
+        element.now) ≤ 65536 }
+    requires inside { index < length
+        (texts.approval_texts scope.now.approvals.now scope.now.levels element.now) }
+    ensures { OnOk result (texts.GoesOn choices.old
+        (texts.approval_texts scope.now.approvals.now scope.now.levels element.now) index
+        choices.new) }
 {
     if scope.levels > 0 {
         let inside = Scope {

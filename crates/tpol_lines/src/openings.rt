@@ -25,7 +25,8 @@ pub fn opening_line(
 ) -> Result<Text, NoMemory>
     requires within { AreWithinLimits (paths_of policy.now approvals.now) }
     requires listed { IsListed (paths_of policy.now approvals.now) opening.now }
-    ensures { IfOk result (λ line. line ≡ opening_line event (paths_of policy.now approvals.now) opening.now) }
+    ensures { IfOk result (λ line. line
+        ≡ opening_line event (paths_of policy.now approvals.now) opening.now) }
 {
     match opening {
         Opening::Branch {

@@ -45,7 +45,8 @@ pub fn write_paths(alloc: Global, policy: &Closed, approvals: &Approvals) -> Res
 /// The choices of each path of a policy, in the order of the paths, as `label` gives them; no path is made. It
 /// fails only where memory ran out.
 pub fn labels(alloc: Global, policy: &Closed, approvals: &Approvals) -> Result<Lines, NoMemory>
-    ensures { IfOk result (λ labels. labels ≡ map (λ path. label path.steps) (paths_of policy.now approvals.now)) }
+    ensures { IfOk result (λ labels. labels
+        ≡ map (λ path. label path.steps) (paths_of policy.now approvals.now)) }
 {
     write_ways(alloc, Form::Label, policy, approvals)
 }
@@ -58,7 +59,8 @@ fn write_ways(
     approvals: &Approvals,
 ) -> Result<Lines, NoMemory>
     ensures { IfOk result (λ lines. lines
-        ≡ texts.lines_behind form 1 texts.no_text (map texts.texts_of (paths_of policy.now approvals.now))) }
+        ≡ texts.lines_behind form 1 texts.no_text
+        (map texts.texts_of (paths_of policy.now approvals.now))) }
 {
     let mut pen = Pen::new(alloc);
     let shelf = Shelf {
@@ -92,7 +94,8 @@ fn write_elements(
     ahead: &Ahead<'_>,
 ) -> Result<(), NoMemory>
     ensures { OnOk result (texts.Writes shelf.now.form pen.old pen.new (texts.both
-        (texts.element_list_texts shelf.now.approvals.now levels elements.now) (texts.texts_ahead shelf.now.approvals.now ahead.now))) }
+        (texts.element_list_texts shelf.now.approvals.now levels elements.now)
+        (texts.texts_ahead shelf.now.approvals.now ahead.now))) }
 {
     match elements {
         ClosedElements::End => write_ahead(shelf, pen, ahead),
@@ -114,7 +117,8 @@ fn write_element(
 ) -> Result<(), NoMemory>
     ensures { OnOk result (texts.Writes shelf.now.form pen.old pen.new (texts.both
         (texts.element_texts shelf.now.approvals.now levels element.now)
-        (texts.both (texts.element_list_texts shelf.now.approvals.now levels rest.now) (texts.texts_ahead shelf.now.approvals.now ahead.now)))) }
+        (texts.both (texts.element_list_texts shelf.now.approvals.now levels rest.now)
+        (texts.texts_ahead shelf.now.approvals.now ahead.now)))) }
 {
     let kind = match element {
         ClosedElement::Assert(assertion) => {
@@ -156,7 +160,8 @@ fn write_branches(
     ahead: &Ahead<'_>,
 ) -> Result<(), NoMemory>
     ensures { OnOk result (texts.Writes shelf.now.form pen.old pen.new (texts.both
-        (texts.branch_texts shelf.now.approvals.now levels branches.now) (texts.texts_ahead shelf.now.approvals.now ahead.now))) }
+        (texts.branch_texts shelf.now.approvals.now levels branches.now)
+        (texts.texts_ahead shelf.now.approvals.now ahead.now))) }
 {
     match branches {
         ClosedBranches::End => Ok(()),
@@ -180,7 +185,8 @@ fn write_approvals(
     ahead: &Ahead<'_>,
 ) -> Result<(), NoMemory>
     ensures { OnOk result (texts.Writes shelf.now.form pen.old pen.new (texts.both
-        (texts.approval_texts shelf.now.approvals.now levels element.now) (texts.texts_ahead shelf.now.approvals.now ahead.now))) }
+        (texts.approval_texts shelf.now.approvals.now levels element.now)
+        (texts.texts_ahead shelf.now.approvals.now ahead.now))) }
 {
     let kept = pen.choices.len();
     if levels > 0 {
@@ -201,7 +207,8 @@ fn write_approvals(
 // The same of what comes behind a branch or a document.
 #[cycle(path_lines)]
 fn write_ahead(shelf: &Shelf<'_>, pen: &mut Pen, ahead: &Ahead<'_>) -> Result<(), NoMemory>
-    ensures { OnOk result (texts.Writes shelf.now.form pen.old pen.new (texts.texts_ahead shelf.now.approvals.now ahead.now)) }
+    ensures { OnOk result (texts.Writes shelf.now.form pen.old pen.new
+        (texts.texts_ahead shelf.now.approvals.now ahead.now)) }
 {
     match ahead {
         Ahead::Nothing => pen.write(shelf.alloc, shelf.form),

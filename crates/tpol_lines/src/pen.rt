@@ -77,7 +77,8 @@ impl Pen {
     // Writes what is asked of the path that is whole.
     pub fn write(&mut self, alloc: Global, form: Form) -> Result<(), NoMemory>
         ensures lines { OnOk result (self.new.lines ≡ self.old.lines
-            ++ written form (length self.old.lines + 1) self.old.choices.items self.old.kinds.items ∷ []) }
+            ++ written form (length self.old.lines + 1) self.old.choices.items self.old.kinds.items
+            ∷ []) }
         ensures choices { self.new.choices ≡ self.old.choices }
         ensures kinds { self.new.kinds ≡ self.old.kinds }
     {
@@ -91,7 +92,8 @@ impl Pen {
     // The line of the path that is whole, with its line end.
     fn line(&self, alloc: Global) -> Result<Blob, NoMemory>
         ensures { IfOk result (λ line. line
-            ≡ line_of (line_behind (length self.now.lines + 1) self.now.choices.items self.now.kinds.items)) }
+            ≡ line_of (line_behind (length self.now.lines + 1) self.now.choices.items
+            self.now.kinds.items)) }
     {
         let position = self.lines.len().checked_add(1).ok_or(NoMemory)?;
         let head = format!(in alloc; "path {position} ")?;

@@ -36,7 +36,8 @@ impl Track {
     // The way with one more assertion.
     pub fn after(self, assertion: &Assertion) -> Result<Track, NoMemory>
         ensures longer { (before : Trace) → IsTrack self before
-            → IfOk result (λ track. IsTrack track (join before (move_trace (Assert assertion.now)))) }
+            → IfOk result (λ track.
+            IsTrack track (join before (move_trace (Assert assertion.now)))) }
     {
         let Some(done) = self.done.checked_add(1) else {
             return Err(NoMemory);
@@ -71,7 +72,8 @@ impl Track {
 
     // The way by a policy that no listed document has.
     pub fn by_outside(self) -> Track
-        ensures longer { (before : Trace) → IsTrack self before → IsTrack result (join before (step_trace Outside)) }
+        ensures longer { (before : Trace) → IsTrack self before
+            → IsTrack result (join before (step_trace Outside)) }
     {
         Track {
             outside: true,

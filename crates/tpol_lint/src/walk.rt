@@ -38,8 +38,10 @@ pub fn find_in_elements(
     elements: &ClosedElements,
     ahead: &Ahead<'_>,
 ) -> Result<(), NoMemory>
-    ensures finds { (before : Trace) → IsTrack track before → OnOk result (Finds finder.old finder.new before (both join
-        (element_list_traces scope.now.approvals.now scope.now.levels elements.now) (traces_ahead scope.now.approvals.now ahead.now))) }
+    ensures finds { (before : Trace) → IsTrack track before
+        → OnOk result (Finds finder.old finder.new before (both join
+        (element_list_traces scope.now.approvals.now scope.now.levels elements.now)
+        (traces_ahead scope.now.approvals.now ahead.now))) }
 {
     match elements {
         ClosedElements::End => find_ahead(scope, finder, track, ahead),
@@ -76,8 +78,10 @@ fn find_in_branches(
     branches: &ClosedBranches,
     ahead: &Ahead<'_>,
 ) -> Result<(), NoMemory>
-    ensures finds { (before : Trace) → IsTrack track before → OnOk result (Finds finder.old finder.new before (both join
-        (branch_traces scope.now.approvals.now scope.now.levels branches.now) (traces_ahead scope.now.approvals.now ahead.now))) }
+    ensures finds { (before : Trace) → IsTrack track before
+        → OnOk result (Finds finder.old finder.new before (both join
+        (branch_traces scope.now.approvals.now scope.now.levels branches.now)
+        (traces_ahead scope.now.approvals.now ahead.now))) }
 {
     match branches {
         ClosedBranches::End => Ok(()),
@@ -97,8 +101,10 @@ fn find_in_approvals(
     element: &ClosedElement,
     ahead: &Ahead<'_>,
 ) -> Result<(), NoMemory>
-    ensures finds { (before : Trace) → IsTrack track before → OnOk result (Finds finder.old finder.new before (both join
-        (approval_traces scope.now.approvals.now scope.now.levels element.now) (traces_ahead scope.now.approvals.now ahead.now))) }
+    ensures finds { (before : Trace) → IsTrack track before
+        → OnOk result (Finds finder.old finder.new before (both join
+        (approval_traces scope.now.approvals.now scope.now.levels element.now)
+        (traces_ahead scope.now.approvals.now ahead.now))) }
 {
     if scope.levels > 0 {
         let inside = Scope {
@@ -123,7 +129,8 @@ fn find_ahead(
     ahead: &Ahead<'_>,
 ) -> Result<(), NoMemory>
     ensures finds { (before : Trace) → IsTrack track before
-        → OnOk result (Finds finder.old finder.new before (traces_ahead scope.now.approvals.now ahead.now)) }
+        → OnOk result (Finds finder.old finder.new before
+        (traces_ahead scope.now.approvals.now ahead.now)) }
 {
     match ahead {
         Ahead::Nothing => finder.pass(track),

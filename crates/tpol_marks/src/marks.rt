@@ -63,7 +63,8 @@ fn push_elements(
     closed: &ClosedElements,
     next: &Next<'_>,
 ) -> Result<(), NoMemory>
-    ensures { (sight : Option Sight) → erased_elements closed.now ≡ filled_elements sight written.now
+    ensures { (sight : Option Sight)
+        → erased_elements closed.now ≡ filled_elements sight written.now
         → OnOk result (marks.new ≡ marks.old
         ++ marks_of_elements sight next.now.list.now next.now.index written.now next.now.before) }
 {
@@ -104,7 +105,8 @@ fn push_within(
 ) -> Result<(), NoMemory>
     ensures { (sight : Option Sight) → erased_element closed.now ≡ filled_element sight written.now
         → OnOk result (marks.new ≡ marks.old
-        ++ marks_within sight (at_item next.now.list.now next.now.index) written.now next.now.before) }
+        ++ marks_within sight (at_item next.now.list.now next.now.index) written.now
+        next.now.before) }
 {
     let Element::Or(branches) = written else {
         return Ok(());
@@ -133,7 +135,8 @@ fn push_branches(
     next: &Next<'_>,
 ) -> Result<(), NoMemory>
     ensures { (sight : Option Sight)
-        → map (λ elements. erased_elements elements.now) closed.now ≡ map (λ branch. branch.1) (filled_branches sight written.now)
+        → map (λ elements. erased_elements elements.now) closed.now
+        ≡ map (λ branch. branch.1) (filled_branches sight written.now)
         → OnOk result (marks.new ≡ marks.old
         ++ marks_of_branches sight next.now.list.now next.now.index written.now next.now.before) }
 {
@@ -166,7 +169,8 @@ fn push_branches(
 
 // How many branches there are.
 fn count(branches: &Branches) -> Result<usize, NoMemory>
-    ensures { IfOk result (λ n. (sight : Option Sight) → length (filled_branches sight branches.now) ≡ n) }
+    ensures { IfOk result (λ n. (sight : Option Sight)
+        → length (filled_branches sight branches.now) ≡ n) }
 {
     match branches {
         Branches::End => Ok(0),

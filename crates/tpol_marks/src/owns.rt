@@ -42,7 +42,8 @@ fn one_step<'a>(value: &'a Value, step: &PlaceStep) -> Option<&'a Value>
 
 // The items of an element's member `policyDigests`, if it is a list.
 fn digests_member(element: &Value) -> Option<&[Value]>
-    ensures { option_map (λ items. items_view items.now) result ≡ digests_member (view element.now) }
+    ensures { option_map (λ items. items_view items.now) result
+        ≡ digests_member (view element.now) }
 {
     match member(element, "policyDigests") {
         Some(Value::Array(items)) => Some(items.as_slice()),
@@ -94,7 +95,8 @@ fn is_sha256(hash: Option<&Value>) -> bool
 
 // 32 bytes as documents write them; None for anything else.
 fn digest_of_text(alloc: Global, text: Option<&Value>) -> Result<Option<Digest32>, NoMemory>
-    ensures { IfOk result (λ digest. digest ≡ digest_of_text (option_map (λ v. view v.now) text.entry)) }
+    ensures { IfOk result (λ digest. digest
+        ≡ digest_of_text (option_map (λ v. view v.now) text.entry)) }
 {
     let Some(text) = text else {
         return Ok(None);

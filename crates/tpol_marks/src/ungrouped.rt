@@ -18,7 +18,8 @@ pub fn ungrouped<'a>(
     count: usize,
 ) -> Result<Vec<&'a ClosedElements>, NoMemory>
     ensures { (all : List NamedBranch) → branches_in branches.now ≡ grouped all → length all ≡ count
-        → IfOk result (λ list. map (λ elements. erased_elements elements.now) list.items ≡ map (λ branch. branch.1) all) }
+        → IfOk result (λ list. map (λ elements. erased_elements elements.now) list.items
+        ≡ map (λ branch. branch.1) all) }
 {
     let mut list = Vec::new(alloc);
     if count > MOST_BRANCHES {
@@ -35,9 +36,11 @@ fn push_groups<'a>(
     groups: &'a ClosedBranches,
     left: usize,
 ) -> Result<(), NoMemory>
-    ensures { (number : ℕ) (all : List NamedBranch) → branches_in groups.now ≡ numbered number (in_eights all) → length all ≡ left
+    ensures { (number : ℕ) (all : List NamedBranch)
+        → branches_in groups.now ≡ numbered number (in_eights all) → length all ≡ left
         → OnOk result (map (λ elements. erased_elements elements.now) list.new.items
-        ≡ map (λ elements. erased_elements elements.now) list.old.items ++ map (λ branch. branch.1) all) }
+        ≡ map (λ elements. erased_elements elements.now) list.old.items
+        ++ map (λ branch. branch.1) all) }
 {
     match groups {
         ClosedBranches::End => Ok(()),
@@ -55,9 +58,11 @@ fn push_group<'a>(
     left: usize,
 ) -> Result<(), NoMemory>
     ensures { (number : ℕ) (first : NamedBranch) (rest : List NamedBranch)
-        → erased_elements elements.now ≡ (group number (take 8 (first ∷ rest))).1 → length (first ∷ rest) ≡ left
+        → erased_elements elements.now ≡ (group number (take 8 (first ∷ rest))).1
+        → length (first ∷ rest) ≡ left
         → OnOk result (map (λ elements. erased_elements elements.now) list.new.items
-        ≡ map (λ elements. erased_elements elements.now) list.old.items ++ map (λ branch. branch.1) (take 8 (first ∷ rest))) }
+        ≡ map (λ elements. erased_elements elements.now) list.old.items
+        ++ map (λ branch. branch.1) (take 8 (first ∷ rest))) }
 {
     if left == 1 {
         list.push(elements)?;
@@ -78,7 +83,8 @@ fn push_branches<'a>(
     branches: &'a ClosedBranches,
 ) -> Result<(), NoMemory>
     ensures { OnOk result (map (λ elements. erased_elements elements.now) list.new.items
-        ≡ map (λ elements. erased_elements elements.now) list.old.items ++ map (λ branch. branch.1) (branches_in branches.now)) }
+        ≡ map (λ elements. erased_elements elements.now) list.old.items
+        ++ map (λ branch. branch.1) (branches_in branches.now)) }
 {
     match branches {
         ClosedBranches::End => Ok(()),

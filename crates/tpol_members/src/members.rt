@@ -21,7 +21,8 @@ pub fn first_of<'v, 'n>(
     place: &PlaceRef<'_>,
 ) -> Result<(usize, &'v Value, &'n str), ElementFault>
     requires { 0 < length names.now }
-    ensures first { answers.Gives (λ found. (found.0, view found.1.now, found.2.now)) cause result (first_of (map (λ name. name.now) names.now) (view value.now) place.now) }
+    ensures first { answers.Gives (λ found. (found.0, view found.1.now, found.2.now)) cause result
+        (first_of (map (λ name. name.now) names.now) (view value.now) place.now) }
     ensures within { IfOk result (λ found. found.0 < length names.now) }
 {
     for (position, name) in names.iter().enumerate() {
@@ -42,7 +43,8 @@ pub fn alone(
     place: &PlaceRef<'_>,
 ) -> Result<(), ElementFault>
     requires { position < length names.now }
-    ensures { Gives result (without (drop (suc position) (map (λ name. name.now) names.now)) (view value.now) place.now) }
+    ensures { Gives result (without (drop (suc position) (map (λ name. name.now) names.now))
+        (view value.now) place.now) }
 {
     without(
         alloc,
@@ -62,7 +64,8 @@ pub fn note_unknown(
     place: &PlaceRef<'_>,
     walk: &mut Walk,
 ) -> Result<(), NoMemory>
-    ensures { OnOk result (walk.new ≡ noted (map (λ name. name.now) known.now) (view value.now) place.now walk.old) }
+    ensures { OnOk result (walk.new
+        ≡ noted (map (λ name. name.now) known.now) (view value.now) place.now walk.old) }
 {
     tpol_json::note_unknown(alloc, value, known, place, &mut walk.notes)
 }

@@ -120,7 +120,8 @@ fn pcr_values(
     place: &PlaceRef<'_>,
     walk: &mut Walk,
 ) -> Result<PcrValues, ElementFault>
-    ensures { Leaves result walk.new (pcr_values_from [] 0 (items_view items.now) place.now walk.old) }
+    ensures { Leaves result walk.new
+        (pcr_values_from [] 0 (items_view items.now) place.now walk.old) }
 {
     let mut values = Vec::new(alloc);
     for (index, item) in items.iter().enumerate() {

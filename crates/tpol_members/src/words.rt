@@ -20,7 +20,8 @@ pub fn only_word<T: Copy>(
     kind: PolicyKind,
     place: &PlaceRef<'_>,
 ) -> Result<T, ElementFault>
-    ensures { Gives result (only_word prefix.now (map (λ word. (word.0.now, word.1)) words.now) kind (view value.now) place.now) }
+    ensures { Gives result (only_word prefix.now (map (λ word. (word.0.now, word.1)) words.now) kind
+        (view value.now) place.now) }
 {
     match word(alloc, value, prefix, words, place)? {
         Some(meaning) => Ok(meaning),

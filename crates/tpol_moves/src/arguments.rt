@@ -31,7 +31,8 @@ pub fn move_arguments(alloc: Global, act: &Move) -> Result<String, NoMemory>
 }
 
 fn or_arguments(alloc: Global, digests: &[Digest32]) -> Result<String, NoMemory>
-    ensures { IfOk result (λ text. string_bytes text ≡ behind_spaces (digests_text digests.now ∷ [])) }
+    ensures { IfOk result (λ text. string_bytes text
+        ≡ behind_spaces (digests_text digests.now ∷ [])) }
 {
     let digests = digests_text(alloc, digests)?;
     let digests = digests.as_str();
@@ -46,7 +47,8 @@ fn approve_arguments(
     signature: &Digest32,
 ) -> Result<String, NoMemory>
     ensures { IfOk result (λ text. string_bytes text
-        ≡ behind_spaces (move_words (moves.Approve key.now policy_ref.now approved.now signature.now))) }
+        ≡ behind_spaces (move_words
+        (moves.Approve key.now policy_ref.now approved.now signature.now))) }
 {
     let hash = approval_hash(approved, policy_ref.as_slice());
     let key = name_text(alloc, key)?;
@@ -64,7 +66,8 @@ fn approve_nv_arguments(
     index: &Name,
     approved: &Digest32,
 ) -> Result<String, NoMemory>
-    ensures { IfOk result (λ text. string_bytes text ≡ behind_spaces (move_words (moves.ApproveNv index.now approved.now))) }
+    ensures { IfOk result (λ text. string_bytes text
+        ≡ behind_spaces (move_words (moves.ApproveNv index.now approved.now))) }
 {
     let index = name_text(alloc, index)?;
     let approved = if_listed(alloc, approved, approved)?;
@@ -73,7 +76,8 @@ fn approve_nv_arguments(
 
 // The digits of what belongs to an approved policy, or a dash where none is listed.
 fn if_listed(alloc: Global, approved: &Digest32, digest: &Digest32) -> Result<String, NoMemory>
-    ensures { IfOk result (λ text. string_bytes text ≡ if_listed approved.now (digest_text digest.now)) }
+    ensures { IfOk result (λ text. string_bytes text
+        ≡ if_listed approved.now (digest_text digest.now)) }
 {
     if approved.bytes == Digest32::ZERO.bytes {
         Ok(String::from_str(alloc, "-")?)

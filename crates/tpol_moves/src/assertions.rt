@@ -16,7 +16,8 @@ use tpol_tree::Assertion;
 
 // The arguments of an assertion's policy command.
 pub fn assertion_arguments(alloc: Global, assertion: &Assertion) -> Result<String, NoMemory>
-    ensures { IfOk result (λ text. string_bytes text ≡ behind_spaces (assertion_words assertion.now)) }
+    ensures { IfOk result (λ text. string_bytes text
+        ≡ behind_spaces (assertion_words assertion.now)) }
 {
     match assertion {
         Assertion::Pcr {
@@ -95,7 +96,8 @@ fn comparison_arguments(
     offset: u16,
     operation: Compare,
 ) -> Result<String, NoMemory>
-    ensures { IfOk result (λ text. string_bytes text ≡ behind_spaces (comparison_words operand.now offset operation)) }
+    ensures { IfOk result (λ text. string_bytes text
+        ≡ behind_spaces (comparison_words operand.now offset operation)) }
 {
     let operand = bytes_text(alloc, operand.as_slice())?;
     let operation = operation_word(operation);
@@ -161,7 +163,8 @@ fn locality_argument(alloc: Global, localities: u8) -> Result<String, NoMemory>
 }
 
 fn digest_argument(alloc: Global, digest: &Digest32) -> Result<String, NoMemory>
-    ensures { IfOk result (λ text. string_bytes text ≡ behind_spaces (digest_text digest.now ∷ [])) }
+    ensures { IfOk result (λ text. string_bytes text
+        ≡ behind_spaces (digest_text digest.now ∷ [])) }
 {
     let digest = digest_text(alloc, digest)?;
     Ok(format!(in alloc; " {digest}")?)

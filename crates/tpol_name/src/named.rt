@@ -125,7 +125,8 @@ impl<T: HasName> Named<T> {
 
     /// The first entity that has this Name.
     pub fn find(&self, name: &Name) -> Option<&T>
-        ensures found { option_copied result ≡ find (λ entry. is_same_name (T.name_of entry) name.now) self.now }
+        ensures found { option_copied result
+            ≡ find (λ entry. is_same_name (T.name_of entry) name.now) self.now }
     {
         match place_of(self.names.as_slice(), name) {
             Some(place) => self.entries.get(place),

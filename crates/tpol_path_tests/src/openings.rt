@@ -91,9 +91,12 @@ fn before(
     element: ClosedElement,
     rest: ClosedElements,
 ) -> Result<ClosedElements, NoMemory>
-    ensures lead { IfOk result (λ all. ApprovalsLeadElement true element → ApprovalsLead false rest → ApprovalsLead true all) }
-    ensures behind { IfOk result (λ all. ApprovalsLeadElement false element → ApprovalsLead false rest → ApprovalsLead false all) }
-    ensures digests { IfOk result (λ all. EachAssertionOfElement HasPcrDigest element → EachAssertion HasPcrDigest rest → EachAssertion HasPcrDigest all) }
+    ensures lead { IfOk result (λ all. ApprovalsLeadElement true element → ApprovalsLead false rest
+        → ApprovalsLead true all) }
+    ensures behind { IfOk result (λ all. ApprovalsLeadElement false element
+        → ApprovalsLead false rest → ApprovalsLead false all) }
+    ensures digests { IfOk result (λ all. EachAssertionOfElement HasPcrDigest element
+        → EachAssertion HasPcrDigest rest → EachAssertion HasPcrDigest all) }
 {
     Ok(ClosedElements::More(Box::new(alloc, element)?, Box::new(alloc, rest)?))
 }
@@ -105,8 +108,10 @@ fn branch_before(
     elements: ClosedElements,
     rest: ClosedBranches,
 ) -> Result<ClosedBranches, NoMemory>
-    ensures lead { IfOk result (λ all. ApprovalsLead true elements → ApprovalsLeadBranches true rest → ApprovalsLeadBranches true all) }
-    ensures digests { IfOk result (λ all. EachAssertion HasPcrDigest elements → EachAssertionOfBranches HasPcrDigest rest → EachAssertionOfBranches HasPcrDigest all) }
+    ensures lead { IfOk result (λ all. ApprovalsLead true elements → ApprovalsLeadBranches true rest
+        → ApprovalsLeadBranches true all) }
+    ensures digests { IfOk result (λ all. EachAssertion HasPcrDigest elements
+        → EachAssertionOfBranches HasPcrDigest rest → EachAssertionOfBranches HasPcrDigest all) }
 {
     let branch = ClosedBranch {
         name: Text::from_str(alloc, name)?,
@@ -122,8 +127,10 @@ fn either(
     first: ClosedElements,
     second: ClosedElements,
 ) -> Result<ClosedElement, NoMemory>
-    ensures lead { IfOk result (λ element. ApprovalsLead true first → ApprovalsLead true second → ApprovalsLeadElement true element) }
-    ensures digests { IfOk result (λ element. EachAssertion HasPcrDigest first → EachAssertion HasPcrDigest second → EachAssertionOfElement HasPcrDigest element) }
+    ensures lead { IfOk result (λ element. ApprovalsLead true first → ApprovalsLead true second
+        → ApprovalsLeadElement true element) }
+    ensures digests { IfOk result (λ element. EachAssertion HasPcrDigest first
+        → EachAssertion HasPcrDigest second → EachAssertionOfElement HasPcrDigest element) }
 {
     let last = branch_before(alloc, names[1], second, ClosedBranches::End)?;
     Ok(ClosedElement::Or(branch_before(alloc, names[0], first, last)?))
@@ -180,7 +187,8 @@ fn is_sound(facts: &Facts) -> bool
 }
 
 fn lead_to(facts: &Facts, policy: &Closed) -> bool
-    ensures { IsTrue result → digest_of_moves (moves_of_facts facts.now) ≡ policy_digest policy.now }
+    ensures { IsTrue result → digest_of_moves (moves_of_facts facts.now)
+        ≡ policy_digest policy.now }
 {
     is_same(&run_facts(facts), &digest_of(policy))
 }
@@ -247,8 +255,10 @@ fn policy_of_two(
     first: ClosedElements,
     second: ClosedElements,
 ) -> Result<Closed, NoMemory>
-    ensures lead { IfOk result (λ policy. ApprovalsLead true first → ApprovalsLead true second → ApprovalsLead true policy.elements) }
-    ensures digests { IfOk result (λ policy. EachAssertion HasPcrDigest first → EachAssertion HasPcrDigest second → EachAssertion HasPcrDigest policy.elements) }
+    ensures lead { IfOk result (λ policy. ApprovalsLead true first → ApprovalsLead true second
+        → ApprovalsLead true policy.elements) }
+    ensures digests { IfOk result (λ policy. EachAssertion HasPcrDigest first
+        → EachAssertion HasPcrDigest second → EachAssertion HasPcrDigest policy.elements) }
 {
     let or = either(alloc, names, first, second)?;
     Ok(Closed {
@@ -267,7 +277,8 @@ fn one(alloc: Global, assertion: Assertion) -> Result<ClosedElements, NoMemory>
 // Two assertions.
 fn two(alloc: Global, first: Assertion, second: Assertion) -> Result<ClosedElements, NoMemory>
     ensures lead { IfOk result (λ all. ApprovalsLead true all) }
-    ensures digests { IfOk result (λ all. HasPcrDigest first → HasPcrDigest second → EachAssertion HasPcrDigest all) }
+    ensures digests { IfOk result (λ all. HasPcrDigest first → HasPcrDigest second
+        → EachAssertion HasPcrDigest all) }
 {
     let rest = before(alloc, ClosedElement::Assert(second), ClosedElements::End)?;
     before(alloc, ClosedElement::Assert(first), rest)

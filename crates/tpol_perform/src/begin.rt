@@ -65,7 +65,8 @@ impl Performance {
     ) -> Result<(), NoMemory>
         requires scenario { IsScenarioOf self.old.setup scenario.now }
         requires locality { run.locality ≤ 4 }
-        ensures told { OnOk result (self.new ≡ begun_in_sight scenario.now policy.now run self.old) }
+        ensures told { OnOk result (self.new
+            ≡ begun_in_sight scenario.now policy.now run self.old) }
         ensures past { OnOk result (self.new.past ≡ self.old.past) }
         ensures setup { OnOk result (self.new.setup ≡ self.old.setup) }
     {
@@ -92,10 +93,12 @@ impl Performance {
         sight: &Sight,
         run: NewRun,
     ) -> Result<(), NoMemory>
-        requires begun { All (λ document. IsWalkable scenario.now.approvals document.closed) scenario.now.begun }
+        requires begun { All (λ document. IsWalkable scenario.now.approvals document.closed)
+            scenario.now.begun }
         requires sight { IsSight sight.now }
         requires locality { run.locality ≤ 4 }
-        ensures told { OnOk result (self.new ≡ begun_on scenario.now sight.now (paths_named scenario.now policy.now) run self.old) }
+        ensures told { OnOk result (self.new
+            ≡ begun_on scenario.now sight.now (paths_named scenario.now policy.now) run self.old) }
         ensures past { OnOk result (self.new.past ≡ self.old.past) }
         ensures setup { OnOk result (self.new.setup ≡ self.old.setup) }
     {
@@ -136,7 +139,9 @@ impl Performance {
         requires walked { IsWalkable scenario.now.approvals document.now.closed }
         requires sight { IsSight sight.now }
         requires locality { run.locality ≤ 4 }
-        ensures told { OnOk result (self.new ≡ begun_on scenario.now sight.now (paths_of document.now.closed scenario.now.approvals) run self.old) }
+        ensures told { OnOk result (self.new
+            ≡ begun_on scenario.now sight.now
+            (paths_of document.now.closed scenario.now.approvals) run self.old) }
         ensures past { OnOk result (self.new.past ≡ self.old.past) }
         ensures setup { OnOk result (self.new.setup ≡ self.old.setup) }
     {
@@ -177,7 +182,9 @@ impl Performance {
         requires moves { length path.moves ≤ 512 }
         requires locality { run.locality ≤ 4 }
         ensures told { OnOk result (self.new
-            ≡ begun_along scenario.now (tickets_given (way_of scenario.now.manner) run.client sight.now self.old.kept) position run (Some path) self.old) }
+            ≡ begun_along scenario.now
+            (tickets_given (way_of scenario.now.manner) run.client sight.now self.old.kept) position
+            run (Some path) self.old) }
         ensures past { OnOk result (self.new.past ≡ self.old.past) }
         ensures setup { OnOk result (self.new.setup ≡ self.old.setup) }
     {
@@ -201,8 +208,10 @@ impl Performance {
         path: &Path,
         run: &NewRun,
     ) -> Result<Tickets, NoMemory>
-        ensures told { OnOk result (self.new ≡ with_line (chosen_line run.now.number position path.now.steps) self.old) }
-        ensures tickets { IfOk result (λ tickets. tickets ≡ tickets_given (way_of scenario.now.manner) run.now.client sight.now self.old.kept) }
+        ensures told { OnOk result (self.new
+            ≡ with_line (chosen_line run.now.number position path.now.steps) self.old) }
+        ensures tickets { IfOk result (λ tickets. tickets
+            ≡ tickets_given (way_of scenario.now.manner) run.now.client sight.now self.old.kept) }
     {
         self.print_chosen(alloc, run.number, position, path)?;
         self.tickets_given(alloc, scenario.manner.way(), run.client, sight)
@@ -216,7 +225,8 @@ impl Performance {
         position: u32,
         path: &Path,
     ) -> Result<(), NoMemory>
-        ensures { OnOk result (self.new ≡ with_line (chosen_line number position path.now.steps) self.old) }
+        ensures { OnOk result (self.new
+            ≡ with_line (chosen_line number position path.now.steps) self.old) }
     {
         let line = chosen_line(alloc, number, position, path.steps.as_slice())?;
         self.print(alloc, line.as_str())
@@ -233,7 +243,10 @@ impl Performance {
     ) -> Result<(), NoMemory>
         requires moves { length path.moves ≤ 512 }
         requires locality { run.locality ≤ 4 }
-        ensures { OnOk result (self.new ≡ with_new_run run.number (Some (begun run.client run.locality (plan_along scenario.now tickets path run))) self.old) }
+        ensures { OnOk result (self.new
+            ≡ with_new_run run.number
+            (Some (begun run.client run.locality (plan_along scenario.now tickets path run)))
+            self.old) }
     {
         let (number, client, locality) = (run.number, run.client, run.locality);
         let plan = plan_along(scenario, tickets, path, run)?;
@@ -252,7 +265,9 @@ impl Performance {
     ) -> Result<(), NoMemory>
         requires walked { IsWalkable approvals.now document.now.closed }
         requires sight { IsSight sight.now }
-        ensures told { OnOk result (self.new ≡ begun_nowhere sight.now run.now (paths_of document.now.closed approvals.now) self.old) }
+        ensures told { OnOk result (self.new
+            ≡ begun_nowhere sight.now run.now
+            (paths_of document.now.closed approvals.now) self.old) }
         ensures past { OnOk result (self.new.past ≡ self.old.past) }
         ensures setup { OnOk result (self.new.setup ≡ self.old.setup) }
     {
@@ -262,7 +277,8 @@ impl Performance {
 
     // The run begins on no path: it is over at once.
     pub fn begin_nowhere(&mut self, alloc: Global, number: u16) -> Result<(), NoMemory>
-        ensures told { OnOk result (self.new ≡ with_line (nobranch_line number) (with_new_run number None self.old)) }
+        ensures told { OnOk result (self.new
+            ≡ with_line (nobranch_line number) (with_new_run number None self.old)) }
         ensures past { OnOk result (self.new.past ≡ self.old.past) }
         ensures setup { OnOk result (self.new.setup ≡ self.old.setup) }
     {
@@ -282,7 +298,9 @@ impl Performance {
     ) -> Result<(), NoMemory>
         requires walked { IsWalkable approvals.now document.now.closed }
         requires sight { IsSight sight.now }
-        ensures told { OnOk result (self.new ≡ with_blocks sight.now run.now 1 (paths_of document.now.closed approvals.now) self.old) }
+        ensures told { OnOk result (self.new
+            ≡ with_blocks sight.now run.now 1
+            (paths_of document.now.closed approvals.now) self.old) }
         ensures past { OnOk result (self.new.past ≡ self.old.past) }
         ensures setup { OnOk result (self.new.setup ≡ self.old.setup) }
     {
@@ -320,7 +338,8 @@ impl Performance {
         requires alike { length labels.now ≡ length blocks.now }
         requires few { length blocks.now ≤ 65536 }
         ensures told { (sight : OneSight) (run : OneRun) (paths : List OnePath)
-            → blocks.now ≡ map (λ path. first_block path sight run.grants run.goal run.locality) paths
+            → blocks.now ≡ map (λ path. first_block path sight run.grants run.goal run.locality)
+            paths
             → labels.now ≡ map (λ path. label path.steps) paths
             → OnOk result (self.new ≡ with_blocks sight run 1 paths self.old) }
         ensures past { OnOk result (self.new.past ≡ self.old.past) }

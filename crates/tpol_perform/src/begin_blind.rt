@@ -60,7 +60,8 @@ impl Performance {
         requires few { length paths ≤ 64 }
         requires short { All (λ path. length path.moves ≤ 512) paths }
         requires locality { run.locality ≤ 4 }
-        ensures told { OnOk result (self.new ≡ begun_by_plan policy.now run (blind_plan scenario.now paths run) self.old) }
+        ensures told { OnOk result (self.new
+            ≡ begun_by_plan policy.now run (blind_plan scenario.now paths run) self.old) }
         ensures past { OnOk result (self.new.past ≡ self.old.past) }
         ensures setup { OnOk result (self.new.setup ≡ self.old.setup) }
     {
@@ -96,7 +97,9 @@ impl Performance {
         requires few { length plan.paths ≤ 64 }
         requires short { All (λ path. length path.moves ≤ 512) plan.paths }
         requires locality { locality ≤ 4 }
-        ensures told { OnOk result (self.new ≡ begun_on_tries number (begun_blind client locality policy.now plan) plan (first_complete plan) self.old) }
+        ensures told { OnOk result (self.new
+            ≡ begun_on_tries number (begun_blind client locality policy.now plan) plan
+            (first_complete plan) self.old) }
         ensures past { OnOk result (self.new.past ≡ self.old.past) }
         ensures setup { OnOk result (self.new.setup ≡ self.old.setup) }
     {
@@ -118,7 +121,9 @@ impl Performance {
         plan: &BlindPlan,
     ) -> Result<(), NoMemory>
         requires few { length plan.now.paths ≤ 64 }
-        ensures told { OnOk result (self.new ≡ with_nobranch number plan.now.paths (none_tried plan.now) (with_new_run number None self.old)) }
+        ensures told { OnOk result (self.new
+            ≡ with_nobranch number plan.now.paths (none_tried plan.now)
+            (with_new_run number None self.old)) }
         ensures past { OnOk result (self.new.past ≡ self.old.past) }
         ensures setup { OnOk result (self.new.setup ≡ self.old.setup) }
     {
@@ -143,7 +148,8 @@ impl Performance {
         requires few { length plan.paths ≤ 64 }
         requires short { All (λ path. length path.moves ≤ 512) plan.paths }
         requires locality { locality ≤ 4 }
-        ensures { OnOk result (self.new ≡ with_new_run number (Some (begun_blind client locality policy.now plan)) self.old) }
+        ensures { OnOk result (self.new
+            ≡ with_new_run number (Some (begun_blind client locality policy.now plan)) self.old) }
     {
         match BlindStart::new(alloc, plan) {
             Ok(start) => match Text::from_str(alloc, policy) {

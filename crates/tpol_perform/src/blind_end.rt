@@ -27,8 +27,10 @@ impl Performance {
         policy: &str,
         end: BlindEnd,
     ) -> Result<(), NoMemory>
-        requires begun { All (λ document. IsWalkable scenario.now.approvals document.closed) scenario.now.begun }
-        ensures told { OnOk result (self.new ≡ with_blind_end number (paths_named scenario.now policy.now) end self.old) }
+        requires begun { All (λ document. IsWalkable scenario.now.approvals document.closed)
+            scenario.now.begun }
+        ensures told { OnOk result (self.new
+            ≡ with_blind_end number (paths_named scenario.now policy.now) end self.old) }
         ensures past { OnOk result (self.new.past ≡ self.old.past) }
         ensures setup { OnOk result (self.new.setup ≡ self.old.setup) }
     {
@@ -86,7 +88,9 @@ impl Performance {
         position: u32,
         end: End,
     ) -> Result<(), NoMemory>
-        ensures told { OnOk result (self.new ≡ with_line (end_line number end) (with_path number position (slice_get paths.now (position - 1)) self.old)) }
+        ensures told { OnOk result (self.new
+            ≡ with_line (end_line number end)
+            (with_path number position (slice_get paths.now (position - 1)) self.old)) }
         ensures past { OnOk result (self.new.past ≡ self.old.past) }
         ensures setup { OnOk result (self.new.setup ≡ self.old.setup) }
     {
@@ -106,7 +110,8 @@ impl Performance {
         paths: &[Path],
         position: u32,
     ) -> Result<(), NoMemory>
-        ensures told { OnOk result (self.new ≡ with_path number position (slice_get paths.now (position - 1)) self.old) }
+        ensures told { OnOk result (self.new
+            ≡ with_path number position (slice_get paths.now (position - 1)) self.old) }
         ensures past { OnOk result (self.new.past ≡ self.old.past) }
         ensures setup { OnOk result (self.new.setup ≡ self.old.setup) }
     {

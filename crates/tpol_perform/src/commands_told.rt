@@ -32,11 +32,14 @@ impl Performance {
         requires scenario { IsScenarioOf self.old.setup scenario.now }
         requires locality { locality ≤ 4 }
         requires few { length self.old.past < 2 ^ 31 }
-        ensures told { OnOk result (self.new ≡ commanded scenario.now client locality buffer.now self.old) }
+        ensures told { OnOk result (self.new
+            ≡ commanded scenario.now client locality buffer.now self.old) }
         ensures few { OnOk result (length self.new.past ≡ length self.old.past + 1) }
         ensures setup { OnOk result (self.new.setup ≡ self.old.setup) }
-        ensures timeless { OnOk result (time_of self.new.setup self.new.past ≡ time_of self.old.setup self.old.past) }
-        ensures reply { IfOk result (λ reply. reply ≡ (answer_to self.old.setup self.old.past locality buffer.now).reply) }
+        ensures timeless { OnOk result (time_of self.new.setup self.new.past
+            ≡ time_of self.old.setup self.old.past) }
+        ensures reply { IfOk result (λ reply. reply
+            ≡ (answer_to self.old.setup self.old.past locality buffer.now).reply) }
     {
         let executed = self.execute(alloc, client, locality, buffer)?;
         match self.tell_opening(alloc, scenario, &executed) {
@@ -55,9 +58,12 @@ impl Performance {
         scenario: &Scenario,
         executed: &Executed,
     ) -> Result<(), NoMemory>
-        requires walked { All (λ entity. IsWalkable scenario.now.approvals entity.document.closed) scenario.now.entities }
+        requires walked { All (λ entity. IsWalkable scenario.now.approvals entity.document.closed)
+            scenario.now.entities }
         requires meets { IfSome executed.now.opened (MeetsPolicy scenario.now.entities) }
-        ensures told { OnOk result (self.new ≡ opening_told (explains scenario.now.manner) scenario.now executed.now.event executed.now.opened self.old) }
+        ensures told { OnOk result (self.new
+            ≡ opening_told (explains scenario.now.manner) scenario.now executed.now.event
+            executed.now.opened self.old) }
         ensures past { OnOk result (self.new.past ≡ self.old.past) }
         ensures setup { OnOk result (self.new.setup ≡ self.old.setup) }
     {
@@ -78,11 +84,16 @@ impl Performance {
     ) -> Result<Executed, NoMemory>
         requires locality { locality ≤ 4 }
         requires few { length self.old.past < 2 ^ 31 }
-        ensures told { OnOk result (self.new ≡ command_told client locality buffer.now (answer_to self.old.setup self.old.past locality buffer.now) self.old) }
+        ensures told { OnOk result (self.new
+            ≡ command_told client locality buffer.now
+            (answer_to self.old.setup self.old.past locality buffer.now) self.old) }
         ensures event { IfOk result (λ done. done.event ≡ number_in self.old) }
-        ensures reply { IfOk result (λ done. done.reply ≡ (answer_to self.old.setup self.old.past locality buffer.now).reply) }
-        ensures opened { IfOk result (λ done. done.opened ≡ opened_to self.old.setup self.old.past locality buffer.now) }
-        ensures meets { (entities : List CompiledEntityOf) → HavePolicies self.old.setup entities → IfOk result (λ done. IfSome done.opened (MeetsPolicy entities)) }
+        ensures reply { IfOk result (λ done. done.reply
+            ≡ (answer_to self.old.setup self.old.past locality buffer.now).reply) }
+        ensures opened { IfOk result (λ done. done.opened
+            ≡ opened_to self.old.setup self.old.past locality buffer.now) }
+        ensures meets { (entities : List CompiledEntityOf) → HavePolicies self.old.setup entities
+            → IfOk result (λ done. IfSome done.opened (MeetsPolicy entities)) }
     {
         let done = self.machine.execute(alloc, client, locality, buffer)?;
         match self.print_command(alloc, client, locality, buffer, &done) {
@@ -103,7 +114,9 @@ impl Performance {
         buffer: &[u8],
         done: &Executed,
     ) -> Result<(), NoMemory>
-        ensures { OnOk result (self.new ≡ with_line (command_line done.now.event client locality buffer.now done.now.reply done.now.outcome) self.old) }
+        ensures { OnOk result (self.new
+            ≡ with_line (command_line done.now.event client locality buffer.now done.now.reply
+            done.now.outcome) self.old) }
     {
         let line = command_line(
             alloc,

@@ -32,9 +32,11 @@ impl Performance {
         event: u32,
         opened: &Option<Opened>,
     ) -> Result<(), NoMemory>
-        requires walked { All (λ entity. IsWalkable scenario.now.approvals entity.document.closed) scenario.now.entities }
+        requires walked { All (λ entity. IsWalkable scenario.now.approvals entity.document.closed)
+            scenario.now.entities }
         requires meets { IfSome opened.now (MeetsPolicy scenario.now.entities) }
-        ensures told { OnOk result (self.new ≡ entity_opened scenario.now event opened.now self.old) }
+        ensures told { OnOk result (self.new
+            ≡ entity_opened scenario.now event opened.now self.old) }
         ensures past { OnOk result (self.new.past ≡ self.old.past) }
         ensures setup { OnOk result (self.new.setup ≡ self.old.setup) }
     {
@@ -53,9 +55,11 @@ impl Performance {
         event: u32,
         opened: &Opened,
     ) -> Result<(), NoMemory>
-        requires walked { All (λ entity. IsWalkable scenario.now.approvals entity.document.closed) scenario.now.entities }
+        requires walked { All (λ entity. IsWalkable scenario.now.approvals entity.document.closed)
+            scenario.now.entities }
         requires meets { MeetsPolicy scenario.now.entities opened.now }
-        ensures told { OnOk result (self.new ≡ entity_opened scenario.now event (Some opened.now) self.old) }
+        ensures told { OnOk result (self.new
+            ≡ entity_opened scenario.now event (Some opened.now) self.old) }
         ensures past { OnOk result (self.new.past ≡ self.old.past) }
         ensures setup { OnOk result (self.new.setup ≡ self.old.setup) }
     {
@@ -80,7 +84,9 @@ impl Performance {
         requires walked { IsWalkable scenario.now.approvals policy.now }
         requires sound { IsSound (moves_of_facts facts.now) }
         requires digest { digest_of_moves (moves_of_facts facts.now) ≡ policy_digest policy.now }
-        ensures told { OnOk result (self.new ≡ policy_opened scenario.now.manner scenario.now.approvals event facts.now (Some policy.now) self.old) }
+        ensures told { OnOk result (self.new
+            ≡ policy_opened scenario.now.manner scenario.now.approvals event facts.now
+            (Some policy.now) self.old) }
         ensures past { OnOk result (self.new.past ≡ self.old.past) }
         ensures setup { OnOk result (self.new.setup ≡ self.old.setup) }
     {
@@ -101,7 +107,9 @@ impl Performance {
     ) -> Result<(), NoMemory>
         requires within { AreWithinLimits (paths_of policy.now scenario.now.approvals) }
         requires listed { IsListed (paths_of policy.now scenario.now.approvals) opening.now }
-        ensures told { OnOk result (self.new ≡ with_opening_of (certifies scenario.now.manner) policy.now scenario.now.approvals event (Some opening.now) self.old) }
+        ensures told { OnOk result (self.new
+            ≡ with_opening_of (certifies scenario.now.manner) policy.now scenario.now.approvals
+            event (Some opening.now) self.old) }
         ensures past { OnOk result (self.new.past ≡ self.old.past) }
         ensures setup { OnOk result (self.new.setup ≡ self.old.setup) }
     {
@@ -126,7 +134,9 @@ impl Performance {
     ) -> Result<(), NoMemory>
         requires within { AreWithinLimits (paths_of policy.now approvals.now) }
         requires listed { IsListed (paths_of policy.now approvals.now) opening.now }
-        ensures told { OnOk result (self.new ≡ with_certificate true event (certificate_of_opening policy.now approvals.now (Some opening.now)) self.old) }
+        ensures told { OnOk result (self.new
+            ≡ with_certificate true event
+            (certificate_of_opening policy.now approvals.now (Some opening.now)) self.old) }
         ensures past { OnOk result (self.new.past ≡ self.old.past) }
         ensures setup { OnOk result (self.new.setup ≡ self.old.setup) }
     {

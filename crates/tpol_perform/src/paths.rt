@@ -14,7 +14,8 @@ use tpol_tree::{Approvals, Closed, Paths};
 /// The paths of the policy of this name, which the script begins. It fails only where memory ran out.
 #[tactic(auto, unfolding(tpol_prepare::specs::Scenario::paths_named))]
 pub fn paths_named(alloc: Global, scenario: &Scenario, policy: &str) -> Result<Paths, NoMemory>
-    requires begun { All (λ document. IsWalkable scenario.now.approvals document.closed) scenario.now.begun }
+    requires begun { All (λ document. IsWalkable scenario.now.approvals document.closed)
+        scenario.now.begun }
     ensures paths { IfOk result (λ paths. paths ≡ paths_named scenario.now policy.now) }
 {
     match scenario.document(policy) {

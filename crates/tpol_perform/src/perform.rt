@@ -30,10 +30,13 @@ pub fn perform_scene<H: Shelf>(
 ) -> Result<Answer, Halt>
     ensures answer { IfSome (H.documents shelf.old) (λ all.
         Answers (λ answer. answer) (perform_step manner input.now all) result) }
-    ensures explained { explains manner ≡ true → IfAnswered result (λ answer. answer.verdict ≡ Verdict.Done
-        → IfSome (H.documents shelf.old) (λ all. IsExplainedScene manner input.now all answer.lines)) }
+    ensures explained { explains manner ≡ true
+        → IfAnswered result (λ answer. answer.verdict ≡ Verdict.Done
+        → IfSome (H.documents shelf.old)
+        (λ all. IsExplainedScene manner input.now all answer.lines)) }
     ensures keeps { H.documents shelf.new ≡ H.documents shelf.old }
-    ensures asks { AsksShelf true (IsOk (scene_of_bytes input.now)) shelf.old shelf.new (H.faults shelf.old) (H.faults shelf.new) result }
+    ensures asks { AsksShelf true (IsOk (scene_of_bytes input.now)) shelf.old shelf.new
+        (H.faults shelf.old) (H.faults shelf.new) result }
 {
     let staged = stage(alloc, manner, input, shelf)?;
     Ok(performance_answer(alloc, staged)?)

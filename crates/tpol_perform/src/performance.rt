@@ -80,7 +80,8 @@ impl Performance {
         ensures told { OnOk result (self.new ≡ time_passed ms self.old) }
         ensures setup { OnOk result (self.new.setup ≡ self.old.setup) }
         ensures few { OnOk result (length self.new.past ≡ length self.old.past + 1) }
-        ensures time { OnOk result (time_of self.new.setup self.new.past ≡ time_of self.old.setup self.old.past + ms) }
+        ensures time { OnOk result (time_of self.new.setup self.new.past
+            ≡ time_of self.old.setup self.old.past + ms) }
     {
         self.machine.reserve()?;
         let event = self.machine.advance(ms);
@@ -95,7 +96,8 @@ impl Performance {
         ensures told { OnOk result (self.new ≡ presence_set on self.old) }
         ensures setup { OnOk result (self.new.setup ≡ self.old.setup) }
         ensures few { OnOk result (length self.new.past ≡ length self.old.past + 1) }
-        ensures time { OnOk result (time_of self.new.setup self.new.past ≡ time_of self.old.setup self.old.past) }
+        ensures time { OnOk result (time_of self.new.setup self.new.past
+            ≡ time_of self.old.setup self.old.past) }
     {
         self.machine.reserve()?;
         let event = self.machine.set_presence(on);

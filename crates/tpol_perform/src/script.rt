@@ -48,7 +48,8 @@ fn perform_script(
     requires scenario { IsScenarioOf setup scenario.now }
     requires script { All CanHappen script.now }
     requires few { length script.now ≤ 4096 }
-    ensures { IfOk result (λ performance. performance ≡ all_happened scenario.now script.now (start_of setup)) }
+    ensures { IfOk result (λ performance. performance
+        ≡ all_happened scenario.now script.now (start_of setup)) }
 {
     let mut performance = Performance::new(alloc, setup)?;
     match performance.carry_out(alloc, scenario, script) {
@@ -96,7 +97,8 @@ impl Performance {
         ensures told { OnOk result (self.new ≡ happened scenario.now event.now self.old) }
         ensures setup { OnOk result (self.new.setup ≡ self.old.setup) }
         ensures few { OnOk result (length self.new.past ≤ length self.old.past + 65700) }
-        ensures early { OnOk result (time_of self.new.setup self.new.past ≤ time_of self.old.setup self.old.past + 2 ^ 32) }
+        ensures early { OnOk result (time_of self.new.setup self.new.past
+            ≤ time_of self.old.setup self.old.past + 2 ^ 32) }
     {
         match event {
             ScriptEvent::Command {
@@ -139,7 +141,8 @@ impl Performance {
         ensures told { OnOk result (self.new ≡ turn_told scenario.now run times self.old) }
         ensures setup { OnOk result (self.new.setup ≡ self.old.setup) }
         ensures few { OnOk result (length self.new.past ≤ length self.old.past + 65700) }
-        ensures timeless { OnOk result (time_of self.new.setup self.new.past ≡ time_of self.old.setup self.old.past) }
+        ensures timeless { OnOk result (time_of self.new.setup self.new.past
+            ≡ time_of self.old.setup self.old.past) }
     {
         match times {
             Some(times) => self.turn_times(alloc, scenario, run, times),
@@ -157,7 +160,8 @@ fn scripted_run(
     locality: u8,
     goal: &Goal,
 ) -> Result<NewRun, NoMemory>
-    ensures { IfOk result (λ run. run ≡ new_run scenario.now.clients number client locality goal.now) }
+    ensures { IfOk result (λ run. run
+        ≡ new_run scenario.now.clients number client locality goal.now) }
 {
     let goal = goal.exact_clone()?;
     match scenario.grants(alloc, client) {

@@ -44,7 +44,11 @@ impl Performance {
         client: u32,
         ticket: &HeldTicket,
     ) -> Result<(), NoMemory>
-        ensures told { OnOk result (self.new ≡ record self.old { kept = self.old.kept ++ kept_of directory.now client (ticket.now ∷ []) }) }
+        ensures told { OnOk result (self.new
+            ≡ record self.old {
+              kept = self.old.kept
+                  ++ kept_of directory.now client (ticket.now ∷ []);
+            }) }
     {
         if !is_of_index(directory, ticket) {
             let ticket = ticket.exact_clone()?;
@@ -62,7 +66,8 @@ impl Performance {
         client: u32,
         sight: &Sight,
     ) -> Result<Tickets, NoMemory>
-        ensures { IfOk result (λ tickets. tickets ≡ tickets_given way client sight.now self.now.kept) }
+        ensures { IfOk result (λ tickets. tickets
+            ≡ tickets_given way client sight.now self.now.kept) }
     {
         match way {
             Way::Sighted | Way::Blind => Ok(Tickets::new(alloc)),

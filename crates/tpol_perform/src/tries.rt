@@ -57,7 +57,8 @@ impl Performance {
         path: &Path,
         tried: &Tried,
     ) -> Result<(), NoMemory>
-        ensures { OnOk result (self.new ≡ with_line (tried_line position path.now.steps tried.now) self.old) }
+        ensures { OnOk result (self.new
+            ≡ with_line (tried_line position path.now.steps tried.now) self.old) }
     {
         let line = tried_line(alloc, position, path.steps.as_slice(), tried)?;
         self.print(alloc, line.as_str())

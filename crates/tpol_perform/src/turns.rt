@@ -32,7 +32,8 @@ impl Performance {
         ensures told { OnOk result (self.new ≡ turned_times scenario.now run times self.old) }
         ensures few { OnOk result (length self.new.past ≤ length self.old.past + times) }
         ensures setup { OnOk result (self.new.setup ≡ self.old.setup) }
-        ensures timeless { OnOk result (time_of self.new.setup self.new.past ≡ time_of self.old.setup self.old.past) }
+        ensures timeless { OnOk result (time_of self.new.setup self.new.past
+            ≡ time_of self.old.setup self.old.past) }
     {
         for _turn in 0..times {
             self.turn(alloc, scenario, run)?;
@@ -53,7 +54,8 @@ impl Performance {
         ensures told { OnOk result (self.new ≡ turned_to_end scenario.now run self.old) }
         ensures few { OnOk result (length self.new.past ≤ length self.old.past + 65700) }
         ensures setup { OnOk result (self.new.setup ≡ self.old.setup) }
-        ensures timeless { OnOk result (time_of self.new.setup self.new.past ≡ time_of self.old.setup self.old.past) }
+        ensures timeless { OnOk result (time_of self.new.setup self.new.past
+            ≡ time_of self.old.setup self.old.past) }
     {
         match self.runs.next(alloc, run)? {
             None => self.print_over(alloc, run),
@@ -78,7 +80,8 @@ impl Performance {
         ensures told { OnOk result (self.new ≡ turned_on scenario.now run most self.old) }
         ensures few { OnOk result (length self.new.past ≤ length self.old.past + most) }
         ensures setup { OnOk result (self.new.setup ≡ self.old.setup) }
-        ensures timeless { OnOk result (time_of self.new.setup self.new.past ≡ time_of self.old.setup self.old.past) }
+        ensures timeless { OnOk result (time_of self.new.setup self.new.past
+            ≡ time_of self.old.setup self.old.past) }
     {
         for _turn in 0..most {
             match self.runs.next(alloc, run)? {
@@ -97,7 +100,8 @@ impl Performance {
         ensures told { OnOk result (self.new ≡ turned scenario.now run self.old) }
         ensures few { OnOk result (length self.new.past ≤ length self.old.past + 1) }
         ensures setup { OnOk result (self.new.setup ≡ self.old.setup) }
-        ensures timeless { OnOk result (time_of self.new.setup self.new.past ≡ time_of self.old.setup self.old.past) }
+        ensures timeless { OnOk result (time_of self.new.setup self.new.past
+            ≡ time_of self.old.setup self.old.past) }
     {
         match self.runs.next(alloc, run)? {
             None => self.print_over(alloc, run),
@@ -120,7 +124,8 @@ impl Performance {
         ensures told { OnOk result (self.new ≡ sent scenario.now run command.now self.old) }
         ensures few { OnOk result (length self.new.past ≡ length self.old.past + 1) }
         ensures setup { OnOk result (self.new.setup ≡ self.old.setup) }
-        ensures timeless { OnOk result (time_of self.new.setup self.new.past ≡ time_of self.old.setup self.old.past) }
+        ensures timeless { OnOk result (time_of self.new.setup self.new.past
+            ≡ time_of self.old.setup self.old.past) }
     {
         let reply = self.command(
             alloc,
@@ -142,7 +147,8 @@ impl Performance {
         run: u16,
         reply: &[u8],
     ) -> Result<(), NoMemory>
-        requires begun { All (λ document. IsWalkable scenario.now.approvals document.closed) scenario.now.begun }
+        requires begun { All (λ document. IsWalkable scenario.now.approvals document.closed)
+            scenario.now.begun }
         ensures told { OnOk result (self.new ≡ replied scenario.now client run reply.now self.old) }
         ensures past { OnOk result (self.new.past ≡ self.old.past) }
         ensures setup { OnOk result (self.new.setup ≡ self.old.setup) }
@@ -159,7 +165,8 @@ impl Performance {
         run: u16,
         end: Option<Ended>,
     ) -> Result<(), NoMemory>
-        requires begun { All (λ document. IsWalkable scenario.now.approvals document.closed) scenario.now.begun }
+        requires begun { All (λ document. IsWalkable scenario.now.approvals document.closed)
+            scenario.now.begun }
         ensures told { OnOk result (self.new ≡ with_end scenario.now client run end self.old) }
         ensures past { OnOk result (self.new.past ≡ self.old.past) }
         ensures setup { OnOk result (self.new.setup ≡ self.old.setup) }

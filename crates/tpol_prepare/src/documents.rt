@@ -24,7 +24,8 @@ pub fn fill_references(
     references: &[Reference],
 ) -> Result<Sequence<FilledDocument>, Halt>
     ensures answer { Answers (map erased_filled)
-        (documents_from (policies_of store.now) (option_copied sight.entry) [] references.now) result }
+        (documents_from (policies_of store.now) (option_copied sight.entry) [] references.now)
+        result }
     ensures inside { IsInside result }
     ensures ready { All IsReadable (stored store.now) → IfOk result (All IsReadyDocument) }
 {
@@ -45,7 +46,8 @@ fn add_reference(
     reference: &Reference,
 ) -> Result<(), Halt>
     ensures answer { Answers (λ _. map erased_filled documents.new)
-        (document_step (policies_of store.now) (option_copied sight.entry) (map erased_filled documents.old) reference.now) result }
+        (document_step (policies_of store.now) (option_copied sight.entry)
+        (map erased_filled documents.old) reference.now) result }
     ensures inside { IsInside result }
     ensures ready { All IsReadable (stored store.now) → All IsReadyDocument documents.old
         → OnOk result (All IsReadyDocument documents.new) }

@@ -48,7 +48,8 @@ pub fn compile_entities(
     ensures answer { Answers erased_compiled
         (entities_from (policies_of store.now) (no_entity setup) policies.now) result }
     ensures inside { IsInside result }
-    ensures ready { All IsReadable (stored store.now) → IfOk result (λ compiled. All IsReadyEntity compiled.entities) }
+    ensures ready { All IsReadable (stored store.now)
+        → IfOk result (λ compiled. All IsReadyEntity compiled.entities) }
     ensures setup { IsSetup setup → IfOk result (λ compiled. IsSetup compiled.setup) }
 {
     let mut compiled = CompiledSetup {
@@ -92,7 +93,8 @@ fn entity_policy(
     setup: &Setup,
     policy: &EntityPolicy,
 ) -> Result<Closed, Halt>
-    ensures answer { Answers erased (entity_step (policies_of store.now) setup.now policy.now) result }
+    ensures answer { Answers erased
+        (entity_step (policies_of store.now) setup.now policy.now) result }
     ensures inside { IsInside result }
     ensures ready { All IsReadable (stored store.now) → IfOk result IsReady }
 {

@@ -33,10 +33,13 @@ pub struct PreparedScene {
 /// has no value; `NoMemory` comes where memory ran out, and nothing else comes.
 #[tactic(auto, unfolding(crate::specs::Prepared::prepared_step))]
 pub fn prepare(alloc: Global, store: &Store, scene: &Scene) -> Result<PreparedScene, Halt>
-    ensures answer { Answers erased_prepared (prepared_step (policies_of store.now) scene.now) result }
+    ensures answer { Answers erased_prepared
+        (prepared_step (policies_of store.now) scene.now) result }
     ensures inside { IsInside result }
-    ensures entities { All IsReadable (stored store.now) → IfOk result (λ prepared. All IsReadyEntity prepared.entities) }
-    ensures begun { All IsReadable (stored store.now) → IfOk result (λ prepared. All IsReadyDocument prepared.begun) }
+    ensures entities { All IsReadable (stored store.now)
+        → IfOk result (λ prepared. All IsReadyEntity prepared.entities) }
+    ensures begun { All IsReadable (stored store.now)
+        → IfOk result (λ prepared. All IsReadyDocument prepared.begun) }
     ensures setup { IsSetup scene.now.setup → IfOk result (λ prepared. IsSetup prepared.setup) }
 {
     let references = script_references(alloc, scene)?;
@@ -56,8 +59,10 @@ fn fill_scene(
     ensures answer { Answers erased_prepared
         (filled_scene_step (policies_of store.now) scene.now references.now) result }
     ensures inside { IsInside result }
-    ensures entities { All IsReadable (stored store.now) → IfOk result (λ prepared. All IsReadyEntity prepared.entities) }
-    ensures begun { All IsReadable (stored store.now) → IfOk result (λ prepared. All IsReadyDocument prepared.begun) }
+    ensures entities { All IsReadable (stored store.now)
+        → IfOk result (λ prepared. All IsReadyEntity prepared.entities) }
+    ensures begun { All IsReadable (stored store.now)
+        → IfOk result (λ prepared. All IsReadyDocument prepared.begun) }
     ensures setup { IsSetup scene.now.setup → IfOk result (λ prepared. IsSetup prepared.setup) }
 {
     let setup = scene.setup.exact_clone()?;
@@ -76,8 +81,10 @@ fn fill_begun(
     ensures answer { Answers erased_prepared
         (begun_step (policies_of store.now) (erased_compiled compiled) references.now) result }
     ensures inside { IsInside result }
-    ensures entities { All IsReadyEntity compiled.entities → IfOk result (λ prepared. All IsReadyEntity prepared.entities) }
-    ensures begun { All IsReadable (stored store.now) → IfOk result (λ prepared. All IsReadyDocument prepared.begun) }
+    ensures entities { All IsReadyEntity compiled.entities
+        → IfOk result (λ prepared. All IsReadyEntity prepared.entities) }
+    ensures begun { All IsReadable (stored store.now)
+        → IfOk result (λ prepared. All IsReadyDocument prepared.begun) }
     ensures setup { IfOk result (λ prepared. prepared.setup ≡ compiled.setup) }
 {
     let sight = match opening_sight(alloc, &compiled.setup) {
@@ -115,7 +122,8 @@ pub fn opening_of(
     store: &Store,
     scene: &Option<Scene>,
 ) -> Result<Option<Sight>, Halt>
-    ensures answer { Answers (λ sight. sight) (opening_step (policies_of store.now) scene.now) result }
+    ensures answer { Answers (λ sight. sight)
+        (opening_step (policies_of store.now) scene.now) result }
     ensures inside { IsInside result }
 {
     match scene {
@@ -141,9 +149,11 @@ pub fn sight_of_scene<H: Shelf>(
     name: &Option<Text>,
     shelf: &mut H,
 ) -> Result<Option<Sight>, Halt>
-    ensures answer { IfSome (H.documents shelf.old) (λ all. Answers (λ sight. sight) (sight_step name.now all) result) }
+    ensures answer { IfSome (H.documents shelf.old)
+        (λ all. Answers (λ sight. sight) (sight_step name.now all) result) }
     ensures keeps { H.documents shelf.new ≡ H.documents shelf.old }
-    ensures asks { AsksShelf (is_some name.now) ⊤ shelf.old shelf.new (H.faults shelf.old) (H.faults shelf.new) result }
+    ensures asks { AsksShelf (is_some name.now) ⊤ shelf.old shelf.new (H.faults shelf.old)
+        (H.faults shelf.new) result }
 {
     match name {
         None => Ok(None),
@@ -153,9 +163,11 @@ pub fn sight_of_scene<H: Shelf>(
 
 #[tactic(auto, unfolding(crate::specs::Prepared::sight_step))]
 fn sight_of_name<H: Shelf>(alloc: Global, name: &Text, shelf: &mut H) -> Result<Option<Sight>, Halt>
-    ensures answer { IfSome (H.documents shelf.old) (λ all. Answers (λ sight. sight) (sight_step (Some name.now) all) result) }
+    ensures answer { IfSome (H.documents shelf.old)
+        (λ all. Answers (λ sight. sight) (sight_step (Some name.now) all) result) }
     ensures keeps { H.documents shelf.new ≡ H.documents shelf.old }
-    ensures asks { AsksShelf true ⊤ shelf.old shelf.new (H.faults shelf.old) (H.faults shelf.new) result }
+    ensures asks { AsksShelf true ⊤ shelf.old shelf.new (H.faults shelf.old)
+        (H.faults shelf.new) result }
 {
     let scene = scene_of_shelf(alloc, name, shelf)?;
     match load_store(alloc, shelf) {

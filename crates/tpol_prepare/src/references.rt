@@ -63,7 +63,8 @@ fn add_reference(
 /// comes.
 #[tactic(auto, unfolding(crate::specs::References::references_step))]
 pub fn check_entities(alloc: Global, store: &Store, policies: &[EntityPolicy]) -> Result<(), Halt>
-    ensures answer { Answers (λ _. tt) (references_step (policies_of store.now) (map entity_reference policies.now)) result }
+    ensures answer { Answers (λ _. tt)
+        (references_step (policies_of store.now) (map entity_reference policies.now)) result }
     ensures inside { IsInside result }
 {
     for policy in policies {
@@ -77,7 +78,8 @@ pub fn check_entities(alloc: Global, store: &Store, policies: &[EntityPolicy]) -
 /// `Refused` tells where it stands; `NoMemory` comes where memory for that line ran out, and nothing else comes.
 #[tactic(auto, unfolding(crate::specs::References::references_step))]
 pub fn check_references(alloc: Global, store: &Store, references: &[Reference]) -> Result<(), Halt>
-    ensures answer { Answers (λ _. tt) (references_step (policies_of store.now) references.now) result }
+    ensures answer { Answers (λ _. tt)
+        (references_step (policies_of store.now) references.now) result }
     ensures inside { IsInside result }
 {
     for reference in references {
@@ -96,10 +98,13 @@ pub fn policy_at<'a>(
     name: &Text,
     place: &Place,
 ) -> Result<&'a Policy, Halt>
-    ensures answer { Answers (λ policy. erased_policy policy.now) (policy_at (policies_of store.now) name.now place.now) result }
+    ensures answer { Answers (λ policy. erased_policy policy.now)
+        (policy_at (policies_of store.now) name.now place.now) result }
     ensures inside { IsInside result }
-    ensures branches { All IsReadable (stored store.now) → IfOk result (λ policy. written.HasBranchCounts policy.now.elements) }
-    ensures bounded { All IsReadable (stored store.now) → IfOk result (λ policy. HasBounds policy.now) }
+    ensures branches { All IsReadable (stored store.now)
+        → IfOk result (λ policy. written.HasBranchCounts policy.now.elements) }
+    ensures bounded { All IsReadable (stored store.now)
+        → IfOk result (λ policy. HasBounds policy.now) }
 {
     match store.find(name.as_str()) {
         Some(policy) => Ok(policy),

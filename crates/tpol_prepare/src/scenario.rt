@@ -71,9 +71,11 @@ pub fn stage<H: Shelf>(
     input: &[u8],
     shelf: &mut H,
 ) -> Result<StagedScene, Halt>
-    ensures answer { IfSome (H.documents shelf.old) (λ all. Answers erased_staged (staged_step manner input.now all) result) }
+    ensures answer { IfSome (H.documents shelf.old)
+        (λ all. Answers erased_staged (staged_step manner input.now all) result) }
     ensures keeps { H.documents shelf.new ≡ H.documents shelf.old }
-    ensures asks { AsksShelf true (IsOk (scene_of_bytes input.now)) shelf.old shelf.new (H.faults shelf.old) (H.faults shelf.new) result }
+    ensures asks { AsksShelf true (IsOk (scene_of_bytes input.now)) shelf.old shelf.new
+        (H.faults shelf.old) (H.faults shelf.new) result }
     ensures staged { IfOk result IsStaged }
     ensures setup { IfOk result (λ staged. IsSetup staged.setup) }
     ensures scenario { IfOk result (λ staged. IsScenarioOf staged.setup staged.scenario) }
@@ -101,9 +103,11 @@ fn stage_scene<H: Shelf>(
     requires clients { HasClients scene }
     requires script { HasScript scene }
     requires few { length scene.script ≤ 4096 }
-    ensures answer { IfSome (H.documents shelf.old) (λ all. Answers erased_staged (staged_from manner scene all) result) }
+    ensures answer { IfSome (H.documents shelf.old)
+        (λ all. Answers erased_staged (staged_from manner scene all) result) }
     ensures keeps { H.documents shelf.new ≡ H.documents shelf.old }
-    ensures asks { AsksShelf true ⊤ shelf.old shelf.new (H.faults shelf.old) (H.faults shelf.new) result }
+    ensures asks { AsksShelf true ⊤ shelf.old shelf.new (H.faults shelf.old)
+        (H.faults shelf.new) result }
     ensures staged { IfOk result IsStaged }
     ensures few { IfOk result (λ staged. length staged.script ≤ 4096) }
 {
@@ -132,9 +136,11 @@ fn policies_on_shelf<H: Shelf>(
     ensures answer { IfSome (H.documents shelf.old) (λ all.
         Answers (staged_of manner scene.now) (staged_from manner scene.now all) result) }
     ensures keeps { H.documents shelf.new ≡ H.documents shelf.old }
-    ensures asks { AsksShelf true ⊤ shelf.old shelf.new (H.faults shelf.old) (H.faults shelf.new) result }
+    ensures asks { AsksShelf true ⊤ shelf.old shelf.new (H.faults shelf.old)
+        (H.faults shelf.new) result }
     ensures directory { IfOk result (λ found. found.1.1 ≡ directory_of found.0.setup) }
-    ensures staged { IfOk result (λ found. IsStaged (scenario_with manner scene.now found.0 found.1.0)) }
+    ensures staged { IfOk result
+        (λ found. IsStaged (scenario_with manner scene.now found.0 found.1.0)) }
 {
     let store = load_store(alloc, shelf)?;
     policies_of_scene(alloc, manner, &store, scene)
@@ -152,10 +158,12 @@ fn policies_of_scene(
     requires setup { IsSetup scene.now.setup }
     requires clients { HasClients scene.now }
     requires script { HasScript scene.now }
-    ensures answer { Answers (staged_of manner scene.now) (staged_with manner scene.now (policies_of store.now)) result }
+    ensures answer { Answers (staged_of manner scene.now)
+        (staged_with manner scene.now (policies_of store.now)) result }
     ensures inside { IsInside result }
     ensures directory { IfOk result (λ found. found.1.1 ≡ directory_of found.0.setup) }
-    ensures staged { IfOk result (λ found. IsStaged (scenario_with manner scene.now found.0 found.1.0)) }
+    ensures staged { IfOk result
+        (λ found. IsStaged (scenario_with manner scene.now found.0 found.1.0)) }
 {
     let prepared = prepare(alloc, store, scene)?;
     match approve_scene(alloc, manner.way(), store, &prepared) {
@@ -184,9 +192,12 @@ fn approve_scene(
         ≡ approved_documents (policies_of store.now) (Some prepared.now.sight)) }
     ensures bounded { IfOk result (λ found. All HasApprovedBounds found.0) }
     ensures directory { IfOk result (λ found. found.1 ≡ directory_of prepared.now.setup) }
-    ensures entities { IfOk result (λ found. All (λ entity. IsWalkable found.0 entity.document.closed) prepared.now.entities) }
-    ensures begun { IfOk result (λ found. All (λ document. IsWalkable found.0 document.closed) prepared.now.begun) }
-    ensures few { way ≡ Blind → IfOk result (λ found. All (HasFewPaths found.0) prepared.now.begun) }
+    ensures entities { IfOk result
+        (λ found. All (λ entity. IsWalkable found.0 entity.document.closed) prepared.now.entities) }
+    ensures begun { IfOk result
+        (λ found. All (λ document. IsWalkable found.0 document.closed) prepared.now.begun) }
+    ensures few { way ≡ Blind
+        → IfOk result (λ found. All (HasFewPaths found.0) prepared.now.begun) }
 {
     let approvals = store.approvals(alloc, Some(&prepared.sight))?;
     let directory = check_scene(alloc, way, prepared, &approvals)?;
@@ -205,12 +216,18 @@ fn check_scene(
     requires entities { All IsReadyEntity prepared.now.entities }
     requires begun { All IsReadyDocument prepared.now.begun }
     requires approvals { All IsFilledApproval approvals.now }
-    ensures answer { Answers (λ _. tt) (limited_step way (erased_prepared prepared.now) (map erased_document approvals.now)) result }
+    ensures answer { Answers (λ _. tt)
+        (limited_step way (erased_prepared prepared.now) (map erased_document approvals.now))
+        result }
     ensures inside { IsInside result }
     ensures directory { IfOk result (λ directory. directory ≡ directory_of prepared.now.setup) }
-    ensures entities { IfOk result (λ _. All (λ entity. IsWalkable approvals.now entity.document.closed) prepared.now.entities) }
-    ensures begun { IfOk result (λ _. All (λ document. IsWalkable approvals.now document.closed) prepared.now.begun) }
-    ensures few { way ≡ Blind → IfOk result (λ _. All (HasFewPaths approvals.now) prepared.now.begun) }
+    ensures entities { IfOk result
+        (λ _. All (λ entity. IsWalkable approvals.now entity.document.closed)
+        prepared.now.entities) }
+    ensures begun { IfOk result
+        (λ _. All (λ document. IsWalkable approvals.now document.closed) prepared.now.begun) }
+    ensures few { way ≡ Blind
+        → IfOk result (λ _. All (HasFewPaths approvals.now) prepared.now.begun) }
 {
     check_entities(alloc, prepared.entities.as_slice(), approvals)?;
     check_begun(alloc, way, prepared.begun.as_slice(), approvals)?;
@@ -225,9 +242,12 @@ fn check_begun(
     approvals: &Approvals,
 ) -> Result<(), Halt>
     ensures answer { Answers (λ _. tt)
-        (begun_limits way (map erased_document approvals.now) (map erased_filled begun.now)) result }
+        (begun_limits way (map erased_document approvals.now) (map erased_filled begun.now))
+        result }
     ensures inside { IsInside result }
-    ensures within { IfOk result (λ _. All (λ document. AreWithinLimits (paths_of document.closed approvals.now)) begun.now) }
+    ensures within { IfOk result
+        (λ _. All (λ document. AreWithinLimits (paths_of document.closed approvals.now))
+        begun.now) }
     ensures few { way ≡ Blind → IfOk result (λ _. All (HasFewPaths approvals.now) begun.now) }
 {
     match way {
@@ -246,9 +266,11 @@ fn check_entities(
     requires policies { All IsReadyEntity entities.now }
     requires approvals { All IsFilledApproval approvals.now }
     ensures answer { Answers (λ _. tt)
-        (limits_step (map erased_document approvals.now) (map entity_document (map erased_entity entities.now))) result }
+        (limits_step (map erased_document approvals.now)
+        (map entity_document (map erased_entity entities.now))) result }
     ensures inside { IsInside result }
-    ensures within { IfOk result (λ _. All (λ entity. IsWalkable approvals.now entity.document.closed) entities.now) }
+    ensures within { IfOk result
+        (λ _. All (λ entity. IsWalkable approvals.now entity.document.closed) entities.now) }
 {
     for entity in entities {
         let document = &entity.document;

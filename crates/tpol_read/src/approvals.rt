@@ -71,7 +71,8 @@ fn approvals(
     list: &PlaceRef<'_>,
     walk: &mut Walk,
 ) -> Result<ApprovalWishes, ElementFault>
-    ensures { Leaves result walk.new (approvals_from [] 0 (items_view items.now) list.now walk.old) }
+    ensures { Leaves result walk.new
+        (approvals_from [] 0 (items_view items.now) list.now walk.old) }
 {
     let mut approvals = ApprovalWishes::new(alloc);
     for (index, item) in items.iter().enumerate() {

@@ -34,7 +34,8 @@ pub const MAX_ELEMENTS: u32 = 1024;
 /// list of PCR values stands in strictly rising order of the PCRs, whatever the order in which the document has
 /// them.
 pub fn read_policy(alloc: Global, bytes: &[u8]) -> Result<(Policy, Notes), PolicyFault>
-    ensures stands { IfOk result (λ found. ReadsAsPolicy bytes.now (erased_policy found.0) found.1) }
+    ensures stands { IfOk result
+        (λ found. ReadsAsPolicy bytes.now (erased_policy found.0) found.1) }
     ensures branches { IfOk result (λ found. HasBranchCounts found.0.elements) }
     ensures bounded { IfOk result (λ found. HasBounds found.0) }
     ensures rising { IfOk result (λ found. HasRisingPcrs found.0.elements) }
@@ -64,7 +65,8 @@ fn document(
     place: &PlaceRef<'_>,
     walk: &mut Walk,
 ) -> Result<Policy, ElementFault>
-    ensures { LeavesAs erased_policy result walk.new (document_in (view value.now) place.now walk.old) }
+    ensures { LeavesAs erased_policy result walk.new
+        (document_in (view value.now) place.now walk.old) }
 {
     check_object(alloc, value, place)?;
     let description = description(alloc, value, place)?;

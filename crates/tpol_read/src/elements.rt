@@ -36,7 +36,8 @@ pub fn policy(
     levels: u32,
     walk: &mut Walk,
 ) -> Result<Elements, ElementFault>
-    ensures { LeavesAs erased_elements result walk.new (policy_member (element_at levels) (view value.now) place.now walk.old) }
+    ensures { LeavesAs erased_elements result walk.new
+        (policy_member (element_at levels) (view value.now) place.now walk.old) }
 {
     let (list, place) = needed(alloc, &*value, "policy", &*place)?;
     element_list(alloc, list, &place, levels, walk)
@@ -52,7 +53,8 @@ fn element_list(
     levels: u32,
     walk: &mut Walk,
 ) -> Result<Elements, ElementFault>
-    ensures { LeavesAs erased_elements result walk.new (elements_in (element_at levels) (view value.now) place.now walk.old) }
+    ensures { LeavesAs erased_elements result walk.new
+        (elements_in (element_at levels) (view value.now) place.now walk.old) }
 {
     match value {
         Value::Array(items) => {
@@ -77,7 +79,8 @@ fn elements(
     levels: u32,
     walk: &mut Walk,
 ) -> Result<Elements, ElementFault>
-    ensures { LeavesAs erased_elements result walk.new (elements_from (element_at levels) index (items_view items.now) list.now walk.old) }
+    ensures { LeavesAs erased_elements result walk.new
+        (elements_from (element_at levels) index (items_view items.now) list.now walk.old) }
 {
     match items.split_first() {
         None => Ok(Elements::End),
@@ -103,7 +106,8 @@ fn counted(
     levels: u32,
     walk: &mut Walk,
 ) -> Result<Element, ElementFault>
-    ensures { LeavesAs erased_element result walk.new (counted (element_at levels) (view value.now) place.now walk.old) }
+    ensures { LeavesAs erased_element result walk.new
+        (counted (element_at levels) (view value.now) place.now walk.old) }
 {
     if walk.left == 0 {
         return refuse(alloc, PolicyKind::TooMany, place);
@@ -121,7 +125,8 @@ fn element(
     levels: u32,
     walk: &mut Walk,
 ) -> Result<Element, ElementFault>
-    ensures { LeavesAs erased_element result walk.new (element_at levels (view value.now) place.now walk.old) }
+    ensures { LeavesAs erased_element result walk.new
+        (element_at levels (view value.now) place.now walk.old) }
 {
     match type_of_element(alloc, value, place)? {
         ElementType::Or => {
@@ -147,7 +152,8 @@ fn leaf_element(
     place: &PlaceRef<'_>,
     walk: &mut Walk,
 ) -> Result<Element, ElementFault>
-    ensures { LeavesAs erased_element result walk.new (leaf_element leaf (view value.now) place.now walk.old) }
+    ensures { LeavesAs erased_element result walk.new
+        (leaf_element leaf (view value.now) place.now walk.old) }
 {
     let element = leaf_row(alloc, leaf, value, place, walk)?;
     note_leaf(alloc, leaf, value, place, walk)?;
@@ -164,7 +170,8 @@ fn or(
     levels: u32,
     walk: &mut Walk,
 ) -> Result<Branches, ElementFault>
-    ensures { LeavesAs erased_branches result walk.new (or_at levels (view value.now) place.now walk.old) }
+    ensures { LeavesAs erased_branches result walk.new
+        (or_at levels (view value.now) place.now walk.old) }
 {
     if levels == 0 {
         return refuse(alloc, PolicyKind::TooDeep, place);
@@ -183,7 +190,8 @@ fn branch_list(
     levels: u32,
     walk: &mut Walk,
 ) -> Result<Branches, ElementFault>
-    ensures { LeavesAs erased_branches result walk.new (branches_in (element_at levels) (view value.now) place.now walk.old) }
+    ensures { LeavesAs erased_branches result walk.new
+        (branches_in (element_at levels) (view value.now) place.now walk.old) }
 {
     match value {
         Value::Array(items) => {
@@ -215,7 +223,8 @@ fn branches(
     levels: u32,
     walk: &mut Walk,
 ) -> Result<Branches, ElementFault>
-    ensures { LeavesAs erased_branches result walk.new (branches_from (element_at levels) index (items_view items.now) list.now walk.old) }
+    ensures { LeavesAs erased_branches result walk.new
+        (branches_from (element_at levels) index (items_view items.now) list.now walk.old) }
 {
     match items.split_first() {
         None => Ok(Branches::End),
@@ -240,7 +249,8 @@ fn branch(
     levels: u32,
     walk: &mut Walk,
 ) -> Result<Branch, ElementFault>
-    ensures { LeavesAs erased_branch result walk.new (branch_in (element_at levels) (view value.now) place.now walk.old) }
+    ensures { LeavesAs erased_branch result walk.new
+        (branch_in (element_at levels) (view value.now) place.now walk.old) }
 {
     check_object(alloc, value, place)?;
     let name = name(alloc, value, place)?;

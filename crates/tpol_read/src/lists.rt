@@ -22,7 +22,8 @@ pub fn element_before(alloc: Global, element: Element, rest: Elements) -> Result
 /// A branch in front of these.
 pub fn branch_before(alloc: Global, branch: Branch, rest: Branches) -> Result<Branches, NoMemory>
     ensures { IfOk result (λ branches. erased_branches branches
-        ≡ MoreBranches' nowhere branch.name branch.description (erased_elements branch.elements) nowhere (erased_branches rest)) }
+        ≡ MoreBranches' nowhere branch.name branch.description
+        (erased_elements branch.elements) nowhere (erased_branches rest)) }
 {
     let branch = Box::new(alloc, branch)?;
     let rest = Box::new(alloc, rest)?;

@@ -21,7 +21,8 @@ pub enum BlindState {
 
 // The state's next command.
 pub fn blind_next(state: &BlindState, alloc: Global) -> Result<Blob, NoMemory>
-    ensures { let driving = blind_driving_of state.now in IfOk result (IsBlindSent (blind_sends driving.plan driving.standing)) }
+    ensures { let driving = blind_driving_of state.now
+        in IfOk result (IsBlindSent (blind_sends driving.plan driving.standing)) }
 {
     match state {
         BlindState::Start(start) => start.next(alloc),
@@ -38,7 +39,9 @@ pub fn blind_take(
     alloc: Global,
     reply: &[u8],
 ) -> Result<BlindNext, (BlindState, NoMemory)>
-    ensures next { let driving = blind_driving_of state in IfOk result (IsBlindNext driving.plan (blind_hears driving.plan driving.standing reply.now)) }
+    ensures next { let driving = blind_driving_of state
+        in IfOk result (IsBlindNext driving.plan
+        (blind_hears driving.plan driving.standing reply.now)) }
     ensures back { IfErr result (λ refused. refused.0 ≡ state) }
 {
     match state {

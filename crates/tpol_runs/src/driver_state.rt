@@ -36,7 +36,8 @@ pub enum Behind {
 impl DriverState {
     // The driver's next command.
     pub fn next(&self, alloc: Global) -> Result<Blob, NoMemory>
-        ensures { IfOk result (λ bytes. option_map spelling (command_of (driver_of self.now)) ≡ Some bytes) }
+        ensures { IfOk result (λ bytes. option_map spelling (command_of (driver_of self.now))
+            ≡ Some bytes) }
     {
         match self {
             DriverState::Sighted(driver) => driver.next(alloc),

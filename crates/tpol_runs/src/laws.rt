@@ -25,20 +25,30 @@ pub fn runs_are_driven()
     ensures drives { (client locality : ℕ) (plan : Plan) (replies : List (ℕ × List ℕ))
         → next_of (after_replies (Some (begun client locality plan)) replies)
         ≡ sent_in (begun client locality plan) (command_in (drive plan (bytes_of replies))) }
-    ensures stands_blind { (client locality : ℕ) (policy : List ℕ) (plan : BlindPlan) (replies : List (ℕ × List ℕ))
+    ensures stands_blind { (client locality : ℕ) (policy : List ℕ) (plan : BlindPlan)
+        (replies : List (ℕ × List ℕ))
         → after_replies (Some (begun_blind client locality policy plan)) replies
-        ≡ underway_at (begun_blind client locality policy plan) (Blind policy (record { plan = plan; standing = blind_stands_after plan (bytes_of replies) })) }
-    ensures drives_blind { (client locality : ℕ) (policy : List ℕ) (plan : BlindPlan) (replies : List (ℕ × List ℕ))
+        ≡ underway_at (begun_blind client locality policy plan)
+        (Blind policy (record {
+          plan = plan;
+          standing = blind_stands_after plan
+              (bytes_of replies);
+        })) }
+    ensures drives_blind { (client locality : ℕ) (policy : List ℕ) (plan : BlindPlan)
+        (replies : List (ℕ × List ℕ))
         → next_of (after_replies (Some (begun_blind client locality policy plan)) replies)
-        ≡ sent_in (begun_blind client locality policy plan) (blind_command_in (blind_drive plan (bytes_of replies))) }
+        ≡ sent_in (begun_blind client locality policy plan)
+        (blind_command_in (blind_drive plan (bytes_of replies))) }
 {}
 
 /// A run is over after as many replies as it has commands at most, whatever they are; on one path those are two for
 /// each move, the start, the goal and the end, and a blind run that has a path to try has so many for each of these.
 pub fn runs_end()
     ensures on_path { (client locality : ℕ) (plan : Plan) (replies : List (ℕ × List ℕ))
-        → 2 * length plan.path.moves + 3 ≤ length replies → after_replies (Some (begun client locality plan)) replies ≡ None }
-    ensures blind { (client locality : ℕ) (policy : List ℕ) (plan : BlindPlan) (replies : List (ℕ × List ℕ))
+        → 2 * length plan.path.moves + 3 ≤ length replies
+        → after_replies (Some (begun client locality plan)) replies ≡ None }
+    ensures blind { (client locality : ℕ) (policy : List ℕ) (plan : BlindPlan)
+        (replies : List (ℕ × List ℕ))
         → is_some (first_complete plan) ≡ true → most_blind plan ≤ length replies
         → after_replies (Some (begun_blind client locality policy plan)) replies ≡ None }
 {

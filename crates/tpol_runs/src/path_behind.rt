@@ -54,8 +54,14 @@ impl PathDriver {
 // A driver in its next state, with the first of these reset counts.
 fn behind(next: Next, mut counts: Vec<u32>) -> PathBehind
     requires { length (earned_of_next next) ≤ length counts.items }
-    ensures { (plan : PlanOf) (earned : List HeldTicketOf) (standing : Standing) → IsNext plan earned standing next
-        → IsPathBehind (record { plan = plan; standing = standing; earned = with_counts earned counts.items }) result }
+    ensures { (plan : PlanOf) (earned : List HeldTicketOf) (standing : Standing)
+        → IsNext plan earned standing next
+        → IsPathBehind (record {
+          plan = plan;
+          standing = standing;
+          earned = with_counts earned
+              counts.items;
+        }) result }
 {
     counts.truncate(earned_count(&next));
     let state = match next {

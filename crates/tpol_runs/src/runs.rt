@@ -54,7 +54,9 @@ impl Runs {
     ) -> Result<(), NoMemory>
         requires moves { length plan.path.moves ≤ 512 }
         requires locality { locality ≤ 4 }
-        ensures ok { OnOk result (self.new ≡ self.old ++ record { number = number; run = Some (begun client locality plan) } ∷ []) }
+        ensures ok { OnOk result (self.new
+            ≡ self.old ++ record { number = number; run = Some (begun client locality plan) }
+            ∷ []) }
         ensures err { OnErr result (self.new ≡ self.old) }
     {
         let run = Some(Run::new(alloc, client, locality, plan));
@@ -73,7 +75,12 @@ impl Runs {
         start: BlindStart,
     ) -> Result<(), NoMemory>
         requires locality { locality ≤ 4 }
-        ensures ok { OnOk result (self.new ≡ self.old ++ record { number = number; run = Some (begun_blind client locality policy start.plan) } ∷ []) }
+        ensures ok { OnOk result (self.new
+            ≡ self.old ++ record {
+              number = number;
+              run = Some
+                  (begun_blind client locality policy start.plan);
+            } ∷ []) }
         ensures err { OnErr result (self.new ≡ self.old) }
     {
         let run = Some(Run::blind(client, locality, policy, start));
@@ -83,7 +90,8 @@ impl Runs {
 
     /// Begins a run that has no path to go: it is over at once. After `NoMemory` the runs are as before.
     pub fn begin_without_path(&mut self, number: u16) -> Result<(), NoMemory>
-        ensures ok { OnOk result (self.new ≡ self.old ++ record { number = number; run = None } ∷ []) }
+        ensures ok { OnOk result (self.new
+            ≡ self.old ++ record { number = number; run = None } ∷ []) }
         ensures err { OnErr result (self.new ≡ self.old) }
     {
         self.runs.push(Numbered { number, run: None })?;
@@ -111,8 +119,11 @@ impl Runs {
         reset_count: u32,
         reply: &[u8],
     ) -> Result<Option<Ended>, NoMemory>
-        ensures told { IfOk result (λ told. told ≡ end_told (heard_by (run_at self.old number) reset_count reply.now)) }
-        ensures runs { OnOk result (self.new ≡ with_run self.old number (goes_on (heard_by (run_at self.old number) reset_count reply.now))) }
+        ensures told { IfOk result (λ told. told
+            ≡ end_told (heard_by (run_at self.old number) reset_count reply.now)) }
+        ensures runs { OnOk result (self.new
+            ≡ with_run self.old number
+            (goes_on (heard_by (run_at self.old number) reset_count reply.now))) }
         ensures err { OnErr result (self.new ≡ self.old) }
     {
         let Some(place) = self.place_of(number) else {
@@ -139,8 +150,10 @@ impl Runs {
     // Puts another state, or none, in place of that of the run at this place, and hands out what was there.
     fn exchange(&mut self, place: usize, run: Option<Run>) -> Option<Run>
         requires within { place < length self.old }
-        ensures before { (number : ℕ) → position (has_number number) self.old ≡ Some place → result ≡ run_at self.old number }
-        ensures after { (number : ℕ) → position (has_number number) self.old ≡ Some place → self.new ≡ with_run self.old number run }
+        ensures before { (number : ℕ) → position (has_number number) self.old ≡ Some place
+            → result ≡ run_at self.old number }
+        ensures after { (number : ℕ) → position (has_number number) self.old ≡ Some place
+            → self.new ≡ with_run self.old number run }
     {
         replace(&mut self.runs[place].run, run)
     }
@@ -160,7 +173,8 @@ fn hand(
     reset_count: u32,
     reply: &[u8],
 ) -> (Option<Run>, Result<Option<Ended>, NoMemory>)
-    ensures told { IfOk result.1 (λ told. told ≡ end_told (Some (run_after run reset_count reply.now))) }
+    ensures told { IfOk result.1 (λ told. told
+        ≡ end_told (Some (run_after run reset_count reply.now))) }
     ensures run { OnOk result.1 (result.0 ≡ goes_on (Some (run_after run reset_count reply.now))) }
     ensures back { OnErr result.1 (result.0 ≡ Some run) }
 {

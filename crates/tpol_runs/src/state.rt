@@ -20,7 +20,8 @@ pub enum State {
 
 // The state's next command.
 pub fn next(state: &State, alloc: Global) -> Result<Blob, NoMemory>
-    ensures { let driving = driving_of state.now in IfOk result (IsSent (sends driving.plan driving.standing)) }
+    ensures { let driving = driving_of state.now
+        in IfOk result (IsSent (sends driving.plan driving.standing)) }
 {
     match state {
         State::Planned(planned) => planned.next(alloc),
@@ -32,7 +33,10 @@ pub fn next(state: &State, alloc: Global) -> Result<Blob, NoMemory>
 
 // Goes on with the reply. With `NoMemory` the state comes back unchanged.
 pub fn take(state: State, alloc: Global, reply: &[u8]) -> Result<Next, (State, NoMemory)>
-    ensures next { let driving = driving_of state in IfOk result (IsNext driving.plan (driving.earned ++ earned_by driving.plan driving.standing reply.now) (hears driving.plan driving.standing reply.now)) }
+    ensures next { let driving = driving_of state
+        in IfOk result (IsNext driving.plan (driving.earned
+        ++ earned_by driving.plan driving.standing reply.now)
+        (hears driving.plan driving.standing reply.now)) }
     ensures back { IfErr result (λ refused. refused.0 ≡ state) }
 {
     match state {

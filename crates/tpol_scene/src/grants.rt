@@ -36,7 +36,8 @@ pub fn optional_grants(
     name: &str,
     place: &PlaceRef<'_>,
 ) -> Result<Secrets, PartFault>
-    ensures { Gives result (optional (grants_in entities.now kind) [] name.now (view item.now) place.now) }
+    ensures { Gives result (optional (grants_in entities.now kind) [] name.now
+        (view item.now) place.now) }
 {
     let reader = GrantReader { entities, kind };
     optional_list(alloc, &reader, Sequence::new(alloc), item, name, place)

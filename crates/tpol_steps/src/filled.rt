@@ -35,7 +35,8 @@ pub fn fill_document(
     sight: Option<&Sight>,
 ) -> Result<Closed, Halt>
     ensures answer { Answers erased
-        (filled_step (option_copied document.entry) (erased_policy policy.now) (option_copied sight.entry)) result }
+        (filled_step (option_copied document.entry) (erased_policy policy.now)
+        (option_copied sight.entry)) result }
     ensures inside { IsInside result }
     ensures form { written.HasBranchCounts policy.now.elements → IfOk result IsFilledPolicy }
     ensures bounded { HasBounds policy.now → IfOk result HasClosedBounds }

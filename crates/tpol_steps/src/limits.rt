@@ -31,7 +31,8 @@ pub fn check_limits(
     approvals: &Approvals,
 ) -> Result<(), Halt>
     ensures answer { Answers (λ _. tt)
-        (limit_step (option_copied document.entry) (erased closed.now) (map erased_document approvals.now)) result }
+        (limit_step (option_copied document.entry) (erased closed.now)
+        (map erased_document approvals.now)) result }
     ensures inside { IsInside result }
     ensures within { IfOk result (λ _. AreWithinLimits (paths_of closed.now approvals.now)) }
 {
@@ -57,7 +58,9 @@ pub fn check_documents(
     ensures answer { Answers (λ _. tt)
         (limits_step (map erased_document approvals.now) (map erased_filled documents.now)) result }
     ensures inside { IsInside result }
-    ensures within { IfOk result (λ _. All (λ document. AreWithinLimits (paths_of document.closed approvals.now)) documents.now) }
+    ensures within { IfOk result
+        (λ _. All (λ document. AreWithinLimits (paths_of document.closed approvals.now))
+        documents.now) }
 {
     for document in documents {
         check_limits(alloc, Some(&document.name), &document.closed, approvals)?;
@@ -76,10 +79,15 @@ pub fn check_tried(
     approvals: &Approvals,
 ) -> Result<(), Halt>
     ensures answer { Answers (λ _. tt)
-        (tried_limits_step (map erased_document approvals.now) (map erased_filled documents.now)) result }
+        (tried_limits_step (map erased_document approvals.now) (map erased_filled documents.now))
+        result }
     ensures inside { IsInside result }
-    ensures within { IfOk result (λ _. All (λ document. AreWithinLimits (paths_of document.closed approvals.now)) documents.now) }
-    ensures few { IfOk result (λ _. All (λ document. length (paths_of document.closed approvals.now) ≤ 64) documents.now) }
+    ensures within { IfOk result
+        (λ _. All (λ document. AreWithinLimits (paths_of document.closed approvals.now))
+        documents.now) }
+    ensures few { IfOk result
+        (λ _. All (λ document. length (paths_of document.closed approvals.now)
+        ≤ 64) documents.now) }
 {
     for document in documents {
         check_tried_document(alloc, document, approvals)?;
@@ -95,9 +103,11 @@ fn check_tried_document(
     approvals: &Approvals,
 ) -> Result<(), Halt>
     ensures answer { Answers (λ _. tt)
-        (tried_limit_step (Some document.now.name) (erased document.now.closed) (map erased_document approvals.now)) result }
+        (tried_limit_step (Some document.now.name) (erased document.now.closed)
+        (map erased_document approvals.now)) result }
     ensures inside { IsInside result }
-    ensures within { IfOk result (λ _. AreWithinLimits (paths_of document.now.closed approvals.now)) }
+    ensures within { IfOk result
+        (λ _. AreWithinLimits (paths_of document.now.closed approvals.now)) }
     ensures few { IfOk result (λ _. length (paths_of document.now.closed approvals.now) ≤ 64) }
 {
     check_few(alloc, document, approvals)?;
@@ -107,7 +117,8 @@ fn check_tried_document(
 // Ends the run where a document has more paths than a blind run tries.
 fn check_few(alloc: Global, document: &FilledDocument, approvals: &Approvals) -> Result<(), Halt>
     ensures answer { Answers (λ _. tt)
-        (few_to_try (Some document.now.name) (paths_of (erased document.now.closed) (map erased_document approvals.now))) result }
+        (few_to_try (Some document.now.name)
+        (paths_of (erased document.now.closed) (map erased_document approvals.now))) result }
     ensures inside { IsInside result }
     ensures few { IfOk result (λ _. length (paths_of document.now.closed approvals.now) ≤ 64) }
 {

@@ -15,7 +15,8 @@ use tpol_tree::Policy;
 /// `Refused` tells the document's first fault; `NoMemory` comes where memory ran out, and nothing else comes.
 #[tactic(auto, unfolding(crate::specs::ReadStep::read_step))]
 pub fn read_document(alloc: Global, input: &[u8]) -> Result<(Policy, Notes), Halt>
-    ensures answer { Answers (λ found. (erased_policy found.0, found.1)) (read_step input.now) result }
+    ensures answer { Answers (λ found. (erased_policy found.0, found.1))
+        (read_step input.now) result }
     ensures inside { IsInside result }
     ensures branches { IfOk result (λ found. written.HasBranchCounts found.0.elements) }
 {

@@ -18,7 +18,8 @@ pub fn bad_policy(
     document: Option<&Text>,
     place: &Place,
 ) -> Result<Answer, NoMemory>
-    ensures { IfOk result (λ answer. answer ≡ bad_policy kind.now (option_copied document.entry) place.now) }
+    ensures { IfOk result (λ answer. answer
+        ≡ bad_policy kind.now (option_copied document.entry) place.now) }
 {
     let mut kind = Text::from_str(alloc, kind)?;
     push_document(&mut kind, document)?;

@@ -18,9 +18,11 @@ use tpol_scene::{Scene, SceneFault, read_scene};
 /// that fault; `ShelfFailed` comes only where the shelf failed, and `NoMemory` where memory ran out.
 #[tactic(auto, unfolding(crate::specs::SceneStep::scene_step))]
 pub fn scene_of_shelf<H: Shelf>(alloc: Global, name: &Text, shelf: &mut H) -> Result<Scene, Halt>
-    ensures answer { IfSome (H.documents shelf.old) (λ all. Answers (λ scene. scene) (scene_step name.now all) result) }
+    ensures answer { IfSome (H.documents shelf.old)
+        (λ all. Answers (λ scene. scene) (scene_step name.now all) result) }
     ensures keeps { H.documents shelf.new ≡ H.documents shelf.old }
-    ensures asks { AsksShelf true ⊤ shelf.old shelf.new (H.faults shelf.old) (H.faults shelf.new) result }
+    ensures asks { AsksShelf true ⊤ shelf.old shelf.new (H.faults shelf.old)
+        (H.faults shelf.new) result }
 {
     let file = scene_file(alloc, name)?;
     let found = shelf.fetch(file.as_str())?;
@@ -38,9 +40,11 @@ pub fn named_scene<H: Shelf>(
     name: &Option<Text>,
     shelf: &mut H,
 ) -> Result<Option<Scene>, Halt>
-    ensures answer { IfSome (H.documents shelf.old) (λ all. Answers (λ scene. scene) (named_scene_step name.now all) result) }
+    ensures answer { IfSome (H.documents shelf.old)
+        (λ all. Answers (λ scene. scene) (named_scene_step name.now all) result) }
     ensures keeps { H.documents shelf.new ≡ H.documents shelf.old }
-    ensures asks { AsksShelf (is_some name.now) ⊤ shelf.old shelf.new (H.faults shelf.old) (H.faults shelf.new) result }
+    ensures asks { AsksShelf (is_some name.now) ⊤ shelf.old shelf.new (H.faults shelf.old)
+        (H.faults shelf.new) result }
 {
     match name {
         None => Ok(None),

@@ -17,10 +17,12 @@ use tpol_store::{Store, StoreFault};
 /// `ShelfFailed` comes only where the shelf failed, and `NoMemory` where memory ran out.
 #[tactic(auto, unfolding(crate::specs::StoreStep::store_step))]
 pub fn load_store<H: Shelf>(alloc: Global, shelf: &mut H) -> Result<Store, Halt>
-    ensures answer { IfSome (H.documents shelf.old) (λ all. Answers policies_of (store_step all) result) }
+    ensures answer { IfSome (H.documents shelf.old)
+        (λ all. Answers policies_of (store_step all) result) }
     ensures readable { IfOk result (λ store. All IsReadable (stored store)) }
     ensures keeps { H.documents shelf.new ≡ H.documents shelf.old }
-    ensures asks { AsksShelf true ⊤ shelf.old shelf.new (H.faults shelf.old) (H.faults shelf.new) result }
+    ensures asks { AsksShelf true ⊤ shelf.old shelf.new (H.faults shelf.old)
+        (H.faults shelf.new) result }
 {
     match Store::load(alloc, shelf) {
         Ok(store) => Ok(store),

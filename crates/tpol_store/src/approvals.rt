@@ -23,7 +23,8 @@ impl Store {
     /// approved, nor does an authorization approve whose key or index has no value.
     pub fn approvals(&self, alloc: Global, sight: Option<&Sight>) -> Result<Approvals, NoMemory>
         ensures documents { IfOk result (λ approvals.
-            map erased_document approvals ≡ approved_documents (policies_of self.now) (option_copied sight.entry)) }
+            map erased_document approvals
+            ≡ approved_documents (policies_of self.now) (option_copied sight.entry)) }
         ensures form { All IsReadable (stored self.now) → IfOk result (All IsFilledApproval) }
         ensures bounded { All IsReadable (stored self.now) → IfOk result (All HasApprovedBounds) }
     {
@@ -43,7 +44,9 @@ fn push_approved(
     approvals: &mut Approvals,
 ) -> Result<(), NoMemory>
     ensures documents { OnOk result (map erased_document approvals.new
-        ≡ map erased_document approvals.old ++ approved_in document.now.name (erased_policy document.now.policy) (option_copied sight.entry)) }
+        ≡ map erased_document approvals.old
+        ++ approved_in document.now.name (erased_policy document.now.policy)
+        (option_copied sight.entry)) }
     ensures form { IsReadable document.now → All IsFilledApproval approvals.old
         → OnOk result (All IsFilledApproval approvals.new) }
     ensures bounded { IsReadable document.now → All HasApprovedBounds approvals.old
@@ -79,9 +82,11 @@ fn approved_by(
     sight: Option<&Sight>,
 ) -> Result<Option<ApprovedDoc>, NoMemory>
     ensures documents { IfOk result (λ found. map erased_document (option_to_list found)
-        ≡ approved_by document.now.name (erased_policy document.now.policy) (option_copied sight.entry) wish.now) }
+        ≡ approved_by document.now.name (erased_policy document.now.policy)
+        (option_copied sight.entry) wish.now) }
     ensures form { IsReadable document.now → IfOk result (λ found. IfSome found IsFilledApproval) }
-    ensures bounded { IsReadable document.now → IfOk result (λ found. IfSome found HasApprovedBounds) }
+    ensures bounded { IsReadable document.now
+        → IfOk result (λ found. IfSome found HasApprovedBounds) }
 {
     approved_as_it_lies(alloc, document, wish, sight)
 }
@@ -97,7 +102,8 @@ fn approved_as_it_lies(
     ensures documents { IfOk result (λ found. map erased_document (option_to_list found)
         ≡ approved_by document.now.name document.now.policy (option_copied sight.entry) wish.now) }
     ensures form { IsReadable document.now → IfOk result (λ found. IfSome found IsFilledApproval) }
-    ensures bounded { IsReadable document.now → IfOk result (λ found. IfSome found HasApprovedBounds) }
+    ensures bounded { IsReadable document.now
+        → IfOk result (λ found. IfSome found HasApprovedBounds) }
 {
     let Some(by) = approver(wish, sight)? else {
         return Ok(None);

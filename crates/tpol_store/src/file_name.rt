@@ -19,7 +19,8 @@ pub fn file_name(alloc: Global, name: &str) -> Result<Text, NoMemory>
 
 /// The names of policies that are listed, without `.json`, in ascending byte order, each once.
 pub fn document_names(alloc: Global, listed: &[Text]) -> Result<Vec<String>, NoMemory>
-    ensures { IfOk result (λ names. map string_bytes names.items ≡ sorted_names (filter_map policy_name listed.now)) }
+    ensures { IfOk result (λ names. map string_bytes names.items
+        ≡ sorted_names (filter_map policy_name listed.now)) }
 {
     let mut names = policy_names(alloc, listed)?;
     names.sort()?;
@@ -28,7 +29,8 @@ pub fn document_names(alloc: Global, listed: &[Text]) -> Result<Vec<String>, NoM
 }
 
 fn policy_names(alloc: Global, listed: &[Text]) -> Result<Vec<String>, NoMemory>
-    ensures { IfOk result (λ names. map string_bytes names.items ≡ filter_map policy_name listed.now) }
+    ensures { IfOk result (λ names. map string_bytes names.items
+        ≡ filter_map policy_name listed.now) }
 {
     let mut names = Vec::new(alloc);
     for file in listed {

@@ -27,12 +27,15 @@ impl Store {
     /// - `Bad`: the first document that is refused is none of a policy.
     #[tactic(auto, using(crate::proofs::ListedNames::read_is_loaded))]
     pub fn load<H: Shelf>(alloc: Global, shelf: &mut H) -> Result<Store, StoreFault>
-        ensures loaded { IfSome (H.documents shelf.old) (λ all. Loads policies_of (store_of all) result) }
+        ensures loaded { IfSome (H.documents shelf.old)
+            (λ all. Loads policies_of (store_of all) result) }
         ensures readable { IfOk result (λ store. All IsReadable (stored store)) }
         ensures keeps { H.documents shelf.new ≡ H.documents shelf.old }
         ensures later { H.faults shelf.old ≤ H.faults shelf.new }
-        ensures failed { IsErrOf result StoreFault.Failed → Rose (H.faults shelf.old) (H.faults shelf.new) }
-        ensures stays { IsErrOf result StoreFault.Failed ⊎ (H.faults shelf.new ≡ H.faults shelf.old) }
+        ensures failed { IsErrOf result StoreFault.Failed
+            → Rose (H.faults shelf.old) (H.faults shelf.new) }
+        ensures stays { IsErrOf result StoreFault.Failed
+            ⊎ (H.faults shelf.new ≡ H.faults shelf.old) }
     {
         let names = listed_names(alloc, shelf)?;
         let documents = read_documents(alloc, shelf, names.as_slice())?;
@@ -47,7 +50,8 @@ fn listed_names<H: Shelf>(alloc: Global, shelf: &mut H) -> Result<Vec<String>, S
         Loads (λ names. map string_bytes names.items) (names_of_shelf all) result) }
     ensures keeps { H.documents shelf.new ≡ H.documents shelf.old }
     ensures later { H.faults shelf.old ≤ H.faults shelf.new }
-    ensures failed { IsErrOf result StoreFault.Failed → Rose (H.faults shelf.old) (H.faults shelf.new) }
+    ensures failed { IsErrOf result StoreFault.Failed
+        → Rose (H.faults shelf.old) (H.faults shelf.new) }
     ensures stays { IsErrOf result StoreFault.Failed ⊎ (H.faults shelf.new ≡ H.faults shelf.old) }
 {
     match shelf.names() {
@@ -81,7 +85,8 @@ fn read_documents<H: Shelf>(
     ensures readable { IfOk result (All IsReadable) }
     ensures keeps { H.documents shelf.new ≡ H.documents shelf.old }
     ensures later { H.faults shelf.old ≤ H.faults shelf.new }
-    ensures failed { IsErrOf result StoreFault.Failed → Rose (H.faults shelf.old) (H.faults shelf.new) }
+    ensures failed { IsErrOf result StoreFault.Failed
+        → Rose (H.faults shelf.old) (H.faults shelf.new) }
     ensures stays { IsErrOf result StoreFault.Failed ⊎ (H.faults shelf.new ≡ H.faults shelf.old) }
 {
     let mut documents = Sequence::new(alloc);
@@ -102,11 +107,13 @@ fn read_document<H: Shelf>(
     name: &str,
 ) -> Result<Option<StoredPolicy>, StoreFault>
     ensures read { IfSome (H.documents shelf.old) (λ all.
-        Loads seen_document (document_in name.now (handed_out (document_of (file_name name.now) all))) result) }
+        Loads seen_document (document_in name.now
+        (handed_out (document_of (file_name name.now) all))) result) }
     ensures readable { IfOk result (λ found. IfSome found IsReadable) }
     ensures keeps { H.documents shelf.new ≡ H.documents shelf.old }
     ensures later { H.faults shelf.old ≤ H.faults shelf.new }
-    ensures failed { IsErrOf result StoreFault.Failed → Rose (H.faults shelf.old) (H.faults shelf.new) }
+    ensures failed { IsErrOf result StoreFault.Failed
+        → Rose (H.faults shelf.old) (H.faults shelf.new) }
     ensures stays { IsErrOf result StoreFault.Failed ⊎ (H.faults shelf.new ≡ H.faults shelf.old) }
 {
     let file = file_name(alloc, name)?;
@@ -120,7 +127,8 @@ fn read_document<H: Shelf>(
 
 // The document of this name that the shelf hands out.
 fn read_bytes(alloc: Global, name: &str, bytes: &Blob) -> Result<StoredPolicy, StoreFault>
-    ensures read { Loads (λ document. seen_document (Some document)) (document_in name.now (Some bytes.now)) result }
+    ensures read { Loads (λ document. seen_document (Some document))
+        (document_in name.now (Some bytes.now)) result }
     ensures readable { IfOk result IsReadable }
     ensures shelf { IsErrOf result StoreFault.Failed → ⊥ }
 {
@@ -133,7 +141,8 @@ fn read_bytes(alloc: Global, name: &str, bytes: &Blob) -> Result<StoredPolicy, S
 
 #[tactic(auto, unfolding(crate::specs::Loading::policy_in))]
 fn policy_document(alloc: Global, name: Text, bytes: &[u8]) -> Result<StoredPolicy, StoreFault>
-    ensures read { Loads (λ document. seen_document (Some document)) (policy_in name bytes.now) result }
+    ensures read { Loads (λ document. seen_document (Some document))
+        (policy_in name bytes.now) result }
     ensures readable { IfOk result IsReadable }
     ensures shelf { IsErrOf result StoreFault.Failed → ⊥ }
 {

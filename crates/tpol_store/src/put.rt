@@ -22,7 +22,8 @@ pub fn put_policy<H: Shelf>(
     policy: &Policy,
 ) -> Result<(), Lapse>
     ensures put { OnOk result (H.documents shelf.new
-        ≡ option_map (put_document (file_name name.now) (canonical_text policy.now)) (H.documents shelf.old)) }
+        ≡ option_map (put_document (file_name name.now) (canonical_text policy.now))
+        (H.documents shelf.old)) }
     ensures keeps { OnErr result (H.documents shelf.new ≡ H.documents shelf.old) }
     ensures cause { HasLapse (H.faults shelf.old) (H.faults shelf.new) result }
     ensures quiet { IsQuiet (H.faults shelf.old) (H.faults shelf.new) result }

@@ -28,7 +28,8 @@ pub fn canon(alloc: Global, input: &[u8]) -> Result<Answer, Halt>
 
 #[tactic(auto, using(tpol_write::proofs::CanonErased::canonical_text_erased))]
 fn canonical(alloc: Global, policy: &Policy) -> Result<Answer, NoMemory>
-    ensures { IfOk result (λ answer. answer ≡ one_line (canonical_text (erased_policy policy.now)) Verdict.Done) }
+    ensures { IfOk result (λ answer. answer
+        ≡ one_line (canonical_text (erased_policy policy.now)) Verdict.Done) }
 {
     let mut lines = Lines::new(alloc);
     push_bytes(&mut lines, write_policy(alloc, policy)?)?;

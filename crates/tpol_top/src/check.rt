@@ -47,7 +47,8 @@ pub fn check_source<H: Shelf>(
     ensures answer { IfSome (H.documents shelf.old) (λ all.
         Answers (λ answer. answer) (check_step name.now scene.now input.now all) result) }
     ensures keeps { H.documents shelf.new ≡ H.documents shelf.old }
-    ensures asks { AsksShelf true ⊤ shelf.old shelf.new (H.faults shelf.old) (H.faults shelf.new) result }
+    ensures asks { AsksShelf true ⊤ shelf.old shelf.new (H.faults shelf.old)
+        (H.faults shelf.new) result }
 {
     let scene = named_scene(alloc, scene, shelf)?;
     let store = load_store(alloc, shelf)?;
@@ -146,7 +147,8 @@ fn check_bytes(
 ) -> Result<Answer, Halt>
     requires within { AreWithinLimits (paths_of closed.now approvals.now) }
     ensures answer { Answers (λ answer. answer)
-        (certificate_answer closed.now approvals.now (judgement_of closed.now approvals.now bytes.now)) result }
+        (certificate_answer closed.now approvals.now
+        (judgement_of closed.now approvals.now bytes.now)) result }
     ensures inside { IsInside result }
 {
     match check(alloc, closed, approvals, bytes) {
@@ -168,7 +170,8 @@ fn accept(
     requires within { AreWithinLimits (paths_of closed.now approvals.now) }
     requires positions { (1 ≤ position) × (position ≤ length (paths_of closed.now approvals.now)) }
     ensures { IfOk result (λ answer. answer
-        ≡ accepted closed.now position (steps_of (slice_get (paths_of closed.now approvals.now) (position - 1)))) }
+        ≡ accepted closed.now position
+        (steps_of (slice_get (paths_of closed.now approvals.now) (position - 1)))) }
 {
     let path = path_at(alloc, closed, approvals, position)?;
     let line = certified_line(alloc, position, path.steps.as_slice());
@@ -183,7 +186,8 @@ fn accept(
 
 // What is wrong with a step or a digest of this number.
 fn refuse(alloc: Global, word: &str, number: u32) -> Result<Answer, NoMemory>
-    ensures { IfOk result (λ answer. answer ≡ refusals.bad_certificate (spaced (word.now ∷ decimal number ∷ []))) }
+    ensures { IfOk result (λ answer. answer
+        ≡ refusals.bad_certificate (spaced (word.now ∷ decimal number ∷ []))) }
 {
     let fault = format!(in alloc; "{word} {number}")?;
     bad_certificate(alloc, fault.as_str())

@@ -37,7 +37,8 @@ pub fn compile<H: Shelf>(
     ensures answer { IfSome (H.documents shelf.old) (λ all.
         Answers (λ answer. answer) (compile_step scene.now input.now all) result) }
     ensures keeps { H.documents shelf.new ≡ H.documents shelf.old }
-    ensures asks { AsksShelf (is_some scene.now) (IsOk (read_step input.now)) shelf.old shelf.new (H.faults shelf.old) (H.faults shelf.new) result }
+    ensures asks { AsksShelf (is_some scene.now) (IsOk (read_step input.now)) shelf.old shelf.new
+        (H.faults shelf.old) (H.faults shelf.new) result }
 {
     let (policy, notes) = read_document(alloc, input)?;
     compile_read(alloc, scene, &policy, notes.as_slice(), shelf)
@@ -53,9 +54,11 @@ fn compile_read<H: Shelf>(
     shelf: &mut H,
 ) -> Result<Answer, Halt>
     ensures answer { IfSome (H.documents shelf.old) (λ all.
-        Answers (λ answer. answer) (compiled_with scene.now (erased_policy policy.now) notes.now all) result) }
+        Answers (λ answer. answer)
+        (compiled_with scene.now (erased_policy policy.now) notes.now all) result) }
     ensures keeps { H.documents shelf.new ≡ H.documents shelf.old }
-    ensures asks { AsksShelf (is_some scene.now) ⊤ shelf.old shelf.new (H.faults shelf.old) (H.faults shelf.new) result }
+    ensures asks { AsksShelf (is_some scene.now) ⊤ shelf.old shelf.new (H.faults shelf.old)
+        (H.faults shelf.new) result }
 {
     let sight = sight_of_scene(alloc, scene, shelf)?;
     compile_policy(alloc, sight.as_ref(), policy, notes)
@@ -93,7 +96,8 @@ fn compiled(alloc: Global, notes: &[Place], closed: &Closed) -> Result<Answer, N
 }
 
 fn push_notes(alloc: Global, lines: &mut Lines, notes: &[Place]) -> Result<(), NoMemory>
-    ensures { OnOk result (lines.new ≡ lines.old ++ map (λ place. line_of (note_line place)) notes.now) }
+    ensures { OnOk result (lines.new
+        ≡ lines.old ++ map (λ place. line_of (note_line place)) notes.now) }
 {
     for place in notes {
         let note = note_line(alloc, place)?;

@@ -27,7 +27,8 @@ pub fn import<H: Shelf>(
     ensures puts { IfOk result (λ _. IfSome (H.documents shelf.old) (λ all.
         H.documents shelf.new ≡ Some (documents_after_import name.now input.now all))) }
     ensures keeps { OnErr result (H.documents shelf.new ≡ H.documents shelf.old) }
-    ensures asks { AsksShelf true (IsOk (read_step input.now)) shelf.old shelf.new (H.faults shelf.old) (H.faults shelf.new) result }
+    ensures asks { AsksShelf true (IsOk (read_step input.now)) shelf.old shelf.new
+        (H.faults shelf.old) (H.faults shelf.new) result }
 {
     let (policy, _notes) = read_document(alloc, input)?;
     let answer = imported(alloc, name)?;

@@ -53,7 +53,8 @@ pub fn list_paths<H: Shelf>(
     ensures answer { IfSome (H.documents shelf.old) (λ all.
         Answers (λ answer. answer) (paths_step view scene.now input.now all) result) }
     ensures keeps { H.documents shelf.new ≡ H.documents shelf.old }
-    ensures asks { AsksShelf true (IsOk (read_step input.now)) shelf.old shelf.new (H.faults shelf.old) (H.faults shelf.new) result }
+    ensures asks { AsksShelf true (IsOk (read_step input.now)) shelf.old shelf.new
+        (H.faults shelf.old) (H.faults shelf.new) result }
 {
     let (policy, _notes) = read_document(alloc, input)?;
     list_read(alloc, view, scene, &policy, shelf)
@@ -69,9 +70,11 @@ fn list_read<H: Shelf>(
     shelf: &mut H,
 ) -> Result<Answer, Halt>
     ensures answer { IfSome (H.documents shelf.old) (λ all.
-        Answers (λ answer. answer) (listed_with view scene.now (erased_policy policy.now) all) result) }
+        Answers (λ answer. answer)
+        (listed_with view scene.now (erased_policy policy.now) all) result) }
     ensures keeps { H.documents shelf.new ≡ H.documents shelf.old }
-    ensures asks { AsksShelf true ⊤ shelf.old shelf.new (H.faults shelf.old) (H.faults shelf.new) result }
+    ensures asks { AsksShelf true ⊤ shelf.old shelf.new (H.faults shelf.old)
+        (H.faults shelf.new) result }
 {
     let scene = named_scene(alloc, scene, shelf)?;
     let store = load_store(alloc, shelf)?;
@@ -120,7 +123,8 @@ fn list(
 #[tactic(auto, using(crate::proofs::PathAnswers::path_answer_erased))]
 fn path_answer(alloc: Global, closed: &Closed, approvals: &Approvals) -> Result<Answer, NoMemory>
     ensures { IfOk result (λ answer. answer
-        ≡ path_answer (erased closed.now) (paths_of (erased closed.now) (map erased_document approvals.now))) }
+        ≡ path_answer (erased closed.now)
+        (paths_of (erased closed.now) (map erased_document approvals.now))) }
 {
     let mut lines = write_paths(alloc, closed, approvals)?;
     let digest = digest_line(alloc, &digest_of(closed))?;
@@ -156,7 +160,8 @@ fn push_dead_lines(
 ) -> Result<(), NoMemory>
     requires within { AreWithinLimits (paths_of closed.now approvals.now) }
     requires dead { All (IsDead (paths_of closed.now approvals.now)) dead.now }
-    ensures { OnOk result (lines.new ≡ lines.old ++ dead_lines (paths_of closed.now approvals.now) dead.now) }
+    ensures { OnOk result (lines.new
+        ≡ lines.old ++ dead_lines (paths_of closed.now approvals.now) dead.now) }
 {
     for one in dead {
         push_dead_line(alloc, lines, closed, approvals, one)?;
@@ -175,7 +180,8 @@ fn push_dead_line(
 ) -> Result<(), NoMemory>
     requires within { AreWithinLimits (paths_of closed.now approvals.now) }
     requires dead { IsDead (paths_of closed.now approvals.now) dead.now }
-    ensures { OnOk result (lines.new ≡ lines.old ++ dead_lines (paths_of closed.now approvals.now) (dead.now ∷ [])) }
+    ensures { OnOk result (lines.new
+        ≡ lines.old ++ dead_lines (paths_of closed.now approvals.now) (dead.now ∷ [])) }
 {
     let path = path_at(alloc, closed, approvals, dead.path)?;
     let line = dead_line(alloc, dead, path.steps.as_slice());

@@ -209,7 +209,8 @@ fn four_word_request(
     option: &str,
     scene: &str,
 ) -> Result<Option<Request>, NoMemory>
-    ensures { IfOk result (λ request. request ≡ four_word_request word.now name.now option.now scene.now) }
+    ensures { IfOk result (λ request. request
+        ≡ four_word_request word.now name.now option.now scene.now) }
 {
     if word == "check" && option == "--scene" {
         return check_request(alloc, name, scene);
@@ -219,7 +220,8 @@ fn four_word_request(
 
 // The command `check` with a scene.
 fn check_request(alloc: Global, name: &str, scene: &str) -> Result<Option<Request>, NoMemory>
-    ensures { IfOk result (λ request. request ≡ check_request (policy_stem name.now) (policy_stem scene.now)) }
+    ensures { IfOk result (λ request. request
+        ≡ check_request (policy_stem name.now) (policy_stem scene.now)) }
 {
     let Some(name) = policy_stem(alloc, name)? else {
         return Ok(None);

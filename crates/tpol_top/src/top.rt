@@ -33,14 +33,16 @@ pub fn policy_main<S: Source, K: Sink, H: Shelf>(
     // What is printed, answered and left on the shelf is the report of the words, the source's bytes (up to
     // byte 16,777,217) and the shelf's documents.
     ensures report { IsWhole result
-        → OfReport (map string_bytes words.now.items) (S.left source.old) (H.documents shelf.old) (λ report.
+        → OfReport (map string_bytes words.now.items) (S.left source.old) (H.documents shelf.old)
+        (λ report.
         (result ≡ status_of report.answer.verdict)
         × Grows (K.contents out.old) (K.contents out.new) (text_of report.answer.lines)
         × (H.documents shelf.new ≡ Some report.documents)) }
 
     // Where the sink failed, a first part of the report was written.
     ensures prefix { result ≡ Status.WriteFault
-        → OfReport (map string_bytes words.now.items) (S.left source.old) (H.documents shelf.old) (λ report.
+        → OfReport (map string_bytes words.now.items) (S.left source.old) (H.documents shelf.old)
+        (λ report.
         GrowsInPart (K.contents out.old) (K.contents out.new) (text_of report.answer.lines)
         × (H.documents shelf.new ≡ Some report.documents)) }
 
@@ -50,24 +52,32 @@ pub fn policy_main<S: Source, K: Sink, H: Shelf>(
 
     // A command that reads the source reads it to its end, or to its byte 16,777,217, unless the source failed or
     // memory ran out, and never further.
-    ensures read_whole { IsTrue (reads_source (map string_bytes words.now.items)) → IsPastReading result
+    ensures read_whole { IsTrue (reads_source (map string_bytes words.now.items))
+        → IsPastReading result
         → IfSome (S.left source.old) (λ held. S.left source.new ≡ Some (drop most_read held)) }
     ensures read_at_most { LosesAtMost most_read (S.left source.old) (S.left source.new) }
 
     // Words that are no command leave the source alone, and so does a command that reads nothing; a command that
     // uses no document of the shelf leaves the shelf alone. The shelf is asked only once what was read is the
     // document that the command wants.
-    ensures unread { reads_source (map string_bytes words.now.items) ≡ false → source.new ≡ source.old }
-    ensures untouched { uses_shelf (map string_bytes words.now.items) ≡ false → shelf.new ≡ shelf.old }
+    ensures unread { reads_source (map string_bytes words.now.items) ≡ false
+        → source.new ≡ source.old }
+    ensures untouched { uses_shelf (map string_bytes words.now.items) ≡ false
+        → shelf.new ≡ shelf.old }
     ensures asked { IfSome (S.left source.old) (λ held.
-        (shelf.new ≡ shelf.old) ⊎ IsReadableOf (map string_bytes words.now.items) (take most_read held)) }
+        (shelf.new ≡ shelf.old) ⊎ IsReadableOf (map string_bytes words.now.items)
+        (take most_read held)) }
 
     // Each fault comes only where its object failed in this call, and only of commands that use the object.
-    ensures read_fault { result ≡ Status.ReadFault → Rose (S.faults source.old) (S.faults source.new) }
+    ensures read_fault { result ≡ Status.ReadFault
+        → Rose (S.faults source.old) (S.faults source.new) }
     ensures write_fault { result ≡ Status.WriteFault → Rose (K.faults out.old) (K.faults out.new) }
-    ensures shelf_fault { result ≡ Status.ShelfFault → Rose (H.faults shelf.old) (H.faults shelf.new) }
-    ensures read_fault_of { result ≡ Status.ReadFault → IsTrue (reads_source (map string_bytes words.now.items)) }
-    ensures shelf_fault_of { result ≡ Status.ShelfFault → IsTrue (uses_shelf (map string_bytes words.now.items)) }
+    ensures shelf_fault { result ≡ Status.ShelfFault
+        → Rose (H.faults shelf.old) (H.faults shelf.new) }
+    ensures read_fault_of { result ≡ Status.ReadFault
+        → IsTrue (reads_source (map string_bytes words.now.items)) }
+    ensures shelf_fault_of { result ≡ Status.ShelfFault
+        → IsTrue (uses_shelf (map string_bytes words.now.items)) }
 
     // Each fault is told: a count rises in no call that answers otherwise.
     ensures read_told { (result ≡ Status.ReadFault) ⊎ (S.faults source.new ≡ S.faults source.old) }
@@ -95,9 +105,11 @@ pub fn policy_main<S: Source, K: Sink, H: Shelf>(
     // one of digest zero. Where it names a path, the PCRs have the values that each PolicyPCR of the path asks for, or
     // the two are different strings of one digest; and under `--cert` a line stands behind it with bytes that certify
     // the path.
-    ensures explained { result ≡ Status.Done → IfExplain (request_of (map string_bytes words.now.items)) (λ manner.
+    ensures explained { result ≡ Status.Done
+        → IfExplain (request_of (map string_bytes words.now.items)) (λ manner.
         OfHeld (S.left source.old) (H.documents shelf.old) (λ input all.
-        IsExplainedScene manner input all (report_of (map string_bytes words.now.items) input all).answer.lines)) }
+        IsExplainedScene manner input all
+        (report_of (map string_bytes words.now.items) input all).answer.lines)) }
 
     // The report of a scene that `run` or `explain` carries out tells it, also where the sink failed and a first part of
     // the report was written. Every command of its journal that asks for a policy session was authorized exactly where
@@ -108,7 +120,8 @@ pub fn policy_main<S: Source, K: Sink, H: Shelf>(
     // scene, as the clause above says of what was printed.
     ensures scene_told { IfPerform (request_of (map string_bytes words.now.items)) (λ manner.
         OfHeld (S.left source.old) (H.documents shelf.old) (λ input all.
-        IfDone (report_of (map string_bytes words.now.items) input all).answer (IsToldScene manner input all))) }
+        IfDone (report_of (map string_bytes words.now.items) input all).answer
+        (IsToldScene manner input all))) }
 {
     run_program::<Request, S, K, H>(alloc, words, source, out, shelf)
 }

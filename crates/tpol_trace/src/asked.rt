@@ -32,7 +32,8 @@ impl Asked {
 
     // What is kept of a move that approves nothing.
     pub fn not_approving(update: UpdateBytes) -> Asked
-        ensures asks { (act : OneMove) → update_value update ≡ update_of act → approved_of act ≡ None → Asks result act }
+        ensures asks { (act : OneMove) → update_value update ≡ update_of act
+            → approved_of act ≡ None → Asks result act }
         ensures update { result.update ≡ update }
     {
         Asked {
@@ -43,7 +44,8 @@ impl Asked {
 
     // What is kept of the approval of a digest.
     pub fn approving(update: UpdateBytes, approved: Digest32) -> Asked
-        ensures { (act : OneMove) → update_value update ≡ update_of act → approved_of act ≡ Some approved → Asks result act }
+        ensures { (act : OneMove) → update_value update ≡ update_of act
+            → approved_of act ≡ Some approved → Asks result act }
     {
         Asked {
             update,
@@ -63,14 +65,16 @@ impl Asked {
 
     // Whether the two moves are the same.
     pub fn is_same(&self, other: &Asked) -> bool
-        ensures { (act fact : OneMove) → Asks self.now act → Asks other.now fact → result ≡ is_same_move act fact }
+        ensures { (act fact : OneMove) → Asks self.now act → Asks other.now fact
+            → result ≡ is_same_move act fact }
     {
         self.hashes_the_same(other) && same_digest(&self.approved, &other.approved)
     }
 
     // Whether the two moves hash the same.
     pub fn hashes_the_same(&self, other: &Asked) -> bool
-        ensures { result ≡ same_update (update_value self.now.update) (update_value other.now.update) }
+        ensures { result ≡ same_update (update_value self.now.update)
+            (update_value other.now.update) }
     {
         let (a, b) = (&self.update, &other.update);
         a.fresh == b.fresh

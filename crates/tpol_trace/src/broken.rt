@@ -20,9 +20,11 @@ pub fn broken_opening(
     approvals: &Approvals,
     facts: &Facts,
 ) -> Result<Opening, NoMemory>
-    requires { IsSome (spec.broken_opening (spec.first_clash (spec.inputs policy.now approvals.now facts.now))
+    requires { IsSome (spec.broken_opening
+        (spec.first_clash (spec.inputs policy.now approvals.now facts.now))
         (spec.first_zero (spec.inputs policy.now approvals.now facts.now))) }
-    ensures { IfOk result (λ opening. spec.broken_opening (spec.first_clash (spec.inputs policy.now approvals.now facts.now))
+    ensures { IfOk result (λ opening.
+        spec.broken_opening (spec.first_clash (spec.inputs policy.now approvals.now facts.now))
         (spec.first_zero (spec.inputs policy.now approvals.now facts.now)) ≡ Some opening) }
 {
     let strings = all_inputs(alloc, policy, approvals, facts)?;
@@ -47,7 +49,8 @@ fn all_inputs(
     approvals: &Approvals,
     facts: &Facts,
 ) -> Result<Vec<Blob>, NoMemory>
-    ensures { IfOk result (λ strings. strings.items ≡ spec.inputs policy.now approvals.now facts.now) }
+    ensures { IfOk result (λ strings. strings.items
+        ≡ spec.inputs policy.now approvals.now facts.now) }
 {
     let mut strings = inputs_of(alloc, policy, approvals)?.into_vec();
     let mut of_facts = inputs_of_facts(alloc, facts)?.into_vec();

@@ -18,14 +18,16 @@ ghost use Rattle.tpol_trace.specs.declared.answer.Opening.{Opening};
 /// first digest in its command code and Name; or two different strings of one SHA-256 digest, or one of
 /// digest zero, are among what is hashed for the two.
 pub fn chains_agree()
-    ensures { (one other : List Assertion) (half end : Option Assertion) → EndsTwice half → EndsTwice end
+    ensures { (one other : List Assertion) (half end : Option Assertion) → EndsTwice half
+        → EndsTwice end
         → digest_of_chain one half ≡ digest_of_chain other end → ChainsAgree one half other end }
 {}
 
 /// The law of `facts_open` for a policy without AUTHORIZE and AUTHORIZENV. It asks nothing of the policy
 /// besides, nor of any approved document.
 pub fn facts_open_without_approvals()
-    ensures { (policy : Closed) (approvals : List ApprovedDoc) (facts : List Fact) → HasNoApproval policy
+    ensures { (policy : Closed) (approvals : List ApprovedDoc) (facts : List Fact)
+        → HasNoApproval policy
         → IsSound (moves_of facts) → digest_of_moves (moves_of facts) ≡ policy_digest policy
         → IsSome (opening_of policy approvals facts) }
 {}
@@ -35,9 +37,12 @@ pub fn facts_open_without_approvals()
 /// two different strings of one SHA-256 digest, or a string of digest zero, among what was hashed for the
 /// policy, its approved documents and the session.
 pub fn facts_open()
-    ensures opens { (policy : Closed) (approvals : List ApprovedDoc) (facts : List Fact) → IsWellFormed policy approvals
+    ensures opens { (policy : Closed) (approvals : List ApprovedDoc) (facts : List Fact)
+        → IsWellFormed policy approvals
         → IsSound (moves_of facts) → digest_of_moves (moves_of facts) ≡ policy_digest policy
         → IsSome (opening_of policy approvals facts) }
-    ensures means { (policy : Closed) (approvals : List ApprovedDoc) (facts : List Fact) (opening : Opening)
-        → opening_of policy approvals facts ≡ Some opening → IsOpening policy approvals facts opening }
+    ensures means { (policy : Closed) (approvals : List ApprovedDoc) (facts : List Fact)
+        (opening : Opening)
+        → opening_of policy approvals facts ≡ Some opening
+        → IsOpening policy approvals facts opening }
 {}

@@ -39,8 +39,10 @@ pub fn opening(
     requires well_formed { IsWellFormed policy.now approvals.now }
     requires sound { IsSound (moves_of facts.now) }
     requires digest { digest_of_moves (moves_of facts.now) ≡ policy_digest policy.now }
-    ensures opening { IfOk result (λ opening. spec.opening_of policy.now approvals.now facts.now ≡ Some opening) }
-    ensures means { IfOk result (λ opening. spec.IsOpening policy.now approvals.now facts.now opening) }
+    ensures opening { IfOk result (λ opening. spec.opening_of policy.now approvals.now facts.now
+        ≡ Some opening) }
+    ensures means { IfOk result
+        (λ opening. spec.IsOpening policy.now approvals.now facts.now opening) }
 {
     match first_match(alloc, policy, approvals, facts)? {
         Some(index) => {
@@ -63,8 +65,10 @@ fn first_match(
 ) -> Result<Option<u32>, NoMemory>
     requires within { AreWithinLimits (paths_of policy.now approvals.now) }
     requires lead { ApprovalsLead true policy.now.elements }
-    requires documents { All (λ document. ApprovalsLead true document.closed.elements) approvals.now }
-    ensures index { IfOk result (λ found. found ≡ spec.first_match policy.now approvals.now facts.now) }
+    requires documents { All (λ document. ApprovalsLead true document.closed.elements)
+        approvals.now }
+    ensures index { IfOk result (λ found. found
+        ≡ spec.first_match policy.now approvals.now facts.now) }
     ensures few { IfOk result (λ found. IfSome found (λ index. index < 65536)) }
 {
     let asked = asked_facts(alloc, facts.as_slice())?;

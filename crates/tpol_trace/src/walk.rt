@@ -42,13 +42,17 @@ pub fn ways_of_elements(
     behind: Ways,
 ) -> Result<Ways, NoMemory>
     requires lead { ApprovalsLead true elements.now }
-    requires documents { All (λ document. ApprovalsLead true document.closed.elements) walk.now.approvals.now }
+    requires documents { All (λ document. ApprovalsLead true document.closed.elements)
+        walk.now.approvals.now }
     requires size { length behind.first.items ≡ length walk.now.facts.now + 1 }
     ensures size { IfOk result (λ table. length table.first.items ≡ length walk.now.facts.now + 1) }
-    ensures table { (moves : List OneMove) (ways : List Path) → AllAsk walk.now.facts.now moves → AreInside ways
+    ensures table { (moves : List OneMove) (ways : List Path) → AllAsk walk.now.facts.now moves
+        → AreInside ways
         → IsTable walk.now.approvals.now walk.now.levels moves behind ways
         → IfOk result (λ table. IsTable walk.now.approvals.now walk.now.levels moves table
-        (spec.product (spec.paths_at (spec.document_paths walk.now.approvals.now walk.now.levels) walk.now.approvals.now elements.now before) ways)) }
+        (spec.product (spec.paths_at
+        (spec.document_paths walk.now.approvals.now walk.now.levels) walk.now.approvals.now
+        elements.now before) ways)) }
 {
     match elements {
         ClosedElements::End => Ok(behind),
@@ -70,13 +74,16 @@ fn ways_of_rest(
     behind: Ways,
 ) -> Result<Ways, NoMemory>
     requires lead { ApprovalsLead true rest.now }
-    requires documents { All (λ document. ApprovalsLead true document.closed.elements) walk.now.approvals.now }
+    requires documents { All (λ document. ApprovalsLead true document.closed.elements)
+        walk.now.approvals.now }
     requires size { length behind.first.items ≡ length walk.now.facts.now + 1 }
     ensures size { IfOk result (λ table. length table.first.items ≡ length walk.now.facts.now + 1) }
-    ensures table { (moves : List OneMove) (ways : List Path) → AllAsk walk.now.facts.now moves → AreInside ways
+    ensures table { (moves : List OneMove) (ways : List Path) → AllAsk walk.now.facts.now moves
+        → AreInside ways
         → IsTable walk.now.approvals.now walk.now.levels moves behind ways
         → IfOk result (λ table. IsTable walk.now.approvals.now walk.now.levels moves table
-        (spec.product (spec.paths_at (spec.document_paths walk.now.approvals.now walk.now.levels) walk.now.approvals.now rest.now
+        (spec.product (spec.paths_at
+        (spec.document_paths walk.now.approvals.now walk.now.levels) walk.now.approvals.now rest.now
         (digest_at_element element.now before)) ways)) }
 {
     if has_or(rest) {
@@ -97,13 +104,17 @@ fn ways_of_unbranched(
 ) -> Result<Ways, NoMemory>
     requires unbranched { at.has_or elements.now ≡ false }
     requires lead { ApprovalsLead true elements.now }
-    requires documents { All (λ document. ApprovalsLead true document.closed.elements) walk.now.approvals.now }
+    requires documents { All (λ document. ApprovalsLead true document.closed.elements)
+        walk.now.approvals.now }
     requires size { length behind.first.items ≡ length walk.now.facts.now + 1 }
     ensures size { IfOk result (λ table. length table.first.items ≡ length walk.now.facts.now + 1) }
-    ensures table { (moves : List OneMove) (before : OneDigest) (ways : List Path) → AllAsk walk.now.facts.now moves → AreInside ways
+    ensures table { (moves : List OneMove) (before : OneDigest) (ways : List Path)
+        → AllAsk walk.now.facts.now moves → AreInside ways
         → IsTable walk.now.approvals.now walk.now.levels moves behind ways
         → IfOk result (λ table. IsTable walk.now.approvals.now walk.now.levels moves table
-        (spec.product (spec.paths_at (spec.document_paths walk.now.approvals.now walk.now.levels) walk.now.approvals.now elements.now before) ways)) }
+        (spec.product (spec.paths_at
+        (spec.document_paths walk.now.approvals.now walk.now.levels) walk.now.approvals.now
+        elements.now before) ways)) }
 {
     match elements {
         ClosedElements::End => Ok(behind),
@@ -123,13 +134,17 @@ fn ways_of_element(
     mut behind: Ways,
 ) -> Result<Ways, NoMemory>
     requires lead { ApprovalsLeadElement true element.now }
-    requires documents { All (λ document. ApprovalsLead true document.closed.elements) walk.now.approvals.now }
+    requires documents { All (λ document. ApprovalsLead true document.closed.elements)
+        walk.now.approvals.now }
     requires size { length behind.first.items ≡ length walk.now.facts.now + 1 }
     ensures size { IfOk result (λ table. length table.first.items ≡ length walk.now.facts.now + 1) }
-    ensures table { (moves : List OneMove) (ways : List Path) → AllAsk walk.now.facts.now moves → AreInside ways
+    ensures table { (moves : List OneMove) (ways : List Path) → AllAsk walk.now.facts.now moves
+        → AreInside ways
         → IsTable walk.now.approvals.now walk.now.levels moves behind ways
         → IfOk result (λ table. IsTable walk.now.approvals.now walk.now.levels moves table
-        (spec.product (spec.paths_at_element (spec.document_paths walk.now.approvals.now walk.now.levels) walk.now.approvals.now element.now before) ways)) }
+        (spec.product (spec.paths_at_element
+        (spec.document_paths walk.now.approvals.now walk.now.levels) walk.now.approvals.now
+        element.now before) ways)) }
 {
     match element {
         ClosedElement::Assert(assertion) => {
@@ -160,13 +175,17 @@ fn ways_of_approval(
     behind: &Ways,
 ) -> Result<Ways, NoMemory>
     requires approval { IsApproval element.now }
-    requires documents { All (λ document. ApprovalsLead true document.closed.elements) walk.now.approvals.now }
+    requires documents { All (λ document. ApprovalsLead true document.closed.elements)
+        walk.now.approvals.now }
     requires size { length behind.now.first.items ≡ length walk.now.facts.now + 1 }
     ensures size { IfOk result (λ table. length table.first.items ≡ length walk.now.facts.now + 1) }
-    ensures table { (moves : List OneMove) (ways : List Path) → AllAsk walk.now.facts.now moves → AreInside ways
+    ensures table { (moves : List OneMove) (ways : List Path) → AllAsk walk.now.facts.now moves
+        → AreInside ways
         → IsTable walk.now.approvals.now walk.now.levels moves behind.now ways
         → IfOk result (λ table. IsTable walk.now.approvals.now walk.now.levels moves table
-        (spec.product (spec.approved_paths (spec.document_paths walk.now.approvals.now walk.now.levels) walk.now.approvals.now element.now
+        (spec.product (spec.approved_paths
+        (spec.document_paths walk.now.approvals.now walk.now.levels) walk.now.approvals.now
+        element.now
         ++ spec.outside_paths element.now) ways)) }
 {
     let mut found = Ways::none(walk.alloc, walk.facts)?;
@@ -185,15 +204,20 @@ fn add_branches(
     behind: &Ways,
 ) -> Result<(), NoMemory>
     requires lead { ApprovalsLeadBranches true branches.now }
-    requires documents { All (λ document. ApprovalsLead true document.closed.elements) walk.now.approvals.now }
+    requires documents { All (λ document. ApprovalsLead true document.closed.elements)
+        walk.now.approvals.now }
     requires size { length behind.now.first.items ≡ length walk.now.facts.now + 1 }
     requires found_size { length found.old.first.items ≡ length walk.now.facts.now + 1 }
     ensures size { OnOk result (length found.new.first.items ≡ length walk.now.facts.now + 1) }
-    ensures table { (moves : List OneMove) (act : OneMove) (position : ℕ) (ways done : List Path) → AllAsk walk.now.facts.now moves → AreInside ways
-        → IsTable walk.now.approvals.now walk.now.levels moves behind.now (map (spec.followed_by (spec.path_of_move act)) ways)
+    ensures table { (moves : List OneMove) (act : OneMove) (position : ℕ) (ways done : List Path)
+        → AllAsk walk.now.facts.now moves → AreInside ways
+        → IsTable walk.now.approvals.now walk.now.levels moves behind.now
+        (map (spec.followed_by (spec.path_of_move act)) ways)
         → IsTable walk.now.approvals.now walk.now.levels moves found.old done
         → OnOk result (IsTable walk.now.approvals.now walk.now.levels moves found.new
-        (done ++ spec.product (spec.paths_at_branches (spec.document_paths walk.now.approvals.now walk.now.levels) walk.now.approvals.now branches.now position act before) ways)) }
+        (done ++ spec.product (spec.paths_at_branches
+        (spec.document_paths walk.now.approvals.now walk.now.levels) walk.now.approvals.now
+        branches.now position act before) ways)) }
 {
     match branches {
         ClosedBranches::End => Ok(()),
@@ -216,15 +240,19 @@ fn add_documents(
     behind: &Ways,
 ) -> Result<(), NoMemory>
     requires approval { IsApproval element.now }
-    requires documents { All (λ document. ApprovalsLead true document.closed.elements) walk.now.approvals.now }
+    requires documents { All (λ document. ApprovalsLead true document.closed.elements)
+        walk.now.approvals.now }
     requires size { length behind.now.first.items ≡ length walk.now.facts.now + 1 }
     requires found_size { length found.old.first.items ≡ length walk.now.facts.now + 1 }
     ensures size { OnOk result (length found.new.first.items ≡ length walk.now.facts.now + 1) }
-    ensures table { (moves : List OneMove) (ways done : List Path) → AllAsk walk.now.facts.now moves → AreInside ways
+    ensures table { (moves : List OneMove) (ways done : List Path) → AllAsk walk.now.facts.now moves
+        → AreInside ways
         → IsTable walk.now.approvals.now walk.now.levels moves behind.now ways
         → IsTable walk.now.approvals.now walk.now.levels moves found.old done
         → OnOk result (IsTable walk.now.approvals.now walk.now.levels moves found.new
-        (done ++ spec.product (spec.approved_paths (spec.document_paths walk.now.approvals.now walk.now.levels) walk.now.approvals.now element.now) ways)) }
+        (done ++ spec.product (spec.approved_paths
+        (spec.document_paths walk.now.approvals.now walk.now.levels) walk.now.approvals.now
+        element.now) ways)) }
 {
     if walk.levels == 0 {
         return Ok(());
@@ -252,7 +280,8 @@ fn outside_ways(walk: &Walk<'_>, element: &ClosedElement, behind: &Ways) -> Resu
     requires approval { IsApproval element.now }
     requires size { length behind.now.first.items ≡ length walk.now.facts.now + 1 }
     ensures size { IfOk result (λ table. length table.first.items ≡ length walk.now.facts.now + 1) }
-    ensures table { (moves : List OneMove) (ways : List Path) → AllAsk walk.now.facts.now moves → AreInside ways
+    ensures table { (moves : List OneMove) (ways : List Path) → AllAsk walk.now.facts.now moves
+        → AreInside ways
         → IsTable walk.now.approvals.now walk.now.levels moves behind.now ways
         → IfOk result (λ table. IsTable walk.now.approvals.now walk.now.levels moves table
         (spec.product (spec.outside_paths element.now) ways)) }
@@ -276,9 +305,11 @@ fn approves_outside(
     fact: &Asked,
 ) -> bool
     requires approval { IsApproval element.now }
-    requires hashed { update_value approval.now.update ≡ update_of (move_of_element element.now zero_digest) }
+    requires hashed { update_value approval.now.update
+        ≡ update_of (move_of_element element.now zero_digest) }
     ensures { (approving : OneMove) → Asks fact.now approving → result
-        ≡ matches_approval walk.now.approvals.now (nat_lt 0 walk.now.levels) (move_of_element element.now zero_digest) approving }
+        ≡ matches_approval walk.now.approvals.now (nat_lt 0 walk.now.levels)
+        (move_of_element element.now zero_digest) approving }
 {
     if !approval.hashes_the_same(fact) {
         return false;
@@ -303,7 +334,8 @@ fn earlier(a: Option<u32>, b: Option<u32>) -> Option<u32>
 fn is_listed(walk: &Walk<'_>, element: &ClosedElement, fact: &Asked) -> bool
     requires { IsApproval element.now }
     ensures { (approving : OneMove) → Asks fact.now approving
-        → result ≡ is_listed walk.now.approvals.now (move_of_element element.now zero_digest) approving }
+        → result ≡ is_listed walk.now.approvals.now
+        (move_of_element element.now zero_digest) approving }
 {
     for document in walk.approvals {
         if accepts(element, document) && fact.approves(&document.digest) {
@@ -316,7 +348,8 @@ fn is_listed(walk: &Walk<'_>, element: &ClosedElement, fact: &Asked) -> bool
 // What an AUTHORIZE or an AUTHORIZENV hashes.
 fn update_of_approval(alloc: Global, element: &ClosedElement) -> Result<UpdateBytes, NoMemory>
     requires { IsApproval element.now }
-    ensures { IfOk result (λ update. update_value update ≡ update_of (move_of_element element.now zero_digest)) }
+    ensures { IfOk result (λ update. update_value update
+        ≡ update_of (move_of_element element.now zero_digest)) }
 {
     match element {
         ClosedElement::Authorize { key, policy_ref } => update_of_approve(alloc, key, policy_ref),

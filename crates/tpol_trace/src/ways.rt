@@ -33,7 +33,8 @@ impl Ways {
     // No way.
     pub fn none(alloc: Global, facts: &[Asked]) -> Result<Ways, NoMemory>
         ensures size { IfOk result (λ table. length table.first.items ≡ length facts.now + 1) }
-        ensures none { IfOk result (λ table. (approvals : List ApprovedDoc) (level : ℕ) (moves : List Move)
+        ensures none { IfOk result
+            (λ table. (approvals : List ApprovedDoc) (level : ℕ) (moves : List Move)
             → AllAsk facts.now moves → IsTable approvals level moves table []) }
     {
         Ways::all_at(alloc, facts, None, 0)
@@ -69,7 +70,8 @@ impl Ways {
 
     // The same ways once more.
     pub fn copy(&self) -> Result<Ways, NoMemory>
-        ensures { IfOk result (λ copy. (copy.first.items ≡ self.now.first.items) × (copy.count ≡ self.now.count) × (copy.window ≡ self.now.window)) }
+        ensures { IfOk result (λ copy. (copy.first.items ≡ self.now.first.items)
+            × (copy.count ≡ self.now.count) × (copy.window ≡ self.now.window)) }
     {
         Ok(Ways {
             first: self.first.clone()?,
@@ -81,7 +83,8 @@ impl Ways {
     // The way without a move.
     pub fn end(alloc: Global, facts: &[Asked]) -> Result<Ways, NoMemory>
         ensures size { IfOk result (λ table. length table.first.items ≡ length facts.now + 1) }
-        ensures end { IfOk result (λ table. (approvals : List ApprovedDoc) (level : ℕ) (moves : List Move)
+        ensures end { IfOk result
+            (λ table. (approvals : List ApprovedDoc) (level : ℕ) (moves : List Move)
             → AllAsk facts.now moves → IsTable approvals level moves table (empty_path ∷ [])) }
     {
         let mut ways = Ways::all_at(alloc, facts, None, 1)?;
@@ -99,8 +102,10 @@ impl Ways {
     pub fn put_behind(&mut self, facts: &[Asked], act: &Asked)
         requires { length self.old.first.items ≡ length facts.now + 1 }
         ensures size { length self.new.first.items ≡ length self.old.first.items }
-        ensures behind { (approvals : List ApprovedDoc) (level : ℕ) (moves : List Move) (one : Move) (ways : List Path)
-            → AllAsk facts.now moves → Asks act.now one → AreInside ways → IsTable approvals level moves self.old ways
+        ensures behind { (approvals : List ApprovedDoc) (level : ℕ) (moves : List Move) (one : Move)
+            (ways : List Path)
+            → AllAsk facts.now moves → Asks act.now one → AreInside ways
+            → IsTable approvals level moves self.old ways
             → IsTable approvals level moves self.new (map (followed_by (path_of_move one)) ways) }
     {
         let window = self.window.lower();
@@ -115,8 +120,10 @@ impl Ways {
     pub fn append(&mut self, others: &Ways)
         requires { length self.old.first.items ≡ length others.now.first.items }
         ensures size { length self.new.first.items ≡ length self.old.first.items }
-        ensures both { (approvals : List ApprovedDoc) (level : ℕ) (moves : List Move) (ways more : List Path)
-            → IsTable approvals level moves self.old ways → IsTable approvals level moves others.now more
+        ensures both { (approvals : List ApprovedDoc) (level : ℕ) (moves : List Move)
+            (ways more : List Path)
+            → IsTable approvals level moves self.old ways
+            → IsTable approvals level moves others.now more
             → IsTable approvals level moves self.new (ways ++ more) }
     {
         for k in others.window.from..others.window.to {
@@ -133,7 +140,8 @@ impl Ways {
 
     // The way that goes the facts behind this one, where this one is the move; it is left where they differ.
     fn go_on(way: Option<u32>, act: &Asked, fact: &Asked) -> Option<u32>
-        ensures { (one other : Move) → Asks act.now one → Asks fact.now other → result ≡ kept (is_same_move one other) way }
+        ensures { (one other : Move) → Asks act.now one → Asks fact.now other
+            → result ≡ kept (is_same_move one other) way }
     {
         match way {
             Some(_) if act.is_same(fact) => way,

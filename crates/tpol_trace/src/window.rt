@@ -46,7 +46,8 @@ impl Window {
     // The places without those at both ends where nothing is.
     pub fn trimmed(self, entries: &[Option<u32>]) -> Window
         requires { self.to ≤ length entries.now }
-        ensures entries { (k entry : ℕ) → slice_index_or entries.now k None ≡ Some entry → IsIn self k → IsIn result k }
+        ensures entries { (k entry : ℕ) → slice_index_or entries.now k None ≡ Some entry
+            → IsIn self k → IsIn result k }
         ensures end { result.to ≤ self.to }
     {
         let mut found = Window::NONE;

@@ -24,7 +24,8 @@ pub fn who<H: Shelf>(alloc: Global, input: &[u8], shelf: &mut H) -> Result<Answe
     ensures answer { IfSome (H.documents shelf.old) (λ all.
         Answers (λ answer. answer) (who_step input.now all) result) }
     ensures keeps { H.documents shelf.new ≡ H.documents shelf.old }
-    ensures asks { AsksShelf true (IsOk (scene_of_bytes input.now)) shelf.old shelf.new (H.faults shelf.old) (H.faults shelf.new) result }
+    ensures asks { AsksShelf true (IsOk (scene_of_bytes input.now)) shelf.old shelf.new
+        (H.faults shelf.old) (H.faults shelf.new) result }
 {
     let staged = stage(alloc, Manner::Run(Way::Sighted), input, shelf)?;
     Ok(who_answer(alloc, staged)?)

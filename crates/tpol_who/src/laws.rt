@@ -11,5 +11,6 @@ ghost use Rattle.tpol_who.specs.Who.{scene_told};
 /// the way of a path, the first `can` is that of the path that the run begins on, and there is none exactly where it
 /// begins on none.
 pub fn runs_are_told()
-    ensures { (staged : OneScene) → way_of staged.scenario.manner ≡ Sighted → AreBeginsTold staged (scene_told staged) }
+    ensures { (staged : OneScene) → way_of staged.scenario.manner ≡ Sighted
+        → AreBeginsTold staged (scene_told staged) }
 {}

@@ -122,7 +122,8 @@ impl Survey {
         requires scenario { IsScenarioOf self.old.performance.setup scenario.now }
         requires event { CanHappen event.now }
         requires few { length self.old.performance.past < 2 ^ 30 }
-        requires early { time_of self.old.performance.setup self.old.performance.past + 2 ^ 32 ≤ 2 ^ 63 }
+        requires early { time_of self.old.performance.setup self.old.performance.past + 2 ^ 32
+            ≤ 2 ^ 63 }
         ensures told { OnOk result (self.new.lines
             ≡ self.old.lines ++ event_told scenario.now event.now self.old.performance) }
         ensures happened { OnOk result (self.new.performance
@@ -218,10 +219,12 @@ impl Survey {
         sight: &Sight,
         run: &NewRun,
     ) -> Result<(), NoMemory>
-        requires begun { All (λ document. IsWalkable scenario.now.approvals document.closed) scenario.now.begun }
+        requires begun { All (λ document. IsWalkable scenario.now.approvals document.closed)
+            scenario.now.begun }
         requires sight { IsSight sight.now }
         ensures told { OnOk result (self.new.lines
-            ≡ self.old.lines ++ paths_told sight.now run.now 1 (paths_named scenario.now policy.now)) }
+            ≡ self.old.lines ++ paths_told sight.now run.now 1
+            (paths_named scenario.now policy.now)) }
         ensures stays { OnOk result (self.new.performance ≡ self.old.performance) }
     {
         match scenario.document(policy) {

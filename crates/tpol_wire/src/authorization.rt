@@ -36,7 +36,8 @@ fn any_buffer<'a>(cursor: &mut Cursor<'a>) -> Option<&'a [u8]>
 
 /// Exactly one nonce, attributes and hmac, with nothing behind.
 pub(crate) fn read_tail<'a>(cursor: &mut Cursor<'a>) -> Option<Tail<'a>>
-    ensures { Finds (λ tail. (tail.nonce.now, tail.attributes, tail.hmac.now)) result (tail_of cursor.old) }
+    ensures { Finds (λ tail. (tail.nonce.now, tail.attributes, tail.hmac.now)) result
+        (tail_of cursor.old) }
 {
     let nonce = any_buffer(cursor)?;
     let attributes = cursor.u8()?;
@@ -53,7 +54,9 @@ pub(crate) fn read_tail<'a>(cursor: &mut Cursor<'a>) -> Option<Tail<'a>>
 
 /// Exactly one area, with nothing behind.
 fn parts<'a>(bytes: &'a [u8]) -> Option<(u32, Tail<'a>)>
-    ensures { Finds (λ found. area_with found.0 found.1.nonce.now found.1.attributes found.1.hmac.now) result (whole_area bytes.now) }
+    ensures { Finds (λ found.
+        area_with found.0 found.1.nonce.now found.1.attributes found.1.hmac.now) result
+        (whole_area bytes.now) }
 {
     let mut cursor = Cursor::new(bytes);
     let session = cursor.u32()?;
@@ -63,7 +66,9 @@ fn parts<'a>(bytes: &'a [u8]) -> Option<(u32, Tail<'a>)>
 
 /// A size, and exactly one area of that size.
 fn sized_parts<'a>(cursor: &mut Cursor<'a>) -> Option<(u32, Tail<'a>)>
-    ensures { FindsFront (λ found. area_with found.0 found.1.nonce.now found.1.attributes found.1.hmac.now) result (sized_area cursor.old) cursor.new }
+    ensures { FindsFront (λ found.
+        area_with found.0 found.1.nonce.now found.1.attributes found.1.hmac.now) result
+        (sized_area cursor.old) cursor.new }
 {
     let size = cursor.u32()?;
     let area = cursor.take(size as usize)?;
@@ -72,7 +77,8 @@ fn sized_parts<'a>(cursor: &mut Cursor<'a>) -> Option<(u32, Tail<'a>)>
 
 /// The first rule that an area breaks.
 fn judge(session: u32, tail: &Tail) -> Result<(), WireFault>
-    ensures { let area = area_with session tail.now.nonce.now tail.now.attributes tail.now.hmac.now in
+    ensures { let area = area_with session tail.now.nonce.now tail.now.attributes tail.now.hmac.now
+        in
         Judges result (judged area) area }
 {
     if tail.nonce.len() > 32 || tail.hmac.len() > 64 {

@@ -224,7 +224,8 @@ pub fn read_reply(
     // The bytes are this reply to that code,
     ensures found { IfOk result (λ found. SpellsReply code bytes.now found.0 found.1) }
     // and no other; what is a reply is read, unless memory runs out.
-    ensures only { (reply : ReplyOf) (auth : Option AuthOf) → SpellsReply code bytes.now reply auth → GivesReply result (Some (reply, auth)) }
+    ensures only { (reply : ReplyOf) (auth : Option AuthOf) → SpellsReply code bytes.now reply auth
+        → GivesReply result (Some (reply, auth)) }
 {
     whole(alloc, code, bytes)
 }

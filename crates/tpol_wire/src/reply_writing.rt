@@ -105,7 +105,8 @@ pub fn fields_of(alloc: Global, reply: &Reply) -> Result<Blob, NoMemory>
 
 /// The fields of a reply; with an authorization their size before them and the authorization behind.
 fn body(alloc: Global, reply: &Reply, auth: Option<&ReplyAuth>) -> Result<Blob, NoMemory>
-    ensures { IfOk result (λ bytes. bytes ≡ reply_body (reply_fields_of reply.now) (option_copied auth.entry)) }
+    ensures { IfOk result (λ bytes. bytes
+        ≡ reply_body (reply_fields_of reply.now) (option_copied auth.entry)) }
 {
     let fields = fields_of(alloc, reply)?;
     match auth {
@@ -129,8 +130,11 @@ fn authorized(alloc: Global, fields: &Blob, auth: &ReplyAuth) -> Result<Blob, No
 /// Structure"); a reply whose fields are within their bounds is read again as a reply to its command, and a
 /// refusal as a reply to any.
 pub fn write_reply(alloc: Global, reply: &Reply, auth: Option<&ReplyAuth>) -> Result<Blob, NoMemory>
-    ensures spelling { IfOk result (λ bytes. bytes ≡ spell_reply reply.now (option_copied auth.entry)) }
-    ensures spells { (code : ℕ) → FitsReply reply.now (option_copied auth.entry) → PartsAnswer code (parts_of reply.now) → IfOk result (λ bytes. SpellsReply code bytes reply.now (option_copied auth.entry)) }
+    ensures spelling { IfOk result (λ bytes. bytes
+        ≡ spell_reply reply.now (option_copied auth.entry)) }
+    ensures spells { (code : ℕ) → FitsReply reply.now (option_copied auth.entry)
+        → PartsAnswer code (parts_of reply.now)
+        → IfOk result (λ bytes. SpellsReply code bytes reply.now (option_copied auth.entry)) }
 {
     match answered(reply) {
         Ok(command) => {

@@ -19,7 +19,8 @@ pub fn push_elements(
     elements: &Elements,
     list: &mut Vec<Value>,
 ) -> Result<(), NoMemory>
-    ensures { OnOk result (map view list.new.items ≡ map view list.old.items ++ elements_values elements.now) }
+    ensures { OnOk result (map view list.new.items
+        ≡ map view list.old.items ++ elements_values elements.now) }
 {
     match elements {
         Elements::End => Ok(()),
@@ -33,7 +34,8 @@ pub fn push_elements(
 
 #[cycle(policy)]
 fn push_branches(alloc: Global, branches: &Branches, list: &mut Vec<Value>) -> Result<(), NoMemory>
-    ensures { OnOk result (map view list.new.items ≡ map view list.old.items ++ branches_values branches.now) }
+    ensures { OnOk result (map view list.new.items
+        ≡ map view list.old.items ++ branches_values branches.now) }
 {
     match branches {
         Branches::End => Ok(()),
@@ -107,7 +109,8 @@ fn or(alloc: Global, branches: &Branches) -> Result<Value, NoMemory>
 #[cycle(policy)]
 fn branch_value(alloc: Global, branch: &Branch) -> Result<Value, NoMemory>
     ensures { IfOk result
-        (λ value. view value ≡ branch_value branch.now.name branch.now.description (elements_values branch.now.elements)) }
+        (λ value. view value ≡ branch_value branch.now.name branch.now.description
+        (elements_values branch.now.elements)) }
 {
     let mut policy = Vec::new(alloc);
     push_elements(alloc, &branch.elements, &mut policy)?;

@@ -17,7 +17,8 @@ use tpol_tree::{NamesWish, PcrWish};
 /// Sets the member of the Names of a command's handles: their digest, the Names, or paths.
 pub fn put_names(object: &mut Object, alloc: Global, names: &NamesWish) -> Result<(), NoMemory>
     ensures { OnOk result (members_view object.new.entries
-        ≡ with_member (names_member names.now).0 (names_member names.now).1 (members_view object.old.entries)) }
+        ≡ with_member (names_member names.now).0 (names_member names.now).1
+        (members_view object.old.entries)) }
 {
     match names {
         NamesWish::Digest(digest) => put_hex(object, alloc, "nameHash", digest.bytes.as_slice()),
@@ -35,7 +36,8 @@ pub fn put_names(object: &mut Object, alloc: Global, names: &NamesWish) -> Resul
 /// Sets the member of the PCRs of a POLICYPCR: their values, or the PCRs whose values are to be current.
 pub fn put_pcrs(object: &mut Object, alloc: Global, pcrs: &PcrWish) -> Result<(), NoMemory>
     ensures { OnOk result (members_view object.new.entries
-        ≡ with_member (pcrs_member pcrs.now).0 (pcrs_member pcrs.now).1 (members_view object.old.entries)) }
+        ≡ with_member (pcrs_member pcrs.now).0 (pcrs_member pcrs.now).1
+        (members_view object.old.entries)) }
 {
     match pcrs {
         PcrWish::Values(values) => {

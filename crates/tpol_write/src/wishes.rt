@@ -15,7 +15,8 @@ use tpol_tree::{EntityWish, IndexWish, KeyWish, ParentWish};
 /// Sets the member of a key: its path, or its public area.
 pub fn put_key(object: &mut Object, alloc: Global, key: &KeyWish) -> Result<(), NoMemory>
     ensures { OnOk result (members_view object.new.entries
-        ≡ with_member (key_member key.now).0 (key_member key.now).1 (members_view object.old.entries)) }
+        ≡ with_member (key_member key.now).0 (key_member key.now).1
+        (members_view object.old.entries)) }
 {
     match key {
         KeyWish::Path(path) => put_text(object, alloc, "keyPath", path.as_str()),
@@ -29,7 +30,8 @@ pub fn put_key(object: &mut Object, alloc: Global, key: &KeyWish) -> Result<(), 
 /// Sets the member of an index: its path, or its public area.
 pub fn put_index(object: &mut Object, alloc: Global, index: &IndexWish) -> Result<(), NoMemory>
     ensures { OnOk result (members_view object.new.entries
-        ≡ with_member (index_member index.now).0 (index_member index.now).1 (members_view object.old.entries)) }
+        ≡ with_member (index_member index.now).0 (index_member index.now).1
+        (members_view object.old.entries)) }
 {
     match index {
         IndexWish::Path(path) => put_text(object, alloc, "nvPath", path.as_str()),
@@ -43,7 +45,8 @@ pub fn put_index(object: &mut Object, alloc: Global, index: &IndexWish) -> Resul
 /// Sets the member of an entity: its path, or its Name.
 pub fn put_entity(object: &mut Object, alloc: Global, entity: &EntityWish) -> Result<(), NoMemory>
     ensures { OnOk result (members_view object.new.entries
-        ≡ with_member (entity_member entity.now).0 (entity_member entity.now).1 (members_view object.old.entries)) }
+        ≡ with_member (entity_member entity.now).0 (entity_member entity.now).1
+        (members_view object.old.entries)) }
 {
     match entity {
         EntityWish::Path(path) => put_text(object, alloc, "objectPath", path.as_str()),
@@ -54,7 +57,8 @@ pub fn put_entity(object: &mut Object, alloc: Global, entity: &EntityWish) -> Re
 /// Sets the member of a new parent: its path, its public area, or its Name.
 pub fn put_parent(object: &mut Object, alloc: Global, parent: &ParentWish) -> Result<(), NoMemory>
     ensures { OnOk result (members_view object.new.entries
-        ≡ with_member (parent_member parent.now).0 (parent_member parent.now).1 (members_view object.old.entries)) }
+        ≡ with_member (parent_member parent.now).0 (parent_member parent.now).1
+        (members_view object.old.entries)) }
 {
     match parent {
         ParentWish::Path(path) => put_text(object, alloc, "newParentPath", path.as_str()),

@@ -22,7 +22,8 @@ use tpol_base::{CommandCode, Rc};
 // (TPM_RC_NV_UNINITIALIZED), that its content begins with the algorithm SHA-256 (TPM_RC_HASH), and that the
 // session's digest follows (TPM_RC_VALUE).
 pub fn rule(world: &World, session: &Session, authority: u32, index: u32) -> Result<(), Rc>
-    ensures rule { Obeys result (spec.authorize_nv_rule world.now session.now.state authority index) }
+    ensures rule { Obeys result
+        (spec.authorize_nv_rule world.now session.now.state authority index) }
 {
     match world.index(index) {
         Some(entry) => {
@@ -41,9 +42,11 @@ pub fn rule(world: &World, session: &Session, authority: u32, index: u32) -> Res
 pub fn carry_out(world: &World, session: &mut Session, number: u32, index: u32)
     requires room { length session.old.state.facts < 512 }
     requires index { is_index index ≡ true }
-    requires rule { rule_of_index world.now index (policy_authorize_nv_rule session.old.state) ≡ None }
+    requires rule { rule_of_index world.now index (policy_authorize_nv_rule session.old.state)
+        ≡ None }
     ensures session { session.new ≡ with_one_more session.old
-        (fact_of number (ApproveNv (name_at world.now index) (policy_digest_of session.old.state)) None None) 0 }
+        (fact_of number (ApproveNv (name_at world.now index) (policy_digest_of session.old.state))
+        None None) 0 }
 {
     let Some(entry) = world.index(index) else {
         unreachable!();

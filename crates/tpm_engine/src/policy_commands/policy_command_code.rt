@@ -21,7 +21,8 @@ pub fn rule(session: &Session, code: u32) -> Result<(), Rc>
 pub fn carry_out(session: &mut Session, number: u32, code: u32)
     requires room { length session.old.state.facts < 512 }
     requires rule { policy_command_code_rule session.old.state code ≡ None }
-    ensures session { session.new ≡ with_one_more session.old (policy_command_code_fact number code) 0 }
+    ensures session { session.new
+        ≡ with_one_more session.old (policy_command_code_fact number code) 0 }
 {
     match assert_command_code(session, number, code) {
         Ok(()) => {}

@@ -15,7 +15,8 @@ use tpol_base::{Blob, Compare, Rc};
 // That the operand, from the offset on, lies within the bytes of the clock (TPM_RC_RANGE, parameter 1), and that
 // the comparison with it holds (TPM_RC_POLICY).
 pub fn rule(world: &World, operand: &[u8], offset: u16, operation: Compare) -> Result<(), Rc>
-    ensures rule { Obeys result (policy_counter_timer_rule (clock_of world.now) operand.now offset operation) }
+    ensures rule { Obeys result
+        (policy_counter_timer_rule (clock_of world.now) operand.now offset operation) }
 {
     policy_counter_timer_rule(&world.clock(), operand, offset, operation)
 }

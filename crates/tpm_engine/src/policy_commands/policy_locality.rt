@@ -22,7 +22,8 @@ pub fn rule(session: &Session, localities: u8) -> Result<(), Rc>
 pub fn carry_out(session: &mut Session, number: u32, localities: u8)
     requires room { length session.old.state.facts < 512 }
     requires rule { policy_locality_rule session.old.state localities ≡ None }
-    ensures session { session.new ≡ with_one_more session.old (policy_locality_fact number localities) 0 }
+    ensures session { session.new
+        ≡ with_one_more session.old (policy_locality_fact number localities) 0 }
 {
     match assert_locality(session, number, localities) {
         Ok(()) => {}

@@ -21,7 +21,8 @@ pub fn rule(session: &Session, digest: &Digest32) -> Result<(), Rc>
 pub fn carry_out(session: &mut Session, number: u32, digest: Digest32)
     requires room { length session.old.state.facts < 512 }
     requires rule { policy_name_hash_rule session.old.state digest ≡ None }
-    ensures session { session.new ≡ with_one_more session.old (policy_name_hash_fact number digest) 0 }
+    ensures session { session.new
+        ≡ with_one_more session.old (policy_name_hash_fact number digest) 0 }
 {
     match assert_name_hash(session, number, digest) {
         Ok(()) => {}

@@ -21,7 +21,8 @@ pub fn rule(session: &Session, written: bool) -> Result<(), Rc>
 pub fn carry_out(session: &mut Session, number: u32, written: bool)
     requires room { length session.old.state.facts < 512 }
     requires rule { policy_nv_written_rule session.old.state written ≡ None }
-    ensures session { session.new ≡ with_one_more session.old (policy_nv_written_fact number written) 0 }
+    ensures session { session.new
+        ≡ with_one_more session.old (policy_nv_written_fact number written) 0 }
 {
     match assert_nv_written(session, number, written) {
         Ok(()) => {}

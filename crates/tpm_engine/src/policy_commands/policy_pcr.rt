@@ -37,7 +37,8 @@ pub fn carry_out(
     requires mask { mask < 2 ^ 24 }
     requires rule { spec.pcr_rule world.now session.old.state given mask ≡ None }
     ensures session { session.new ≡ with_one_more session.old
-        (policy_pcr_fact number mask (selection_digest world.now.pcrs.values mask)) world.now.pcrs.counter }
+        (policy_pcr_fact number mask (selection_digest world.now.pcrs.values mask))
+        world.now.pcrs.counter }
 {
     match assert_pcr(alloc, session, number, world.pcrs(), mask, given) {
         Ok(()) => {}

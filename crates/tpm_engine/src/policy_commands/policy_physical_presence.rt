@@ -10,7 +10,8 @@ use tpm_session::Session;
 // Asks for physical presence at the use.
 pub fn carry_out(session: &mut Session, number: u32)
     requires room { length session.old.state.facts < 512 }
-    ensures session { session.new ≡ with_one_more session.old (policy_physical_presence_fact number) 0 }
+    ensures session { session.new
+        ≡ with_one_more session.old (policy_physical_presence_fact number) 0 }
 {
     match assert_presence(session, number) {
         Ok(()) => {}

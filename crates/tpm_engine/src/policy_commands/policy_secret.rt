@@ -81,7 +81,8 @@ pub fn reply(
 ) -> Result<Reply, NoMemory>
     requires early { start ≤ 2 ^ 63 }
     ensures reply { IfOk result (λ reply. reply ≡ spec.secret_reply world.now start
-        given.now.entity given.now.nonce.now given.now.cp_hash policy_ref.now given.now.expiration) }
+        given.now.entity given.now.nonce.now given.now.cp_hash policy_ref.now
+        given.now.expiration) }
 {
     let timeout = timeout_of(start, given.nonce, given.expiration);
     let name = world.name_of(given.entity);

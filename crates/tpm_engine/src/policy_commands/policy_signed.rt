@@ -36,7 +36,8 @@ pub fn rule(
     policy_ref: &[u8],
 ) -> Result<(), Rc>
     ensures rule { Obeys result (spec.signed_rule world.now session.now.state given.now.key
-        given.now.nonce.now given.now.cp_hash policy_ref.now given.now.expiration given.now.signature) }
+        given.now.nonce.now given.now.cp_hash policy_ref.now given.now.expiration
+        given.now.signature) }
 {
     let Some(object) = world.object(given.key) else {
         return Err(missing_object());
@@ -70,7 +71,8 @@ pub fn carry_out(
 )
     requires room { length session.old.state.facts < 512 }
     requires rule { spec.signed_rule world.now session.old.state given.now.key
-        given.now.nonce.now given.now.cp_hash policy_ref given.now.expiration given.now.signature ≡ None }
+        given.now.nonce.now given.now.cp_hash policy_ref given.now.expiration given.now.signature
+        ≡ None }
     ensures session { session.new ≡ with_one_more session.old
         (policy_signed_fact number session.old.state.start (name_at world.now given.now.key)
         given.now.nonce.now given.now.cp_hash policy_ref given.now.expiration) 0 }

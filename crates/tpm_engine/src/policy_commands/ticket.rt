@@ -33,7 +33,8 @@ pub fn ticket_of(
     policy_ref: &[u8],
     timeout: Option<u64>,
 ) -> Result<Ticket, NoMemory>
-    ensures { IfOk result (λ ticket. ticket ≡ spec.ticket_of world.now tag name.now cp_hash policy_ref.now timeout) }
+    ensures { IfOk result (λ ticket. ticket
+        ≡ spec.ticket_of world.now tag name.now cp_hash policy_ref.now timeout) }
 {
     match timeout {
         Some(deadline) => {
@@ -61,7 +62,8 @@ fn ticket_digest(
     policy_ref: &[u8],
     name: &Name,
 ) -> Digest32
-    ensures { result ≡ spec.ticket_digest world.now tag name.now cp_hash.now policy_ref.now deadline }
+    ensures { result ≡ spec.ticket_digest world.now tag name.now cp_hash.now policy_ref.now
+        deadline }
 {
     let limit = match cp_hash {
         Some(digest) => digest.bytes.as_slice(),

@@ -45,7 +45,8 @@ fn rule(
     signature: &Digest32,
 ) -> Result<(), Rc>
     ensures { (state : SessionState) → session.now ≡ standing_of state
-        → Obeys result (or_else (verify_rule object.now.public (spec.is_approved_by object.now policy_ref.now approved.now signature.now))
+        → Obeys result (or_else (verify_rule object.now.public
+        (spec.is_approved_by object.now policy_ref.now approved.now signature.now))
         (authorize_rule state approved.now true)) }
 {
     let right = is_approved_by(object, policy_ref, approved, signature);

@@ -24,7 +24,8 @@ pub fn policy_nv(
 ) -> Result<(), Why>
     requires sight { IsSight client.now.sight.now }
     ensures { Breaks result (index_block (client_of_lent client.now) codes.PolicyNv
-        (λ entry. policy_nv_rule entry operand.now offset operation) (index_in_sight client.now.sight.now index.now)) }
+        (λ entry. policy_nv_rule entry operand.now offset operation)
+        (index_in_sight client.now.sight.now index.now)) }
 {
     let Some(entry) = index_of_name(client.sight, index) else {
         return Err(Why::NoEntity);

@@ -45,7 +45,8 @@ fn rule(
 ) -> Result<(), Rc>
     requires start { session.now.start ≤ 2 ^ 63 }
     ensures { (state : SessionState) → session.now ≡ standing_of state
-        → Obeys result (or_else (spec.password_rule client.now.grants.now (entity_of_lent found.now) codes.PolicySecret)
+        → Obeys result (or_else (spec.password_rule client.now.grants.now
+        (entity_of_lent found.now) codes.PolicySecret)
         (secret_rule state client.now.sight.now.time state.nonce.bytes cp_hash expiration)) }
 {
     password_rule(client.grants, found, CommandCode::PolicySecret)?;

@@ -54,7 +54,8 @@ fn rule(
     requires start { session.now.start ≤ 2 ^ 63 }
     ensures { (state : SessionState) → session.now ≡ standing_of state
         → Obeys result (or_else (key_rule object.now.public)
-        (signed_rule state client.now.sight.now.time state.nonce.bytes cp_hash expiration (keys.is_same_block key.now object.now.secret))) }
+        (signed_rule state client.now.sight.now.time state.nonce.bytes cp_hash expiration
+        (keys.is_same_block key.now object.now.secret))) }
 {
     signing_key_rule(&object.public)?;
     let right = is_same_block(key, object.secret.as_slice());

@@ -16,7 +16,9 @@ pub(crate) fn command(
     means: &Means<'_>,
     assertion: &Assertion,
 ) -> Result<Command, NoMemory>
-    ensures { IfOk result (λ command. command ≡ command_of_assertion means.now.directory.now means.now.grants.now means.now.session.now assertion.now) }
+    ensures { IfOk result (λ command. command
+        ≡ command_of_assertion means.now.directory.now means.now.grants.now means.now.session.now
+        assertion.now) }
 {
     match assertion {
         Assertion::Nv {

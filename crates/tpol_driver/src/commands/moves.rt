@@ -18,7 +18,9 @@ pub(crate) fn command(
     ticket: &Option<Ticket>,
     act: &Move,
 ) -> Result<Command, NoMemory>
-    ensures { IfOk result (λ command. command ≡ command_of_move means.now.directory.now means.now.grants.now means.now.session.now ticket.now act.now) }
+    ensures { IfOk result (λ command. command
+        ≡ command_of_move means.now.directory.now means.now.grants.now means.now.session.now
+        ticket.now act.now) }
 {
     match act {
         Move::Assert(assertion) => assertions::command(alloc, means, assertion),

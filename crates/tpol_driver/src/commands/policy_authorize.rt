@@ -19,7 +19,9 @@ pub(crate) fn command(
     approved: &Digest32,
     signature: &Digest32,
 ) -> Result<Command, NoMemory>
-    ensures { IfOk result (λ command. command ≡ approval_command means.now.directory.now means.now.session.now ticket.now key.now policy_ref.now approved.now signature.now) }
+    ensures { IfOk result (λ command. command
+        ≡ approval_command means.now.directory.now means.now.session.now ticket.now key.now
+        policy_ref.now approved.now signature.now) }
 {
     match ticket {
         None => Ok(verification(means.directory, key, policy_ref, approved, signature)),
@@ -45,7 +47,8 @@ fn verification(
     approved: &Digest32,
     signature: &Digest32,
 ) -> Command
-    ensures { result ≡ verify_signature directory.now key.now policy_ref.now approved.now signature.now }
+    ensures { result ≡ verify_signature directory.now key.now policy_ref.now approved.now
+        signature.now }
 {
     let mut hasher = Hasher::new();
     hasher.put(&approved.bytes);

@@ -10,7 +10,9 @@ use tpol_wire::Command;
 
 /// The approval by what an index holds, authorized by the password of what the index is read by.
 pub(crate) fn command(alloc: Global, means: &Means<'_>, index: &Name) -> Result<Command, NoMemory>
-    ensures { IfOk result (λ command. command ≡ policy_authorize_nv means.now.directory.now means.now.grants.now means.now.session.now index.now) }
+    ensures { IfOk result (λ command. command
+        ≡ policy_authorize_nv means.now.directory.now means.now.grants.now means.now.session.now
+        index.now) }
 {
     let handles = handles::index(means.directory, means.grants, index);
     Ok(Command::PolicyAuthorizeNv {

@@ -17,7 +17,9 @@ pub(crate) fn command(
     offset: u16,
     operation: Compare,
 ) -> Result<Command, NoMemory>
-    ensures { IfOk result (λ command. command ≡ policy_nv means.now.directory.now means.now.grants.now means.now.session.now index.now operand.now offset operation) }
+    ensures { IfOk result (λ command. command
+        ≡ policy_nv means.now.directory.now means.now.grants.now means.now.session.now index.now
+        operand.now offset operation) }
 {
     let handles = handles::index(means.directory, means.grants, index);
     Ok(Command::PolicyNv {

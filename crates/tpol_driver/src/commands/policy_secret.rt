@@ -17,7 +17,9 @@ pub(crate) fn command(
     cp_hash: Option<Digest32>,
     expiration: i32,
 ) -> Result<Command, NoMemory>
-    ensures { IfOk result (λ command. command ≡ policy_secret means.now.directory.now means.now.grants.now means.now.session.now entity.now policy_ref.now cp_hash expiration) }
+    ensures { IfOk result (λ command. command
+        ≡ policy_secret means.now.directory.now means.now.grants.now means.now.session.now
+        entity.now policy_ref.now cp_hash expiration) }
 {
     let entity = handles::entity(means.directory, entity);
     Ok(Command::PolicySecret {

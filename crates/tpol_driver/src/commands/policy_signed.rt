@@ -19,7 +19,9 @@ pub(crate) fn command(
     cp_hash: Option<Digest32>,
     expiration: i32,
 ) -> Result<Command, NoMemory>
-    ensures { IfOk result (λ command. command ≡ policy_signed means.now.directory.now means.now.grants.now means.now.session.now key.now policy_ref.now cp_hash expiration) }
+    ensures { IfOk result (λ command. command
+        ≡ policy_signed means.now.directory.now means.now.grants.now means.now.session.now key.now
+        policy_ref.now cp_hash expiration) }
 {
     let key = handles::key(means.directory, key);
     let signed = signed_hash(

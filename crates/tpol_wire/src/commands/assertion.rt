@@ -26,8 +26,18 @@ pub(crate) struct Assertion {
 
 /// Reads the common parameters.
 pub(crate) fn read(alloc: Global, cursor: &mut Cursor) -> Result<Assertion, WireFault>
-    ensures secret { ReadsAs (λ found. (found.nonce, (found.cp_hash, (found.policy_ref, (found.expiration, tt))))) result (values_at (of_parameter 1) (row CommandCode.PolicySecret).parameters cursor.old) cursor.new }
-    ensures signed { ReadsBefore (λ found signature. (found.nonce, (found.cp_hash, (found.policy_ref, (found.expiration, (signature, tt)))))) (read_kind (of_parameter 5) signature_kind) result (values_at (of_parameter 1) (row CommandCode.PolicySigned).parameters cursor.old) cursor.new }
+    ensures secret { ReadsAs (λ found.
+        (found.nonce, (found.cp_hash, (found.policy_ref, (found.expiration, tt))))) result
+        (values_at (of_parameter 1) (row CommandCode.PolicySecret).parameters cursor.old)
+        cursor.new }
+    ensures signed { ReadsBefore
+        (λ found signature. (
+          found.nonce,
+          (found.cp_hash, (found.policy_ref, (found.expiration, (signature, tt)))),
+        ))
+        (read_kind (of_parameter 5) signature_kind) result
+        (values_at (of_parameter 1) (row CommandCode.PolicySigned).parameters cursor.old)
+        cursor.new }
 {
     let nonce = fields::copied_buffer(alloc, cursor, 1, 32)?;
     let cp_hash = fields::optional(cursor, 2)?;
@@ -49,7 +59,9 @@ pub(crate) fn write(
     policy_ref: &Blob,
     expiration: &i32,
 ) -> Result<(), NoMemory>
-    ensures { Appends result out.old out.new (spell_values (row CommandCode.PolicySecret).parameters (nonce.now, (cp_hash.now, (policy_ref.now, (expiration.now, tt))))) }
+    ensures { Appends result out.old out.new
+        (spell_values (row CommandCode.PolicySecret).parameters
+        (nonce.now, (cp_hash.now, (policy_ref.now, (expiration.now, tt))))) }
 {
     spelling::sized(out, nonce.as_slice())?;
     spelling::optional(out, cp_hash)?;

@@ -14,7 +14,8 @@ use tpol_fields::{WireFault, fields, spelling};
 
 /// Reads the operand, the offset and the operation.
 pub(crate) fn read(alloc: Global, cursor: &mut Cursor) -> Result<(Blob, u16, Compare), WireFault>
-    ensures { ReadsAs (λ found. (found.0, (found.1, (found.2, tt)))) result (values_at (of_parameter 1) comparison cursor.old) cursor.new }
+    ensures { ReadsAs (λ found. (found.0, (found.1, (found.2, tt)))) result
+        (values_at (of_parameter 1) comparison cursor.old) cursor.new }
 {
     let operand = fields::copied_buffer(alloc, cursor, 1, 64)?;
     let offset = fields::number16(cursor, 2)?;
@@ -29,7 +30,8 @@ pub(crate) fn write(
     offset: u16,
     operation: Compare,
 ) -> Result<(), NoMemory>
-    ensures { Appends result out.old out.new (spell_values comparison (operand.now, (offset, (operation, tt)))) }
+    ensures { Appends result out.old out.new
+        (spell_values comparison (operand.now, (offset, (operation, tt)))) }
 {
     spelling::sized(out, operand.as_slice())?;
     spelling::number16(out, offset)?;

@@ -32,7 +32,9 @@ pub(crate) fn write(
     session: u32,
     digest: &Digest32,
 ) -> Result<(), NoMemory>
-    ensures { Appends result out.old out.new (spell_values (row CommandCode.ContextLoad).parameters ((sequence, (session, digest.now)), tt)) }
+    ensures { Appends result out.old out.new
+        (spell_values (row CommandCode.ContextLoad).parameters
+        ((sequence, (session, digest.now)), tt)) }
 {
     spelling::context(out, sequence, session, digest)
 }
@@ -47,7 +49,8 @@ pub(crate) fn read_reply(cursor: &mut Cursor) -> Result<Reply, WireFault>
 
 /// Writes the fields of the reply.
 pub(crate) fn write_reply(out: &mut Blob, session: u32) -> Result<(), NoMemory>
-    ensures { Appends result out.old out.new (spell_values (row CommandCode.ContextLoad).reply (session, tt)) }
+    ensures { Appends result out.old out.new
+        (spell_values (row CommandCode.ContextLoad).reply (session, tt)) }
 {
     spelling::number32(out, session)
 }

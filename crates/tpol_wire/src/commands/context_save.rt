@@ -39,7 +39,8 @@ pub(crate) fn write_reply(
     session: u32,
     digest: &Digest32,
 ) -> Result<(), NoMemory>
-    ensures { Appends result out.old out.new (spell_values (row CommandCode.ContextSave).reply ((sequence, (session, digest.now)), tt)) }
+    ensures { Appends result out.old out.new
+        (spell_values (row CommandCode.ContextSave).reply ((sequence, (session, digest.now)), tt)) }
 {
     spelling::context(out, sequence, session, digest)
 }

@@ -33,7 +33,8 @@ pub(crate) fn read(alloc: Global, tagged: bool, cursor: &mut Cursor) -> Result<C
 
 /// Writes the parameters.
 pub(crate) fn write(out: &mut Blob) -> Result<(), NoMemory>
-    ensures { Appends result out.old out.new (spell_values (row CommandCode.Duplicate).parameters (tt, (tt, tt))) }
+    ensures { Appends result out.old out.new
+        (spell_values (row CommandCode.Duplicate).parameters (tt, (tt, tt))) }
 {
     spelling::number16(out, 0)?;
     spelling::number16(out, TPM_ALG_NULL)
@@ -51,7 +52,8 @@ pub(crate) fn read_reply(alloc: Global, cursor: &mut Cursor) -> Result<Reply, Wi
 
 /// Writes the fields of the reply.
 pub(crate) fn write_reply(out: &mut Blob, bytes: &Blob) -> Result<(), NoMemory>
-    ensures { Appends result out.old out.new (spell_values (row CommandCode.Duplicate).reply (tt, (bytes.now, (tt, tt)))) }
+    ensures { Appends result out.old out.new
+        (spell_values (row CommandCode.Duplicate).reply (tt, (bytes.now, (tt, tt)))) }
 {
     spelling::number16(out, 0)?;
     spelling::sized(out, bytes.as_slice())?;

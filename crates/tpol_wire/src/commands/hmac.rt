@@ -31,7 +31,8 @@ pub(crate) fn read(alloc: Global, tagged: bool, cursor: &mut Cursor) -> Result<C
 
 /// Writes the parameters.
 pub(crate) fn write(out: &mut Blob, buffer: &Blob, hash: u16) -> Result<(), NoMemory>
-    ensures { Appends result out.old out.new (spell_values (row CommandCode.Hmac).parameters (buffer.now, (hash, tt))) }
+    ensures { Appends result out.old out.new
+        (spell_values (row CommandCode.Hmac).parameters (buffer.now, (hash, tt))) }
 {
     spelling::sized(out, buffer.as_slice())?;
     spelling::number16(out, hash)
@@ -47,7 +48,8 @@ pub(crate) fn read_reply(cursor: &mut Cursor) -> Result<Reply, WireFault>
 
 /// Writes the fields of the reply.
 pub(crate) fn write_reply(out: &mut Blob, digest: &Digest32) -> Result<(), NoMemory>
-    ensures { Appends result out.old out.new (spell_values (row CommandCode.Hmac).reply (digest.now, tt)) }
+    ensures { Appends result out.old out.new
+        (spell_values (row CommandCode.Hmac).reply (digest.now, tt)) }
 {
     spelling::sized_digest(out, digest)
 }

@@ -33,7 +33,8 @@ pub(crate) fn read(alloc: Global, tagged: bool, cursor: &mut Cursor) -> Result<C
 
 /// Writes the parameters.
 pub(crate) fn write(out: &mut Blob, size: u16, offset: u16) -> Result<(), NoMemory>
-    ensures { Appends result out.old out.new (spell_values (row CommandCode.NvRead).parameters (size, (offset, tt))) }
+    ensures { Appends result out.old out.new
+        (spell_values (row CommandCode.NvRead).parameters (size, (offset, tt))) }
 {
     spelling::number16(out, size)?;
     spelling::number16(out, offset)
@@ -49,7 +50,8 @@ pub(crate) fn read_reply(alloc: Global, cursor: &mut Cursor) -> Result<Reply, Wi
 
 /// Writes the fields of the reply.
 pub(crate) fn write_reply(out: &mut Blob, bytes: &Blob) -> Result<(), NoMemory>
-    ensures { Appends result out.old out.new (spell_values (row CommandCode.NvRead).reply (bytes.now, tt)) }
+    ensures { Appends result out.old out.new
+        (spell_values (row CommandCode.NvRead).reply (bytes.now, tt)) }
 {
     spelling::sized(out, bytes.as_slice())
 }

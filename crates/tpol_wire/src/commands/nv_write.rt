@@ -32,7 +32,8 @@ pub(crate) fn read(alloc: Global, tagged: bool, cursor: &mut Cursor) -> Result<C
 
 /// Writes the parameters.
 pub(crate) fn write(out: &mut Blob, bytes: &Blob, offset: u16) -> Result<(), NoMemory>
-    ensures { Appends result out.old out.new (spell_values (row CommandCode.NvWrite).parameters (bytes.now, (offset, tt))) }
+    ensures { Appends result out.old out.new
+        (spell_values (row CommandCode.NvWrite).parameters (bytes.now, (offset, tt))) }
 {
     spelling::sized(out, bytes.as_slice())?;
     spelling::number16(out, offset)

@@ -24,7 +24,8 @@ pub(crate) fn read(alloc: Global, tagged: bool, cursor: &mut Cursor) -> Result<C
 
 /// Writes the parameters.
 pub(crate) fn write(out: &mut Blob, digest: &Digest32) -> Result<(), NoMemory>
-    ensures { Appends result out.old out.new (spell_values (row CommandCode.PcrExtend).parameters (digest.now, tt)) }
+    ensures { Appends result out.old out.new
+        (spell_values (row CommandCode.PcrExtend).parameters (digest.now, tt)) }
 {
     spelling::digest_values(out, digest)
 }

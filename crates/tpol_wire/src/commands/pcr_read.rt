@@ -24,7 +24,8 @@ pub(crate) fn read(tagged: bool, cursor: &mut Cursor) -> Result<Command, WireFau
 
 /// Writes the parameters.
 pub(crate) fn write(out: &mut Blob, mask: u32) -> Result<(), NoMemory>
-    ensures { Appends result out.old out.new (spell_values (row CommandCode.PcrRead).parameters (mask, tt)) }
+    ensures { Appends result out.old out.new
+        (spell_values (row CommandCode.PcrRead).parameters (mask, tt)) }
 {
     spelling::selection(out, mask)
 }
@@ -50,7 +51,8 @@ pub(crate) fn write_reply(
     mask: u32,
     digests: &Digests,
 ) -> Result<(), NoMemory>
-    ensures { Appends result out.old out.new (spell_values (row CommandCode.PcrRead).reply (counter, (mask, (digests.now, tt)))) }
+    ensures { Appends result out.old out.new
+        (spell_values (row CommandCode.PcrRead).reply (counter, (mask, (digests.now, tt)))) }
 {
     spelling::number32(out, counter)?;
     spelling::selection(out, mask)?;

@@ -36,7 +36,9 @@ pub(crate) fn write(
     key: &Name,
     ticket: &Ticket,
 ) -> Result<(), NoMemory>
-    ensures { Appends result out.old out.new (spell_values (row CommandCode.PolicyAuthorize).parameters (approved.now, (policy_ref.now, (key.now, (ticket.now, tt))))) }
+    ensures { Appends result out.old out.new
+        (spell_values (row CommandCode.PolicyAuthorize).parameters
+        (approved.now, (policy_ref.now, (key.now, (ticket.now, tt))))) }
 {
     spelling::sized_digest(out, approved)?;
     ticketed::write(out, policy_ref, key, ticket)

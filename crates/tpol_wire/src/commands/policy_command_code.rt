@@ -22,7 +22,8 @@ pub(crate) fn read(tagged: bool, cursor: &mut Cursor) -> Result<Command, WireFau
 
 /// Writes the parameters.
 pub(crate) fn write(out: &mut Blob, code: u32) -> Result<(), NoMemory>
-    ensures { Appends result out.old out.new (spell_values (row CommandCode.PolicyCommandCode).parameters (code, tt)) }
+    ensures { Appends result out.old out.new
+        (spell_values (row CommandCode.PolicyCommandCode).parameters (code, tt)) }
 {
     spelling::number32(out, code)
 }

@@ -13,7 +13,8 @@ use tpol_fields::{WireFault, fields, spelling};
 
 /// Reads the handle and the parameters.
 pub(crate) fn read(tagged: bool, cursor: &mut Cursor) -> Result<Command, WireFault>
-    ensures { Reads result (body_at CommandCode.PolicyDuplicationSelect tagged cursor.old) cursor.new }
+    ensures { Reads result (body_at CommandCode.PolicyDuplicationSelect tagged cursor.old)
+        cursor.new }
 {
     let session = session::read(tagged, cursor)?;
     let object = fields::name(cursor, 1)?;
@@ -34,7 +35,9 @@ pub(crate) fn write(
     parent: &Name,
     include: bool,
 ) -> Result<(), NoMemory>
-    ensures { Appends result out.old out.new (spell_values (row CommandCode.PolicyDuplicationSelect).parameters (object.now, (parent.now, (include, tt)))) }
+    ensures { Appends result out.old out.new
+        (spell_values (row CommandCode.PolicyDuplicationSelect).parameters
+        (object.now, (parent.now, (include, tt)))) }
 {
     spelling::name(out, object)?;
     spelling::name(out, parent)?;

@@ -30,7 +30,8 @@ pub(crate) fn read_reply(cursor: &mut Cursor) -> Result<Reply, WireFault>
 
 /// Writes the fields of the reply.
 pub(crate) fn write_reply(out: &mut Blob, digest: &Digest32) -> Result<(), NoMemory>
-    ensures { Appends result out.old out.new (spell_values (row CommandCode.PolicyGetDigest).reply (digest.now, tt)) }
+    ensures { Appends result out.old out.new
+        (spell_values (row CommandCode.PolicyGetDigest).reply (digest.now, tt)) }
 {
     spelling::sized_digest(out, digest)
 }

@@ -22,7 +22,8 @@ pub(crate) fn read(tagged: bool, cursor: &mut Cursor) -> Result<Command, WireFau
 
 /// Writes the parameters.
 pub(crate) fn write(out: &mut Blob, locality: u8) -> Result<(), NoMemory>
-    ensures { Appends result out.old out.new (spell_values (row CommandCode.PolicyLocality).parameters (locality, tt)) }
+    ensures { Appends result out.old out.new
+        (spell_values (row CommandCode.PolicyLocality).parameters (locality, tt)) }
 {
     spelling::byte(out, locality)
 }

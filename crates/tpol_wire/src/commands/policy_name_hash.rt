@@ -22,7 +22,8 @@ pub(crate) fn read(tagged: bool, cursor: &mut Cursor) -> Result<Command, WireFau
 
 /// Writes the parameters.
 pub(crate) fn write(out: &mut Blob, digest: &Digest32) -> Result<(), NoMemory>
-    ensures { Appends result out.old out.new (spell_values (row CommandCode.PolicyNameHash).parameters (digest.now, tt)) }
+    ensures { Appends result out.old out.new
+        (spell_values (row CommandCode.PolicyNameHash).parameters (digest.now, tt)) }
 {
     spelling::sized_digest(out, digest)
 }

@@ -23,7 +23,8 @@ pub(crate) fn read(alloc: Global, tagged: bool, cursor: &mut Cursor) -> Result<C
 
 /// Writes the parameters.
 pub(crate) fn write(out: &mut Blob, digests: &Digests) -> Result<(), NoMemory>
-    ensures { Appends result out.old out.new (spell_values (row CommandCode.PolicyOr).parameters (digests.now, tt)) }
+    ensures { Appends result out.old out.new
+        (spell_values (row CommandCode.PolicyOr).parameters (digests.now, tt)) }
 {
     spelling::digests(out, digests)
 }

@@ -27,7 +27,8 @@ pub(crate) fn read(tagged: bool, cursor: &mut Cursor) -> Result<Command, WireFau
 
 /// Writes the parameters.
 pub(crate) fn write(out: &mut Blob, given: &Option<Digest32>, mask: u32) -> Result<(), NoMemory>
-    ensures { Appends result out.old out.new (spell_values (row CommandCode.PolicyPcr).parameters (given.now, (mask, tt))) }
+    ensures { Appends result out.old out.new
+        (spell_values (row CommandCode.PolicyPcr).parameters (given.now, (mask, tt))) }
 {
     spelling::optional(out, given)?;
     spelling::selection(out, mask)

@@ -10,7 +10,8 @@ use tpol_fields::WireFault;
 
 /// Reads the handle.
 pub(crate) fn read(tagged: bool, cursor: &mut Cursor) -> Result<Command, WireFault>
-    ensures { Reads result (body_at CommandCode.PolicyPhysicalPresence tagged cursor.old) cursor.new }
+    ensures { Reads result (body_at CommandCode.PolicyPhysicalPresence tagged cursor.old)
+        cursor.new }
 {
     let session = session::read(tagged, cursor)?;
     Ok(Command::PolicyPhysicalPresence { session })

@@ -54,7 +54,8 @@ pub(crate) fn write_reply(
     timeout: Option<u64>,
     ticket: &Ticket,
 ) -> Result<(), NoMemory>
-    ensures { Appends result out.old out.new (spell_values (row CommandCode.PolicySecret).reply ((timeout, ticket.now), tt)) }
+    ensures { Appends result out.old out.new
+        (spell_values (row CommandCode.PolicySecret).reply ((timeout, ticket.now), tt)) }
 {
     spelling::timed_ticket(out, timeout, ticket)
 }

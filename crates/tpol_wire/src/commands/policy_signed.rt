@@ -49,7 +49,9 @@ pub(crate) fn write(
     expiration: &i32,
     signature: &Digest32,
 ) -> Result<(), NoMemory>
-    ensures { Appends result out.old out.new (spell_values (row CommandCode.PolicySigned).parameters (nonce.now, (cp_hash.now, (policy_ref.now, (expiration.now, (signature.now, tt)))))) }
+    ensures { Appends result out.old out.new
+        (spell_values (row CommandCode.PolicySigned).parameters
+        (nonce.now, (cp_hash.now, (policy_ref.now, (expiration.now, (signature.now, tt)))))) }
 {
     assertion::write(out, nonce, cp_hash, policy_ref, expiration)?;
     spelling::signature(out, signature)
@@ -69,7 +71,8 @@ pub(crate) fn write_reply(
     timeout: Option<u64>,
     ticket: &Ticket,
 ) -> Result<(), NoMemory>
-    ensures { Appends result out.old out.new (spell_values (row CommandCode.PolicySigned).reply ((timeout, ticket.now), tt)) }
+    ensures { Appends result out.old out.new
+        (spell_values (row CommandCode.PolicySigned).reply ((timeout, ticket.now), tt)) }
 {
     spelling::timed_ticket(out, timeout, ticket)
 }

@@ -39,7 +39,9 @@ pub(crate) fn write(
     key: &Name,
     ticket: &Ticket,
 ) -> Result<(), NoMemory>
-    ensures { Appends result out.old out.new (spell_values (row CommandCode.PolicyTicket).parameters (timeout, (cp_hash.now, (policy_ref.now, (key.now, (ticket.now, tt)))))) }
+    ensures { Appends result out.old out.new
+        (spell_values (row CommandCode.PolicyTicket).parameters
+        (timeout, (cp_hash.now, (policy_ref.now, (key.now, (ticket.now, tt)))))) }
 {
     spelling::timeout(out, timeout)?;
     spelling::optional(out, cp_hash)?;

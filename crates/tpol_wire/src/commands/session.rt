@@ -11,7 +11,8 @@ use tpol_fields::{HandleType, WireFault, fields};
 
 /// Reads the policy session; `tagged` says whether the tag announces an authorization, which there is not to be.
 pub(crate) fn read(tagged: bool, cursor: &mut Cursor) -> Result<u32, WireFault>
-    ensures { ReadsAs (λ session. ((session, tt), tt)) result (front_at (handle_type HandleType.PolicySession ∷ []) false tagged cursor.old) cursor.new }
+    ensures { ReadsAs (λ session. ((session, tt), tt)) result
+        (front_at (handle_type HandleType.PolicySession ∷ []) false tagged cursor.old) cursor.new }
 {
     let session = fields::handle(cursor, 1, HandleType::PolicySession)?;
     authorization::none(tagged)?;

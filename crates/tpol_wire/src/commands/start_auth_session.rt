@@ -35,7 +35,9 @@ pub(crate) fn read(tagged: bool, cursor: &mut Cursor) -> Result<Command, WireFau
 
 /// Writes the parameters.
 pub(crate) fn write(out: &mut Blob, nonce: &Digest32) -> Result<(), NoMemory>
-    ensures { Appends result out.old out.new (spell_values (row CommandCode.StartAuthSession).parameters (nonce.now, (tt, (tt, (tt, (tt, tt)))))) }
+    ensures { Appends result out.old out.new
+        (spell_values (row CommandCode.StartAuthSession).parameters
+        (nonce.now, (tt, (tt, (tt, (tt, tt)))))) }
 {
     spelling::sized_digest(out, nonce)?;
     spelling::number16(out, 0)?;
@@ -55,7 +57,8 @@ pub(crate) fn read_reply(cursor: &mut Cursor) -> Result<Reply, WireFault>
 
 /// Writes the fields of the reply.
 pub(crate) fn write_reply(out: &mut Blob, session: u32, nonce: &Digest32) -> Result<(), NoMemory>
-    ensures { Appends result out.old out.new (spell_values (row CommandCode.StartAuthSession).reply (session, (nonce.now, tt))) }
+    ensures { Appends result out.old out.new
+        (spell_values (row CommandCode.StartAuthSession).reply (session, (nonce.now, tt))) }
 {
     spelling::number32(out, session)?;
     spelling::sized_digest(out, nonce)

@@ -20,7 +20,8 @@ pub(crate) fn read(
     n: u8,
 ) -> Result<(Blob, Name, Ticket), WireFault>
     requires { n ≤ 3 }
-    ensures { ReadsAs (λ found. (found.0, (found.1, (found.2, tt)))) result (values_at (of_parameter n) ticketed cursor.old) cursor.new }
+    ensures { ReadsAs (λ found. (found.0, (found.1, (found.2, tt)))) result
+        (values_at (of_parameter n) ticketed cursor.old) cursor.new }
 {
     let policy_ref = fields::copied_buffer(alloc, cursor, n, 64)?;
     let key = fields::name(cursor, n + 1)?;
@@ -35,7 +36,8 @@ pub(crate) fn write(
     key: &Name,
     ticket: &Ticket,
 ) -> Result<(), NoMemory>
-    ensures { Appends result out.old out.new (spell_values ticketed (policy_ref.now, (key.now, (ticket.now, tt)))) }
+    ensures { Appends result out.old out.new
+        (spell_values ticketed (policy_ref.now, (key.now, (ticket.now, tt)))) }
 {
     spelling::sized(out, policy_ref.as_slice())?;
     spelling::name(out, key)?;

@@ -32,7 +32,8 @@ pub(crate) fn read_reply(alloc: Global, cursor: &mut Cursor) -> Result<Reply, Wi
 
 /// Writes the fields of the reply.
 pub(crate) fn write_reply(out: &mut Blob, bytes: &Blob) -> Result<(), NoMemory>
-    ensures { Appends result out.old out.new (spell_values (row CommandCode.Unseal).reply (bytes.now, tt)) }
+    ensures { Appends result out.old out.new
+        (spell_values (row CommandCode.Unseal).reply (bytes.now, tt)) }
 {
     spelling::sized(out, bytes.as_slice())
 }

@@ -30,7 +30,9 @@ pub(crate) fn read(tagged: bool, cursor: &mut Cursor) -> Result<Command, WireFau
 
 /// Writes the parameters.
 pub(crate) fn write(out: &mut Blob, digest: &Digest32, signature: &Digest32) -> Result<(), NoMemory>
-    ensures { Appends result out.old out.new (spell_values (row CommandCode.VerifySignature).parameters (digest.now, (signature.now, tt))) }
+    ensures { Appends result out.old out.new
+        (spell_values (row CommandCode.VerifySignature).parameters
+        (digest.now, (signature.now, tt))) }
 {
     spelling::sized_digest(out, digest)?;
     spelling::signature(out, signature)
@@ -46,7 +48,8 @@ pub(crate) fn read_reply(alloc: Global, cursor: &mut Cursor) -> Result<Reply, Wi
 
 /// Writes the fields of the reply.
 pub(crate) fn write_reply(out: &mut Blob, ticket: &Ticket) -> Result<(), NoMemory>
-    ensures { Appends result out.old out.new (spell_values (row CommandCode.VerifySignature).reply (ticket.now, tt)) }
+    ensures { Appends result out.old out.new
+        (spell_values (row CommandCode.VerifySignature).reply (ticket.now, tt)) }
 {
     spelling::ticket(out, ticket)
 }
