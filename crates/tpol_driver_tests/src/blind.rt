@@ -3,6 +3,7 @@
 
 ghost use Rattle.std.specs.Prelude.{◌≤◌, All, IsTrue, length};
 
+use crate::steps::{DENIED, NONCE_SEED, OK, START, Step, is_made};
 use std::alloc::Global;
 use tpol_base::{Blob, Digest32, Digests, Name, NoMemory, Rc, Text};
 use tpol_driver::{
@@ -13,31 +14,7 @@ use tpol_goal::{Goal, Grants, Secrets};
 use tpol_name::{DirEntry, Directory};
 use tpol_tree::{Assertion, Move, Moves, Path, PathSteps, Paths};
 
-/// A command of a run, and its reply.
-#[derive(Clone, Copy)]
-struct Step<'a> {
-    command: &'static [u8],
-    reply: &'a [u8],
-}
-
-/// The nonce seed of the run.
-const NONCE_SEED: [u8; 32] =
-    *b"\x3e\x09\x99\x91\xde\x67\x52\x16\x4a\xe4\x78\xd6\xa4\xe5\x11\x61\x56\xda\xb8\xba\
-      \xe5\x2e\x11\xa5\xc8\x2b\xf4\xc1\x80\xe1\x70\x01";
-
-/// StartAuthSession with the nonce of the command 0.
-const START: &[u8] =
-    b"\x80\x01\x00\x00\x00\x3b\x00\x00\x01\x76\x40\x00\x00\x07\x40\x00\x00\x07\x00\x20\
-      \x01\xdb\x4b\xaa\x43\xff\xba\x54\x51\xe6\x42\x7b\x4b\x6a\x4e\x56\xeb\x70\x5b\x08\
-      \x93\xde\xd6\x88\x9a\x26\x16\x89\xe2\xe3\x96\xf1\x00\x00\x01\x00\x10\x00\x0b";
-
-/// Unseal refused: 000009a3.
-const DENIED: &[u8] = b"\x80\x01\x00\x00\x00\x0a\x00\x00\x09\xa3";
-
-/// The reply without fields.
-const OK: &[u8] = b"\x80\x01\x00\x00\x00\x0a\x00\x00\x00\x00";
-
-/// Its reply: the session 03000000.
+/// The reply to StartAuthSession: the session 03000000.
 const STARTED: &[u8] =
     b"\x80\x01\x00\x00\x00\x30\x00\x00\x00\x00\x03\x00\x00\x00\x00\x20\x6c\x61\x82\x7e\
       \x1e\x31\xe4\x67\xf7\xf1\xb9\xa2\xac\x88\x71\x17\x89\x03\xd6\xd7\xc8\x07\x6f\x46\
@@ -308,14 +285,6 @@ fn fill(plan: &mut BlindPlan, alloc: Global) -> Result<(), NoMemory> {
         name: Name::Hash(Digest32 { bytes: [0x22; 32] }),
         attributes: 0x40,
     })
-}
-
-/// Whether this command was made, and is the one that is wanted.
-fn is_made(made: Result<Blob, NoMemory>, command: &[u8]) -> bool {
-    match made {
-        Ok(bytes) => bytes.as_slice() == command,
-        Err(_) => false,
-    }
 }
 
 // One command and its reply in each state: the state after them, nothing where the command is another one.
