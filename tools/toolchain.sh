@@ -113,7 +113,7 @@ try() {
         return 1
     fi
     need_rt
-    say "the proved program is not built, so this answer is UNPROVED and takes a minute or two; '$name --build' proves it"
+    say "the proved program is not built, so this answer is UNPROVED and takes a minute or two; '$0 --build' proves it"
     make_room
     : >"$room/source"
     if reads_source "$1"; then
@@ -133,7 +133,7 @@ try() {
     status=$(sed -n '$s/^run=ended status=\([0-9]*\) .*/\1/p' "$room/told")
     if [ -z "$status" ]; then
         tail -n 20 "$room/told" >&2
-        fail "the try gave no answer: it has none of more than a MiB, or that takes minutes. '$name --build' makes the program"
+        fail "the try gave no answer: it has none of more than a MiB, or that takes minutes. '$0 --build' makes the program"
     fi
     if [ -n "$stem" ] && [ "$status" -eq 0 ]; then
         put_document "$stem" || return 4
