@@ -1,6 +1,8 @@
 mod Areas
+mod Causes
 mod Documents
 pub mod ExportErased
+pub mod Foretold
 mod Keys
 mod Leaves
 mod Placed

@@ -1,3 +1,4 @@
+pub mod Differences
 pub mod Laws
 pub mod Named
 pub mod Rules
