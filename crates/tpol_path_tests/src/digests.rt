@@ -9,8 +9,8 @@ use tpol_digest::{
 };
 use tpol_hash::{Inputs, hash};
 use tpol_tree::{
-    Approvals, Assertion, Closed, ClosedBranch, ClosedBranches, ClosedElement, ClosedElements,
-    Fact, Facts, Move, Path,
+    Approvals, ApprovedBy, ApprovedDoc, Assertion, Closed, ClosedBranch, ClosedBranches,
+    ClosedElement, ClosedElements, Fact, Facts, Move, Path, PathStep,
 };
 
 const OWNER: Name = Name::Handle(0x4000_0001);
@@ -395,22 +395,30 @@ fn fact(act: Move) -> Fact {
     }
 }
 
-fn or_fact(alloc: Global) -> Result<Fact, NoMemory> {
+// A copy of a PolicyOR.
+fn or_move(alloc: Global) -> Result<Move, NoMemory> {
     let digests = [
         Digest32 {
             bytes: *OWNER_THEN_REF,
         },
         Digest32 { bytes: *AUTH_VALUE },
     ];
-    Ok(fact(Move::Or(Digests::from_slice(alloc, &digests)?)))
+    let or = Move::Or(Digests::from_slice(alloc, &digests)?);
+    or.try_clone(alloc)
+}
+
+// A copy of what a session keeps of a PolicySecret.
+fn secret_fact(alloc: Global) -> Result<Fact, NoMemory> {
+    let secret = secret(alloc, OWNER, &POLICY_REF)?;
+    let fact = fact(Move::Assert(secret));
+    Ok(fact.clone()?)
 }
 
 // What a session keeps of a PolicySecret and then a PolicyOR.
 fn two_facts(alloc: Global) -> Result<Facts, NoMemory> {
     let mut facts = Facts::new(alloc)?;
-    let secret = secret(alloc, OWNER, &POLICY_REF)?;
-    facts.push(fact(Move::Assert(secret)));
-    facts.push(or_fact(alloc)?);
+    facts.push(secret_fact(alloc)?);
+    facts.push(fact(or_move(alloc)?));
     Ok(facts)
 }
 
@@ -443,5 +451,117 @@ fn has_no_digest_anew(facts: &mut Facts) -> bool {
 fn inputs_of_a_session(rt: HostRuntime) -> Result<(), NoMemory> {
     let mut facts = two_facts(rt.alloc())?;
     assert!(rt; has_two_stages(rt.alloc(), &facts) && has_no_digest_anew(&mut facts));
+    Ok(())
+}
+
+// What a PolicyAuthorizeNV hashes: the TPM's digest of an OR of a secret and of this index is made of its digest.
+fn approval_update() -> [u8; 70] {
+    let mut string = [0; 70];
+    string[32..38].copy_from_slice(&[0x00, 0x00, 0x01, 0x92, 0x00, 0x0b]);
+    string[38..].copy_from_slice(INDEX);
+    string
+}
+
+// What a PolicyAuthValue hashes.
+fn value_update() -> [u8; 36] {
+    let mut string = [0; 36];
+    string[34] = 0x01;
+    string[35] = 0x6b;
+    string
+}
+
+// Whatever the index approves.
+fn approved_by_index(alloc: Global) -> Result<Closed, NoMemory> {
+    let authorize = ClosedElement::AuthorizeNv {
+        index: Name::Hash(Digest32 { bytes: *INDEX }),
+    };
+    Ok(Closed {
+        elements: before(alloc, authorize, ClosedElements::End)?,
+    })
+}
+
+// A copy of the document "v1", of the authorization value, which the index approves.
+fn document_of_index(alloc: Global) -> Result<ApprovedDoc, NoMemory> {
+    let elements = assert_before(alloc, Assertion::AuthValue, ClosedElements::End)?;
+    let document = ApprovedDoc {
+        document: Text::from_str(alloc, "v1")?,
+        by: ApprovedBy::Index {
+            index: Name::Hash(Digest32 { bytes: *INDEX }),
+        },
+        closed: Closed { elements },
+        digest: Digest32 { bytes: *AUTH_VALUE },
+    };
+    Ok(document.clone()?)
+}
+
+fn approvals_of_index(alloc: Global) -> Result<Approvals, NoMemory> {
+    let mut approvals = Approvals::new(alloc);
+    approvals.push(document_of_index(alloc)?)?;
+    Ok(approvals)
+}
+
+fn hash_two_inputs(alloc: Global, policy: &Closed, approvals: &Approvals) -> bool {
+    match inputs_of(alloc, policy, approvals) {
+        Ok(inputs) => {
+            inputs.len() == 2
+                && is_input(&inputs, 0, &approval_update())
+                && is_input(&inputs, 1, &value_update())
+        }
+        Err(_) => false,
+    }
+}
+
+fn is_document(step: Result<PathStep, NoMemory>, name: &str) -> bool {
+    match step {
+        Ok(PathStep::Document(document)) => document.as_str() == name,
+        _ => false,
+    }
+}
+
+// Whether a path begins with the choice of this document.
+fn chooses(alloc: Global, path: &Path, name: &str) -> bool {
+    match path.steps.as_slice().first() {
+        Some(step) => is_document(step.try_clone(alloc), name),
+        None => false,
+    }
+}
+
+fn copy_chooses(alloc: Global, path: &Path, name: &str) -> bool {
+    match path.clone() {
+        Ok(copy) => chooses(alloc, &copy, name),
+        Err(_) => false,
+    }
+}
+
+fn is_way_of(alloc: Global, path: Result<Path, NoMemory>, name: &str) -> bool {
+    match path {
+        Ok(path) => copy_chooses(alloc, &path, name),
+        Err(_) => false,
+    }
+}
+
+// Whether a policy has two ways, of which the first chooses this document.
+fn has_way_of(alloc: Global, policy: &Closed, approvals: &Approvals, name: &str) -> bool {
+    match check_paths(policy, approvals) {
+        Ok(2) => is_way_of(alloc, path_at(alloc, policy, approvals, 1), name),
+        _ => false,
+    }
+}
+
+fn approves(alloc: Global, policy: &Closed) -> bool {
+    match approvals_of_index(alloc) {
+        Ok(approvals) => {
+            hash_two_inputs(alloc, policy, &approvals)
+                && has_way_of(alloc, policy, &approvals, "v1")
+        }
+        Err(_) => false,
+    }
+}
+
+// Copies of a document, of the way that chooses it and of that choice are as good as they are.
+#[test]
+fn a_copied_document_is_approved(rt: HostRuntime) -> Result<(), NoMemory> {
+    let policy = approved_by_index(rt.alloc())?;
+    assert!(rt; approves(rt.alloc(), &policy));
     Ok(())
 }
