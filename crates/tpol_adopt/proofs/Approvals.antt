@@ -1,5 +1,5 @@
 -- Authorizations say the same in their new spelling, and those that are left out are not read.
-use Rattle.std.proofs.Common.{◌≡◌, ℕ, zero, suc, List, [], ◌∷◌, ◌++◌, drop, Option, Some, None, option_map, option_and_then, is_some, codes, Bool, true, false, ◌&&◌, ◌||◌, nat_lt, Ok, refl, sym, ap, ◌∙◌, subst, ◌≤◌, arith, if◌then◌else◌}
+use Rattle.std.proofs.Common.{◌≡◌, ℕ, zero, suc, List, [], ◌∷◌, ◌++◌, drop, Option, Some, None, option_map, option_and_then, is_some, codes, Bool, true, false, not, ◌&&◌, ◌||◌, nat_lt, Ok, refl, sym, ap, ◌∙◌, subst, ◌≤◌, arith, if◌then◌else◌}
 use Rattle.std.proofs.lemmas.Slice.Eq.{bytes_eq-Decides}
 use Rattle.serde_json.specs.Data.{Data, Items, no_items, item, null, boolean, number, string, array, object, depth}
 use Rattle.serde_json.specs.Find.{as_array, as_str, get}
@@ -24,7 +24,7 @@ use Rattle.tpol_read.specs.declared.approvals.ApprovalType.{ApprovalType}
 use Rattle.tpol_read.specs.declared.approvals.ApprovalType.TheVariants as types
 use Rattle.tpol_tree.specs.declared.wishes.ApprovalWish.{ApprovalWish}
 use Rattle.tpol_tree.specs.declared.wishes.KeyWish.{KeyWish}
-use Rattle.tpol_adopt.specs.Dropped.{approving_key, innermost, is_asymmetric, is_asymmetric_key}
+use Rattle.tpol_adopt.specs.Dropped.{approving_key, innermost, is_asymmetric, is_asymmetric_key, is_by_index}
 use Rattle.tpol_adopt.specs.Edits.{edited}
 use Rattle.tpol_adopt.specs.Normal.{by_rule, item_before, normal_as, normal_items}
 use Rattle.tpol_adopt.specs.Rules.{item_rule, member_rule, new_scheme}
@@ -237,7 +237,8 @@ module _ (d : Data) (place : Place) (walk : Walk) where
   unfolding is_asymmetric
   approval_never is =
       one_or_other (says (codes "type") (codes "pem") d) _ is (λ pem. typed_never (codes "pem") types.Pem pem is_pem (tt {0}))
-      (λ rest. one_or_other (has (codes "keyPEM") d) _ rest pem_never
+      (λ rest. one_or_other (has (codes "keyPEM") d && not (is_by_index d)) _ rest
+      (λ pem. pem_never (both_true (has (codes "keyPEM") d) (not (is_by_index d)) pem).0)
       (λ last. let both = both_true (is_asymmetric_key (approving_key d)) (says (codes "type") (codes "tpm") d) last in
       typed_never (codes "tpm") types.Key both.1 is_key (by_key-never both.0)))
 

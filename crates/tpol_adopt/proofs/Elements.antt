@@ -25,7 +25,7 @@ use Rattle.tpol_elements.specs.declared.types.LeafType.{LeafType}
 use Rattle.tpol_elements.specs.declared.types.LeafType.TheVariants as types
 use Rattle.tpol_adopt.specs.Edits.{edited}
 use Rattle.tpol_adopt.specs.Normal.{normal_as}
-use Rattle.tpol_adopt.specs.Rules.{is_empty, is_parent_named, is_text, left_out_where, member_rule, new_scheme, parent_rule}
+use Rattle.tpol_adopt.specs.Rules.{is_empty, is_parent_named, has_bytes, left_out_where, member_rule, new_scheme, parent_rule}
 use Rattle.tpol_adopt.specs.Words.{has, is_word}
 use Rattle.tpol_adopt.specs.declared.edits.Edit.TheVariants.{Number, Code}
 use Rattle.tpol_adopt.specs.declared.flags.Flags.TheVariants.{OfLocality}
@@ -194,7 +194,7 @@ module _ (d : Data) (place : Place) (fewer walk : Walk) (thinner : IsThinner few
 
 -- ---- a new parent
 
-named_parent : (o : Option Data) → is_text (option_and_then as_str o) ≡ true → is_some o ≡ true
+named_parent : (o : Option Data) → has_bytes (option_and_then as_str o) ≡ true → is_some o ≡ true
 named_parent None is = cc
 named_parent (Some d) is = refl
 
@@ -254,7 +254,7 @@ module _ (d : Data) (place : Place) (walk : Walk) where
     parent_named : is_parent_named d ≡ true → (o : Option Data) → get (codes "newParentPublic") d ≡ o → Keeps (parent_in d place walk) (parent_in parent' place fewer)
     unfolding member_rule
     parent_named is (Some e) public =
-        let apart = no_path (has (codes "newParentPath") d) (is_text (option_and_then as_str (get (codes "newParentName") d))) is in
+        let apart = no_path (has (codes "newParentPath") d) (has_bytes (option_and_then as_str (get (codes "newParentName") d))) is in
         never-keeps _ _ (twice e (is_some-none _ apart.0) public (named_parent (get (codes "newParentName") d) apart.1))
     parent_named is None public =
         parent_in-again fewer walk thinner d parent' place (

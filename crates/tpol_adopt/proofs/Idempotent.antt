@@ -12,11 +12,11 @@ use Rattle.tpol_elements.specs.Types.{type_in}
 use Rattle.tpol_elements.specs.declared.types.ElementType.{ElementType}
 use Rattle.tpol_elements.specs.declared.types.ElementType.TheVariants.{Or, Leaf, Unsupported}
 use Rattle.tpol_elements.specs.declared.types.LeafType.TheVariants as types
-use Rattle.tpol_adopt.specs.Dropped.{approving_key, innermost, is_asymmetric, is_asymmetric_key}
+use Rattle.tpol_adopt.specs.Dropped.{approving_key, innermost, is_asymmetric, is_asymmetric_key, is_by_index, is_index_type}
 use Rattle.tpol_adopt.specs.Edits.{edited, hmac_digest, inner_scheme, number_or, scheme_in, text_or}
 use Rattle.tpol_adopt.specs.Laws.{IsIdempotent}
 use Rattle.tpol_adopt.specs.Normal.{by_rule, item_before, member_before, normal_as, normal_items, normal_members, with_scheme}
-use Rattle.tpol_adopt.specs.Rules.{Rows, found, is_empty, is_text, item_rule, left_out_where, member_rule, new_scheme, parent_rule, rows_of, rule_in, type_of, wrapper_rows}
+use Rattle.tpol_adopt.specs.Rules.{Rows, found, is_empty, has_bytes, item_rule, left_out_where, member_rule, new_scheme, parent_rule, rows_of, rule_in, type_of, wrapper_rows}
 use Rattle.tpol_adopt.specs.Words.{has, is_word, says}
 use Rattle.tpol_adopt.specs.declared.edits.Edit.{Edit}
 use Rattle.tpol_adopt.specs.declared.edits.Edit.TheVariants.{Number, Code, Signature}
@@ -160,8 +160,8 @@ element_stable (Some (Leaf types.Locality)) d = (refl, inl refl, (refl, inr refl
 element_stable (Some (Leaf types.CommandCode)) d = (refl, inl refl, (refl, inr refl, tt {0}))
 element_stable (Some (Leaf types.DuplicationSelect)) d =
     let type = Some (Leaf types.DuplicationSelect) in
-    let named = ap (λ o. not (is_some o) && is_text (option_and_then as_str (get (codes "newParentName") (normal_as (Element type) d)))) (same type d (codes "newParentPath") refl)
-    ∙ ap (λ o. not (has (codes "newParentPath") d) && is_text (option_and_then as_str o)) (same type d (codes "newParentName") refl) in
+    let named = ap (λ o. not (is_some o) && has_bytes (option_and_then as_str (get (codes "newParentName") (normal_as (Element type) d)))) (same type d (codes "newParentPath") refl)
+    ∙ ap (λ o. not (has (codes "newParentPath") d) && has_bytes (option_and_then as_str o)) (same type d (codes "newParentName") refl) in
     (refl, inl refl, (refl, inr (ap parent_rule named), tt {0}))
 element_stable (Some (Leaf types.Pcr)) d = (refl, inl refl, tt {0})
 element_stable (Some (Leaf types.CpHash)) d = (refl, inl refl, tt {0})
@@ -386,9 +386,9 @@ asymmetric_twice : (d : Data) → is_asymmetric (normal_as Approval d) ≡ is_as
 unfolding is_asymmetric member_rule
 asymmetric_twice d =
     let whole = normal_as Approval d in
-    ap (λ o. is_word (codes "pem") (option_and_then as_str o) || (has (codes "keyPEM") whole || (is_asymmetric_key (approving_key whole) && is_word (codes "tpm") (option_and_then as_str o)))) (approval_same d (codes "type") refl)
-    ∙ ap (λ o. says (codes "type") (codes "pem") d || (is_some o || (is_asymmetric_key (approving_key whole) && says (codes "type") (codes "tpm") d))) (approval_same d (codes "keyPEM") refl)
-    ∙ ap (λ b. says (codes "type") (codes "pem") d || (has (codes "keyPEM") d || (b && says (codes "type") (codes "tpm") d))) (ap is_asymmetric_key (approving d) ∙ asymmetric_key (approving_key d))
+    ap (λ o. is_word (codes "pem") (option_and_then as_str o) || ((has (codes "keyPEM") whole && not (is_index_type (option_and_then as_str o))) || (is_asymmetric_key (approving_key whole) && is_word (codes "tpm") (option_and_then as_str o)))) (approval_same d (codes "type") refl)
+    ∙ ap (λ o. says (codes "type") (codes "pem") d || ((is_some o && not (is_by_index d)) || (is_asymmetric_key (approving_key whole) && says (codes "type") (codes "tpm") d))) (approval_same d (codes "keyPEM") refl)
+    ∙ ap (λ b. says (codes "type") (codes "pem") d || ((has (codes "keyPEM") d && not (is_by_index d)) || (b && says (codes "type") (codes "tpm") d))) (ap is_asymmetric_key (approving d) ∙ asymmetric_key (approving_key d))
 
 ItemStays : Part → Option Data → Type 0
 ItemStays part None = Unit {0}

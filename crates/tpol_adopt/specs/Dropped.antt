@@ -1,10 +1,11 @@
 -- Authorizations by asymmetric keys, which are left out: one can only fit an AUTHORIZE that the profile refuses.
-use Rattle.std.specs.Prelude.{ℕ, suc, Bool, false, ◌&&◌, ◌||◌, List, [], ◌∷◌, ◌++◌, codes, Option, Some, None, option_and_then, unwrap_or, if◌then◌else◌}
+use Rattle.std.specs.Prelude.{ℕ, suc, Bool, false, not, ◌&&◌, ◌||◌, List, [], ◌∷◌, ◌++◌, codes, Option, Some, None, option_and_then, unwrap_or, if◌then◌else◌}
 use Rattle.std.specs.Ordering.{nat_cmp, match_ordering}
 use Rattle.std.specs.Cmp.Lexicographic.{slice_cmp}
 use Rattle.serde_json.specs.Data.{Data, null, boolean, number, string, array, object, Items, no_items, item, Members, no_members, member}
-use Rattle.serde_json.specs.Find.{get, as_array}
+use Rattle.serde_json.specs.Find.{get, as_array, as_str}
 use Rattle.tpol_json.specs.Places.{root, at_member, at_item}
+use Rattle.tpol_json.specs.Words.{same_word}
 use Rattle.tpol_json.specs.declared.place.Place.{Place}
 use Rattle.tpol_adopt.specs.Words.{has, says}
 
@@ -32,11 +33,19 @@ is_asymmetric_key (Some d) =
 abbrev pub approving_key : Data → Option Data
 approving_key d = if has (codes "keyPublic") d then get (codes "keyPublic") d else get (codes "key") d
 
--- an authorization by a key that is RSA or ECC
+abbrev pub is_index_type : Option (List ℕ) → Bool
+is_index_type None = false
+is_index_type (Some text) = same_word text [] (codes "nv")
+
+-- an authorization by an index; its type is read in any case
+abbrev pub is_by_index : Data → Bool
+is_by_index d = is_index_type (option_and_then as_str (get (codes "type") d))
+
+-- An authorization by a key that is RSA or ECC. One by an index has no key, whatever `keyPEM` stands in it.
 unfoldable pub is_asymmetric : Data → Bool
 is_asymmetric d =
     says (codes "type") (codes "pem") d
-    || (has (codes "keyPEM") d || (is_asymmetric_key (approving_key d) && says (codes "type") (codes "tpm") d))
+    || ((has (codes "keyPEM") d && not (is_by_index d)) || (is_asymmetric_key (approving_key d) && says (codes "type") (codes "tpm") d))
 
 -- where the authorizations of a document stand
 abbrev pub approvals_place : Place

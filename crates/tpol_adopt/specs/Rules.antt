@@ -1,8 +1,9 @@
 -- What becomes of each member of an exported document, and of each item of its lists.
-use Rattle.std.specs.Prelude.{ℕ, Bool, true, false, not, ◌&&◌, List, [], ◌∷◌, codes, Option, Some, None, is_some, option_and_then, Ok, Err, if◌then◌else◌}
+use Rattle.std.specs.Prelude.{ℕ, Bool, true, false, not, ◌&&◌, List, [], ◌∷◌, codes, Option, Some, None, is_some, option_and_then, unwrap_or, Ok, Err, if◌then◌else◌}
 use Rattle.std.specs.Str.{bytes_eq}
 use Rattle.serde_json.specs.Data.{Data}
 use Rattle.serde_json.specs.Find.{get, as_object, as_str}
+use Rattle.tpol_json.specs.Numbers.{after_0x}
 use Rattle.tpol_json.specs.Places.{root}
 use Rattle.tpol_elements.specs.Types.{type_in}
 use Rattle.tpol_elements.specs.declared.types.ElementType.{ElementType}
@@ -44,10 +45,10 @@ left_out_where false = Same
 abbrev pub is_empty : List ℕ → Data → Bool
 is_empty name d = is_word [] (option_and_then as_str (get name d))
 
--- whether the member is a text that is not empty
-abbrev pub is_text : Option (List ℕ) → Bool
-is_text None = false
-is_text (Some text) = not (bytes_eq text [])
+-- whether there is a text that says any bytes: it is not empty, nor `0x` alone
+abbrev pub has_bytes : Option (List ℕ) → Bool
+has_bytes None = false
+has_bytes (Some text) = not (bytes_eq (unwrap_or (after_0x text) text) [])
 
 -- whether the member is an object
 abbrev pub has_object : List ℕ → Data → Bool
@@ -70,7 +71,7 @@ key_rows d =
 -- FAPI goes by a parent's Name where it has one, beside which stands the parent's public area
 abbrev pub is_parent_named : Data → Bool
 is_parent_named d =
-    not (has (codes "newParentPath") d) && is_text (option_and_then as_str (get (codes "newParentName") d))
+    not (has (codes "newParentPath") d) && has_bytes (option_and_then as_str (get (codes "newParentName") d))
 
 abbrev pub parent_rule : Bool → Rule
 parent_rule true = LeftOut

@@ -3,13 +3,13 @@
 ghost use Rattle.std.specs.Prelude.{◌≡◌, ◌++◌, Some, option_map, IfOk, OnOk};
 ghost use Rattle.serde_json.specs.View.{items_view, view};
 ghost use Rattle.tpol_json.specs.Places.{at_item};
-ghost use Rattle.tpol_adopt.specs.Dropped.{approvals_place, approving_key, dropped, dropped_at, dropped_from, innermost, is_asymmetric, is_asymmetric_key};
+ghost use Rattle.tpol_adopt.specs.Dropped.{approvals_place, approving_key, dropped, dropped_at, dropped_from, innermost, is_asymmetric, is_asymmetric_key, is_by_index};
 
 use crate::words::{has, says};
 use serde_json::Value;
 use std::alloc::Global;
 use tpol_base::NoMemory;
-use tpol_json::{Notes, Place, PlaceRef, member};
+use tpol_json::{Notes, Place, PlaceRef, member, same_word};
 
 /// What a public area is within its wrappers, if it has any.
 fn innermost(value: &Value) -> &Value
@@ -39,12 +39,23 @@ fn approving_key(value: &Value) -> Option<&Value>
     }
 }
 
-/// Whether an authorization is by a key that is RSA or ECC.
+// Whether an authorization is by an index. Its type is read in any case.
+fn is_by_index(value: &Value) -> bool
+    ensures { result ≡ is_by_index (view value.now) }
+{
+    match member(value, "type").and_then(Value::as_str) {
+        Some(text) => same_word(text, "", "nv"),
+        None => false,
+    }
+}
+
+/// Whether an authorization is by a key that is RSA or ECC. One by an index has no key, whatever `keyPEM` stands
+/// in it.
 #[tactic(auto, unfolding(crate::specs::Dropped::is_asymmetric))]
 pub fn is_asymmetric(value: &Value) -> bool
     ensures { result ≡ is_asymmetric (view value.now) }
 {
-    if says(value, "type", "pem") || has(value, "keyPEM") {
+    if says(value, "type", "pem") || (has(value, "keyPEM") && !is_by_index(value)) {
         return true;
     }
     match approving_key(value) {

@@ -6,7 +6,7 @@ ghost use Rattle.serde_json.specs.Find.{as_str, get};
 ghost use Rattle.serde_json.specs.View.{view};
 ghost use Rattle.tpol_elements.specs.declared.types.ElementType.TheVariants.{Leaf};
 ghost use Rattle.tpol_elements.specs.declared.types.LeafType.TheVariants as leaf;
-ghost use Rattle.tpol_adopt.specs.Rules.{element_rows, has_object, is_empty, is_parent_named, is_text, item_rule, key_rows, left_out_where, member_rule, new_scheme, parent_rule, rows_of, rule_in, run_rows, type_of, wrapper_rows};
+ghost use Rattle.tpol_adopt.specs.Rules.{element_rows, has_bytes, has_object, is_empty, is_parent_named, item_rule, key_rows, left_out_where, member_rule, new_scheme, parent_rule, rows_of, rule_in, run_rows, type_of, wrapper_rows};
 
 use crate::asymmetric::is_asymmetric;
 use crate::edits::Edit;
@@ -87,15 +87,15 @@ fn has_object(value: &Value, name: &str) -> bool
 fn is_parent_named(value: &Value) -> bool
     ensures { result ≡ is_parent_named (view value.now) }
 {
-    !has(value, "newParentPath") && has_text(value, "newParentName")
+    !has(value, "newParentPath") && has_bytes(value, "newParentName")
 }
 
-// Whether the member is a text that is not empty.
-fn has_text(value: &Value, name: &str) -> bool
-    ensures { result ≡ is_text (option_and_then as_str (get name.now (view value.now))) }
+// Whether the member is a text that says any bytes: it is not empty, nor `0x` alone.
+fn has_bytes(value: &Value, name: &str) -> bool
+    ensures { result ≡ has_bytes (option_and_then as_str (get name.now (view value.now))) }
 {
     match member(value, name).and_then(Value::as_str) {
-        Some(text) => text != "",
+        Some(text) => text.strip_prefix("0x").unwrap_or(text) != "",
         None => false,
     }
 }
