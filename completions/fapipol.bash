@@ -6,6 +6,7 @@ _fapipol() {
     case $COMP_CWORD:${COMP_WORDS[COMP_CWORD - 1]} in
         1:*) all=$("$1" --words 2>/dev/null | sed 's/ .*//' | uniq) ;;
         2:compile | 2:paths | 2:lint | 2:digests) all=--scene ;;
+        2:export) all=--differences ;;
         2:run) all='--blind --tickets' ;;
         2:explain) all='--blind --cert --tickets' ;;
         2:import | 2:check) all=$(_fapipol_names json) ;;

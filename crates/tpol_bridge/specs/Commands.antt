@@ -2,12 +2,13 @@
 use Rattle.std.specs.Prelude.{ℕ, List}
 use Rattle.tpol_base.specs.declared.document.Document.{Document}
 use Rattle.tpol_bridge.specs.Adopt.{adopt_step}
+use Rattle.tpol_bridge.specs.Differences.{differences_step}
 use Rattle.tpol_bridge.specs.Digests.{digests_step}
 use Rattle.tpol_bridge.specs.FapiText.{fapi_text_step}
 use Rattle.tpol_bridge.specs.Steps.{steps_step}
 use Rattle.tpol_bridge.specs.Words.{reads_source_for, request_of, uses_shelf_for}
 use Rattle.tpol_bridge.specs.declared.request.Request.{Request}
-use Rattle.tpol_bridge.specs.declared.request.Request.TheVariants.{Adopt, Digests, Export, Steps, Who}
+use Rattle.tpol_bridge.specs.declared.request.Request.TheVariants.{Adopt, Differences, Digests, Export, Steps, Who}
 use Rattle.tpol_front.specs.Commands.{Commands}
 use Rattle.tpol_steps.specs.declared.answer.Answer.{Answer}
 use Rattle.tpol_steps.specs.Steps.{Step}
@@ -17,6 +18,7 @@ use Rattle.tpol_who.specs.Who.{who_step}
 abbrev pub request_step : Request → List ℕ → List Document → Step Answer
 request_step Adopt input all = adopt_step input
 request_step Export input all = fapi_text_step input
+request_step Differences input all = differences_step input
 request_step (Digests scene) input all = digests_step scene input all
 request_step (Steps position scene) input all = steps_step position scene input all
 request_step Who input all = who_step input all

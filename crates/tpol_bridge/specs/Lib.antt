@@ -1,5 +1,6 @@
 pub mod Adopt
 pub mod Commands
+pub mod Differences
 pub mod Digests
 pub mod Exports
 pub mod FapiText

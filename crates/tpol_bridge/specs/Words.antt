@@ -4,7 +4,7 @@ use Rattle.std.specs.Option.{is_some, option_map_or}
 use Rattle.std.specs.Str.{bytes_eq}
 use Rattle.tpol_base.specs.PolicyName.{is_policy_name, without_folder}
 use Rattle.tpol_bridge.specs.declared.request.Request.{Request}
-use Rattle.tpol_bridge.specs.declared.request.Request.TheVariants.{Adopt, Digests, Export, Steps, Who}
+use Rattle.tpol_bridge.specs.declared.request.Request.TheVariants.{Adopt, Differences, Digests, Export, Steps, Who}
 use Rattle.tpol_front.specs.Numbers.{number_of_word}
 
 -- the command of one word
@@ -35,10 +35,11 @@ abbrev pub steps_request : Option (List ℕ) → Option ℕ → Option Request
 steps_request scene None = None
 steps_request scene (Some position) = Some (Steps position scene)
 
--- the command of two words: `steps` and a number
+-- the command of two words: `steps` and a number, or `export` and `--differences`
 abbrev pub two_word_request : List ℕ → List ℕ → Option Request
-two_word_request word position =
-    if bytes_eq word (codes "steps") then steps_request None (number_of_word position) else None
+two_word_request word second =
+    if bytes_eq word (codes "steps") then steps_request None (number_of_word second)
+    else (if bytes_eq word (codes "export") && bytes_eq second (codes "--differences") then Some Differences else None)
 
 -- the command `steps` with this scene
 abbrev pub steps_scene_request : Option (List ℕ) → Option ℕ → Option Request
@@ -55,7 +56,7 @@ four_word_request word position option name =
 abbrev pub request_of : List (List ℕ) → Option Request
 request_of [] = None
 request_of (word ∷ []) = one_word_request word
-request_of (word ∷ position ∷ []) = two_word_request word position
+request_of (word ∷ second ∷ []) = two_word_request word second
 request_of (word ∷ option ∷ name ∷ []) = three_word_request word option name
 request_of (word ∷ position ∷ option ∷ name ∷ []) = four_word_request word position option name
 request_of (word ∷ second ∷ third ∷ fourth ∷ fifth ∷ rest) = None
@@ -72,6 +73,7 @@ reads_source words = option_map_or reads_source_for (request_of words) false
 abbrev pub uses_shelf_for : Request → Bool
 uses_shelf_for Adopt = false
 uses_shelf_for Export = false
+uses_shelf_for Differences = false
 uses_shelf_for (Digests scene) = is_some scene
 uses_shelf_for (Steps position scene) = true
 uses_shelf_for Who = true

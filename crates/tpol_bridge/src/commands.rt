@@ -1,6 +1,7 @@
 //! The program's commands.
 
 use crate::adopt::adopt;
+use crate::differences::differences;
 use crate::digests::digests;
 use crate::fapi_text::fapi_text;
 use crate::request::{Request, request_of_words};
@@ -39,6 +40,7 @@ impl Command for Request {
         match self {
             Request::Adopt => adopt(alloc, input),
             Request::Export => fapi_text(alloc, input),
+            Request::Differences => differences(alloc, input),
             Request::Digests { scene } => digests(alloc, scene, input, shelf),
             Request::Steps { position, scene } => steps(alloc, *position, scene, input, shelf),
             Request::Who => who(alloc, input, shelf),

@@ -13,6 +13,8 @@ pub enum Request {
     Adopt,
     /// `export`: the text of that policy in FAPI's spelling.
     Export,
+    /// `export --differences`: its elements after which FAPI 3.2.1 has another digest.
+    Differences,
     /// `digests`, `digests --scene NAME`: the digest after each of its elements, filled with a scene of the shelf.
     Digests { scene: Option<Text> },
     /// `steps P`, `steps P --scene NAME`: the policy commands of the path at a position, from 1, with the digest after
@@ -28,7 +30,7 @@ pub fn request_of_words(alloc: Global, words: &Vec<String>) -> Result<Option<Req
 {
     match words.as_slice() {
         [word] => Ok(one_word_request(word.as_str())),
-        [word, position] => Ok(two_word_request(word.as_str(), position.as_str())),
+        [word, second] => Ok(two_word_request(word.as_str(), second.as_str())),
         [word, option, name] => {
             three_word_request(alloc, word.as_str(), option.as_str(), name.as_str())
         }
@@ -88,11 +90,14 @@ fn digests_request(alloc: Global, name: &str) -> Result<Option<Request>, NoMemor
     Ok(None)
 }
 
-fn two_word_request(word: &str, position: &str) -> Option<Request>
-    ensures { result ≡ two_word_request word.now position.now }
+fn two_word_request(word: &str, second: &str) -> Option<Request>
+    ensures { result ≡ two_word_request word.now second.now }
 {
     if word == "steps" {
-        return steps_request(None, number_of_word(position));
+        return steps_request(None, number_of_word(second));
+    }
+    if word == "export" && second == "--differences" {
+        return Some(Request::Differences);
     }
     None
 }
