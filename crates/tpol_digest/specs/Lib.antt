@@ -4,6 +4,7 @@ pub mod Images
 pub mod Inputs
 pub mod Laws
 pub mod Limits
+pub mod Memos
 pub mod Paths
 pub mod Pieces
 pub mod Positions

@@ -4,19 +4,20 @@ ghost use Rattle.std.specs.Prelude.{◌≡◌, false, ◌+◌, ◌-◌, ◌<◌,
 ghost use Rattle.std.specs.List.{list_any, slice_get};
 ghost use Rattle.tpol_digest.specs.Digest as digest;
 ghost use Rattle.tpol_digest.specs.Limits.{AreWithinLimits};
+ghost use Rattle.tpol_digest.specs.Memos.{IsMemo, Knows, KnowsBranches, KnowsFirst};
 ghost use Rattle.tpol_digest.specs.Paths as spec;
 ghost use Rattle.tpol_digest.specs.Positions as at;
 ghost use Rattle.tpol_digest.specs.Sound.{IsSound};
 ghost use Rattle.tpol_digest.specs.WellFormed.{IsWellFormed};
+ghost use Rattle.tpol_tree.specs.declared.closed.ClosedElement.TheVariants.{Or as OneOr};
 
 use crate::approval::{accepts, approval};
 use crate::counting::{extent_of_element, extent_of_elements};
 use crate::limits::MAX_LEVELS;
-use crate::policy::{
-    digest_after_element, digest_after_elements, or_digest, push_branch_digests, zero_digest,
-};
+use crate::memo::{Before, BeforeBranches, Memo, memo_of_elements};
+use crate::policy::{push_branch_digests, zero_digest};
 use std::alloc::Global;
-use tpol_base::{Blob, Digest32, Digests, NoMemory};
+use tpol_base::{Blob, Digests, NoMemory};
 use tpol_tree::{
     Approvals, ApprovedDoc, Closed, ClosedBranches, ClosedElement, ClosedElements, Move, Moves,
     Path, PathStep, PathSteps,
@@ -59,6 +60,63 @@ pub fn path_at(
     ensures outside_first { IsWellFormed policy.now approvals.now
         → IfOk result (λ path. IsTrue path.outside → spec.BeginsWithZeroApproval path.moves) }
 {
+    path_from(
+        alloc,
+        policy,
+        &Before::without_memo(zero_digest()),
+        approvals,
+        position,
+    )
+}
+
+/// The same way, of a policy whose digests are kept: none of them is computed again.
+pub fn path_at_with_memo(
+    alloc: Global,
+    policy: &Closed,
+    memo: &Memo,
+    approvals: &Approvals,
+    position: u32,
+) -> Result<Path, NoMemory>
+    requires memo { IsMemo policy.now.elements digest.zero_digest memo.now }
+    requires within { AreWithinLimits (spec.paths_of policy.now approvals.now) }
+    requires positions { (1 ≤ position)
+        × (position ≤ length (spec.paths_of policy.now approvals.now)) }
+    ensures path { IfOk result
+        (λ path. slice_get (spec.paths_of policy.now approvals.now) (position - 1) ≡ Some path) }
+    ensures outside { IfOk result (λ path. path.outside ≡ list_any spec.is_outside path.steps) }
+    ensures digest { IfOk result (λ path. digest.digest_of_moves path.moves
+        ≡ digest.policy_digest policy.now) }
+    ensures sound { IsWellFormed policy.now approvals.now
+        → IfOk result (λ path. IsSound path.moves) }
+    ensures outside_first { IsWellFormed policy.now approvals.now
+        → IfOk result (λ path. IsTrue path.outside → spec.BeginsWithZeroApproval path.moves) }
+{
+    path_from(alloc, policy, &Before::start(memo), approvals, position)
+}
+
+// The same, behind what stands before the policy: 32 zero bytes, and its digests where they are kept.
+fn path_from(
+    alloc: Global,
+    policy: &Closed,
+    before: &Before<'_>,
+    approvals: &Approvals,
+    position: u32,
+) -> Result<Path, NoMemory>
+    requires knows { Knows before.now policy.now.elements }
+    requires zero { before.now.digest ≡ digest.zero_digest }
+    requires within { AreWithinLimits (spec.paths_of policy.now approvals.now) }
+    requires positions { (1 ≤ position)
+        × (position ≤ length (spec.paths_of policy.now approvals.now)) }
+    ensures path { IfOk result
+        (λ path. slice_get (spec.paths_of policy.now approvals.now) (position - 1) ≡ Some path) }
+    ensures outside { IfOk result (λ path. path.outside ≡ list_any spec.is_outside path.steps) }
+    ensures digest { IfOk result (λ path. digest.digest_of_moves path.moves
+        ≡ digest.policy_digest policy.now) }
+    ensures sound { IsWellFormed policy.now approvals.now
+        → IfOk result (λ path. IsSound path.moves) }
+    ensures outside_first { IsWellFormed policy.now approvals.now
+        → IfOk result (λ path. IsTrue path.outside → spec.BeginsWithZeroApproval path.moves) }
+{
     let walk = Walk {
         alloc,
         approvals: approvals.as_slice(),
@@ -67,7 +125,7 @@ pub fn path_at(
     let count = extent_of_elements(walk.approvals, walk.levels, &policy.elements).paths;
     let mut path = empty_path(alloc);
     let index = u64::from(position - 1);
-    push_from_zero(&walk, &mut path, &policy.elements, index, count)?;
+    push_from_zero(&walk, &mut path, &policy.elements, before, index, count)?;
     Ok(path)
 }
 
@@ -107,9 +165,12 @@ fn push_from_zero(
     walk: &Walk<'_>,
     path: &mut Path,
     elements: &ClosedElements,
+    before: &Before<'_>,
     index: u64,
     count: u64,
 ) -> Result<(), NoMemory>
+    requires knows { Knows before.now elements.now }
+    requires zero { before.now.digest ≡ digest.zero_digest }
     requires counted { count ≡ length
         (at.element_list_ways walk.now.approvals.now walk.now.levels elements.now
         digest.zero_digest) }
@@ -119,12 +180,16 @@ fn push_from_zero(
         (at.element_list_ways walk.now.approvals.now walk.now.levels elements.now
         digest.zero_digest) index path.new) }
 {
-    if has_or(elements) {
-        let _ = push_elements(walk, path, elements, zero_digest(), index, count)?;
-        Ok(())
-    } else {
-        push_unbranched(walk, path, elements, index, count)
+    if !has_or(elements) {
+        return push_unbranched(walk, path, elements, index, count);
     }
+    if before.memo.is_some() {
+        return push_elements(walk, path, elements, before, index, count);
+    }
+    let memo = memo_of_elements(walk.alloc, elements, zero_digest())?;
+    let pushed = push_elements(walk, path, elements, &Before::start(&memo), index, count);
+    drop(memo);
+    pushed
 }
 
 // The same of elements among which no OR stands. Their ways are the same from any digest.
@@ -185,89 +250,113 @@ fn push_unbranched_element(
     }
 }
 
-// The same of any elements, where `before` is the digest before them; answers the digest after them.
+// The same of any elements, behind what stands before them.
 #[cycle(at_position)]
 fn push_elements(
     walk: &Walk<'_>,
     path: &mut Path,
     elements: &ClosedElements,
-    before: Digest32,
+    before: &Before<'_>,
     index: u64,
     count: u64,
-) -> Result<Digest32, NoMemory>
+) -> Result<(), NoMemory>
+    requires knows { Knows before.now elements.now }
     requires counted { count ≡ length
-        (at.element_list_ways walk.now.approvals.now walk.now.levels elements.now before) }
+        (at.element_list_ways walk.now.approvals.now walk.now.levels elements.now before.now.digest) }
     requires few { count ≤ 65536 }
     requires inside { index < count }
-    ensures digest { IfOk result (λ after. after ≡ digest.digest_at elements.now before) }
-    ensures path { OnOk result
+    ensures { OnOk result
         (at.GoesOn path.old (at.element_list_ways walk.now.approvals.now walk.now.levels
-        elements.now before) index path.new) }
+        elements.now before.now.digest) index path.new) }
 {
     match elements {
-        ClosedElements::End => Ok(before),
+        ClosedElements::End => Ok(()),
         ClosedElements::More(element, rest) => {
             let choices = extent_of_element(walk.approvals, walk.levels, element).paths;
             let behind = count / choices;
-            let after = push_element(walk, path, element, before, index / behind)?;
-            push_elements(walk, path, rest, after, index % behind, behind)
+            push_element(walk, path, element, rest, before, index / behind)?;
+            let after = before.behind(element, rest);
+            push_elements(walk, path, rest, &after, index % behind, behind)
         }
     }
 }
 
-// The same of one element.
+// The same of one element, which comes before the rest of its list.
 #[cycle(at_position)]
 fn push_element(
     walk: &Walk<'_>,
     path: &mut Path,
     element: &ClosedElement,
-    before: Digest32,
+    rest: &ClosedElements,
+    before: &Before<'_>,
     index: u64,
-) -> Result<Digest32, NoMemory>
+) -> Result<(), NoMemory>
+    requires knows { KnowsFirst before.now element.now rest.now }
     requires few { length (at.element_ways walk.now.approvals.now walk.now.levels element.now
-        before) ≤ 65536 }
+        before.now.digest) ≤ 65536 }
     requires inside { index < length
-        (at.element_ways walk.now.approvals.now walk.now.levels element.now before) }
-    ensures digest { IfOk result (λ after. after ≡ digest.digest_at_element element.now before) }
-    ensures path { OnOk result
+        (at.element_ways walk.now.approvals.now walk.now.levels element.now before.now.digest) }
+    ensures { OnOk result
         (at.GoesOn path.old (at.element_ways walk.now.approvals.now walk.now.levels element.now
-        before) index path.new) }
+        before.now.digest) index path.new) }
 {
     match element {
         ClosedElement::Or(branches) => {
-            let mut digests = Digests::new(walk.alloc);
-            push_branch(walk, path, &mut digests, branches, before, 1, index)?;
-            let after = or_digest(digests.as_slice());
-            path.moves.push(Move::Or(digests))?;
-            Ok(after)
+            push_branch(
+                walk,
+                path,
+                branches,
+                &before.within(branches, rest),
+                1,
+                index,
+            )?;
+            let digests = digests_of_or(walk.alloc, branches, rest, before)?;
+            path.moves.push(Move::Or(digests))
         }
-        _ => {
-            push_unbranched_element(walk, path, element, index)?;
-            Ok(digest_after_element(element, before))
+        _ => push_unbranched_element(walk, path, element, index),
+    }
+}
+
+// The digests of the branches of an OR, which comes before the rest of its list.
+fn digests_of_or(
+    alloc: Global,
+    branches: &ClosedBranches,
+    rest: &ClosedElements,
+    before: &Before<'_>,
+) -> Result<Digests, NoMemory>
+    requires knows { KnowsFirst before.now (OneOr branches.now) rest.now }
+    ensures { IfOk result
+        (λ digests. digests ≡ digest.branch_digests branches.now before.now.digest) }
+{
+    match before.kept_digests(branches, rest) {
+        Some(kept) => Digests::from_slice(alloc, kept),
+        None => {
+            let mut digests = Digests::new(alloc);
+            push_branch_digests(&mut digests, branches, before.digest)?;
+            Ok(digests)
         }
     }
 }
 
-// The same of branches from a position on, without the move of their OR; adds the digests of the branches.
+// The same of branches from a position on, without the move of their OR.
 #[cycle(at_position)]
 fn push_branch(
     walk: &Walk<'_>,
     path: &mut Path,
-    digests: &mut Digests,
     branches: &ClosedBranches,
-    before: Digest32,
+    before: &BeforeBranches<'_>,
     position: u32,
     index: u64,
 ) -> Result<(), NoMemory>
+    requires knows { KnowsBranches before.now branches.now }
     requires few { length (at.branch_ways walk.now.approvals.now walk.now.levels branches.now
-        position before) ≤ 65536 }
+        position before.now.digest) ≤ 65536 }
     requires inside { index < length
-        (at.branch_ways walk.now.approvals.now walk.now.levels branches.now position before) }
-    ensures digests { OnOk result (digests.new
-        ≡ digests.old ++ digest.branch_digests branches.now before) }
-    ensures path { OnOk result
+        (at.branch_ways walk.now.approvals.now walk.now.levels branches.now position
+        before.now.digest) }
+    ensures { OnOk result
         (at.GoesOn path.old (at.branch_ways walk.now.approvals.now walk.now.levels branches.now
-        position before) index path.new) }
+        position before.now.digest) index path.new) }
 {
     match branches {
         ClosedBranches::End => Ok(()),
@@ -277,13 +366,12 @@ fn push_branch(
             if index < count {
                 let name = branch.name.try_clone(walk.alloc)?;
                 path.steps.push(PathStep::Branch { position, name })?;
-                let after = push_elements(walk, path, elements, before, index, count)?;
-                digests.push(after)?;
-                push_branch_digests(digests, rest, before)
+                let first = before.first(elements, rest);
+                push_elements(walk, path, elements, &first, index, count)
             } else {
-                digests.push(digest_after_elements(elements, before))?;
                 let next = next_position(position)?;
-                push_branch(walk, path, digests, rest, before, next, index - count)
+                let behind = before.behind(elements, rest);
+                push_branch(walk, path, rest, &behind, next, index - count)
             }
         }
     }
@@ -324,7 +412,8 @@ fn push_approval(
                 if left < count {
                     let name = document.document.try_clone(walk.alloc)?;
                     path.steps.push(PathStep::Document(name))?;
-                    push_from_zero(&inner, path, elements, left, count)?;
+                    let before = Before::without_memo(zero_digest());
+                    push_from_zero(&inner, path, elements, &before, left, count)?;
                     return push_use(walk.alloc, path, element, document);
                 }
                 left -= count;

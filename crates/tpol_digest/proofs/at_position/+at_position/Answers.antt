@@ -8,6 +8,7 @@ use Rattle.tpol_tree.specs.declared.path.Path.{Path}
 use Rattle.tpol_tree.specs.declared.path.PathStep.TheVariants.{Branch, Document}
 use Rattle.tpol_digest.specs.Digest.{zero_digest, branch_digests, digest_at_element}
 use Rattle.tpol_digest.specs.Extent.{IsCapped, extent_at, extent_at_element, document_extent}
+use Rattle.tpol_digest.specs.Memos.{Knows, KnowsBranches, KnowsFirst}
 use Rattle.tpol_digest.specs.Paths.{followed_by, path_of_move, product, approved_paths, outside_paths, document_paths}
 use Rattle.tpol_digest.specs.Positions.{is_or, has_or, path_of_step, element_list_ways, element_ways, branch_ways, approval_ways, GoesOn}
 use Rattle.tpol_digest.proofs.Weights.{weight, weight_of_element, weight_of_branches, greatest, weight-lt-greatest, level_less}
@@ -116,7 +117,7 @@ push_elements-nonzero_div-behind t c =
     let levels = c.args.walk.now.levels in
     let counted = rw c.in-More.is at c.requires.counted in
     let capped = subst (λ e. IsCapped c.extent_of_element-choices.result (extent_at_element (document_extent documents levels) documents e)) c.deref.ensures c.extent_of_element-choices.ensures in
-    (parted_ways documents levels c.extent_of_element-choices.result c.in-More.element.value c.in-More.rest.value c.args.before c.args.count c.args.index counted c.requires.few c.requires.inside capped).divides
+    (parted_ways documents levels c.extent_of_element-choices.result c.in-More.element.value c.in-More.rest.value c.args.before.now.digest c.args.count c.args.index counted c.requires.few c.requires.inside capped).divides
 
 pub push_elements-nonzero_div-index : goal.push_elements-nonzero_div-index
 push_elements-nonzero_div-index t c =
@@ -124,7 +125,7 @@ push_elements-nonzero_div-index t c =
     let levels = c.args.walk.now.levels in
     let counted = rw c.in-More.is at c.requires.counted in
     let capped = subst (λ e. IsCapped c.extent_of_element-choices.result (extent_at_element (document_extent documents levels) documents e)) c.deref.ensures c.extent_of_element-choices.ensures in
-    (parted_ways documents levels c.extent_of_element-choices.result c.in-More.element.value c.in-More.rest.value c.args.before c.args.count c.args.index counted c.requires.few c.requires.inside capped).behind_divides
+    (parted_ways documents levels c.extent_of_element-choices.result c.in-More.element.value c.in-More.rest.value c.args.before.now.digest c.args.count c.args.index counted c.requires.few c.requires.inside capped).behind_divides
 
 pub push_elements-nonzero_rem-index : goal.push_elements-nonzero_rem-index
 push_elements-nonzero_rem-index t c =
@@ -132,7 +133,7 @@ push_elements-nonzero_rem-index t c =
     let levels = c.args.walk.now.levels in
     let counted = rw c.in-More.is at c.requires.counted in
     let capped = subst (λ e. IsCapped c.extent_of_element-choices.result (extent_at_element (document_extent documents levels) documents e)) c.deref.ensures c.extent_of_element-choices.ensures in
-    (parted_ways documents levels c.extent_of_element-choices.result c.in-More.element.value c.in-More.rest.value c.args.before c.args.count c.args.index counted c.requires.few c.requires.inside capped).behind_divides
+    (parted_ways documents levels c.extent_of_element-choices.result c.in-More.element.value c.in-More.rest.value c.args.before.now.digest c.args.count c.args.index counted c.requires.few c.requires.inside capped).behind_divides
 
 pub push_elements-push_element-requires : goal.push_elements-push_element-requires
 push_elements-push_element-requires t c =
@@ -140,11 +141,15 @@ push_elements-push_element-requires t c =
     let levels = c.args.walk.now.levels in
     let counted = rw c.in-More.is at c.requires.counted in
     let capped = subst (λ e. IsCapped c.extent_of_element-choices.result (extent_at_element (document_extent documents levels) documents e)) c.deref.ensures c.extent_of_element-choices.ensures in
-    let p = parted_ways documents levels c.extent_of_element-choices.result c.in-More.element.value c.in-More.rest.value c.args.before c.args.count c.args.index counted c.requires.few c.requires.inside capped in (
+    let p = parted_ways documents levels c.extent_of_element-choices.result c.in-More.element.value c.in-More.rest.value c.args.before.now.digest c.args.count c.args.index counted c.requires.few c.requires.inside capped in
+    let known = rw c.in-More.is at c.requires.knows in (
       omega (arith, rw c.in-More.is at c.decreases, ap weight_of_element c.deref-in-More.ensures),
       (
-        subst (λ e. length (element_ways documents levels e c.args.before) ≤ 65536) (sym c.deref-in-More.ensures) p.first_few,
-        subst (λ e. c.args.index / (c.args.count / c.extent_of_element-choices.result.paths) < length (element_ways documents levels e c.args.before)) (sym c.deref-in-More.ensures) p.first_inside,
+        subst (λ r. KnowsFirst c.args.before.now c.deref-in-More.result.now r) (sym c.deref-in-More-2.ensures) (subst (λ e. KnowsFirst c.args.before.now e c.in-More.rest.value) (sym c.deref-in-More.ensures) known),
+        (
+          subst (λ e. length (element_ways documents levels e c.args.before.now.digest) ≤ 65536) (sym c.deref-in-More.ensures) p.first_few,
+          subst (λ e. c.args.index / (c.args.count / c.extent_of_element-choices.result.paths) < length (element_ways documents levels e c.args.before.now.digest)) (sym c.deref-in-More.ensures) p.first_inside,
+        ),
       ),
     )
 
@@ -154,25 +159,28 @@ push_elements-push_elements-requires t c =
     let levels = c.args.walk.now.levels in
     let counted = rw c.in-More.is at c.requires.counted in
     let capped = subst (λ e. IsCapped c.extent_of_element-choices.result (extent_at_element (document_extent documents levels) documents e)) c.deref.ensures c.extent_of_element-choices.ensures in
-    let p = parted_ways documents levels c.extent_of_element-choices.result c.in-More.element.value c.in-More.rest.value c.args.before c.args.count c.args.index counted c.requires.few c.requires.inside capped in
-    let after_is = c.in_ok-after-in-More.ensures.digest ∙ ap (λ e. digest_at_element e c.args.before) c.deref-in-More.ensures in (
-      omega (arith, rw c.in-More.is at c.decreases, ap weight c.deref-in-More-2.ensures),
+    let p = parted_ways documents levels c.extent_of_element-choices.result c.in-More.element.value c.in-More.rest.value c.args.before.now.digest c.args.count c.args.index counted c.requires.few c.requires.inside capped in
+    let after_is = c.behind-after.ensures.digest ∙ ap (λ e. digest_at_element e c.args.before.now.digest) c.deref-in-More-3.ensures in (
+      omega (arith, rw c.in-More.is at c.decreases, ap weight c.deref-in-More-5.ensures),
       (
-        p.behind ∙ ap (λ d. length (element_list_ways documents levels c.in-More.rest.value d)) (sym after_is) ∙ ap (λ e. length (element_list_ways documents levels e c.in_ok-after-in-More.after)) (sym c.deref-in-More-2.ensures),
-        (p.rest_few, p.rest_inside),
+        subst (Knows c.behind-after.result) (c.deref-in-More-4.ensures ∙ sym c.deref-in-More-5.ensures) c.behind-after.ensures.knows,
+        (
+          p.behind ∙ ap (λ d. length (element_list_ways documents levels c.in-More.rest.value d)) (sym after_is) ∙ ap (λ e. length (element_list_ways documents levels e c.behind-after.result.digest)) (sym c.deref-in-More-5.ensures),
+          (p.rest_few, p.rest_inside),
+        ),
       ),
     )
 
-pub push_elements-returns-in-End-clause-path : goal.push_elements-returns-in-End-clause-path
-push_elements-returns-in-End-clause-path t c =
+pub push_elements-returns-in-End : goal.push_elements-returns-in-End
+push_elements-returns-in-End t c =
     let counted = rw c.in-End.is at c.requires.counted in
     rw c.in-End.is (goes_nowhere c.args.path.now c.args.index (omega (arith, counted, c.requires.inside)))
 
-pub push_elements-returns-in_ok-after-in-More-clause-path : goal.push_elements-returns-in_ok-after-in-More-clause-path
-push_elements-returns-in_ok-after-in-More-clause-path t c =
+pub push_elements-returns-in_ok-push_element-in-More : goal.push_elements-returns-in_ok-push_element-in-More
+push_elements-returns-in_ok-push_element-in-More t c =
     let documents = c.args.walk.now.approvals.now in
     let levels = c.args.walk.now.levels in
-    let d = c.args.before in
+    let d = c.args.before.now.digest in
     let element = c.in-More.element.value in
     let rest = c.in-More.rest.value in
     let counted = rw c.in-More.is at c.requires.counted in
@@ -180,37 +188,41 @@ push_elements-returns-in_ok-after-in-More-clause-path t c =
     let p = parted_ways documents levels c.extent_of_element-choices.result element rest d c.args.count c.args.index counted c.requires.few c.requires.inside capped in
     let behind = c.args.count / c.extent_of_element-choices.result.paths in
     let middle = c.push_element.new.path in
-    let first = subst (λ e. GoesOn c.args.path.now (element_ways documents levels e d) (c.args.index / behind) middle) c.deref-in-More.ensures c.in_ok-after-in-More.ensures.path in
-    let after_is = c.in_ok-after-in-More.ensures.digest ∙ ap (λ e. digest_at_element e d) c.deref-in-More.ensures in
-    let same = ap (λ e. element_list_ways documents levels e c.in_ok-after-in-More.after) c.deref-in-More-2.ensures ∙ ap (element_list_ways documents levels rest) after_is in
-    rw c.in-More.is (on_ok_weaker c.push_elements.result (λ g. goes_through c.args.path.now middle c.push_elements.new.path (element_ways documents levels element d) (element_list_ways documents levels rest (digest_at_element element d)) (c.args.index / behind) (c.args.index % behind) c.args.index first (subst (λ l. GoesOn middle l (c.args.index % behind) c.push_elements.new.path) same g) p.whole) c.push_elements.ensures.path)
+    let first = subst (λ e. GoesOn c.args.path.now (element_ways documents levels e d) (c.args.index / behind) middle) c.deref-in-More.ensures c.in_ok-push_element-in-More.ensures in
+    let after_is = c.behind-after.ensures.digest ∙ ap (λ e. digest_at_element e d) c.deref-in-More-3.ensures in
+    let same = ap (λ e. element_list_ways documents levels e c.behind-after.result.digest) c.deref-in-More-5.ensures ∙ ap (element_list_ways documents levels rest) after_is in
+    rw c.in-More.is (on_ok_weaker c.push_elements.result (λ g. goes_through c.args.path.now middle c.push_elements.new.path (element_ways documents levels element d) (element_list_ways documents levels rest (digest_at_element element d)) (c.args.index / behind) (c.args.index % behind) c.args.index first (subst (λ l. GoesOn middle l (c.args.index % behind) c.push_elements.new.path) same g) p.whole) c.push_elements.ensures)
 
 pub push_element-push_branch-requires : goal.push_element-push_branch-requires
 push_element-push_branch-requires t c =
     let documents = c.args.walk.now.approvals.now in
     let levels = c.args.walk.now.levels in
     let branches = c.in-Or.branches in
-    let d = c.args.before in
+    let d = c.args.before.now.digest in
+    let within = ap (λ x. length (branch_ways documents levels branches 1 x)) c.within.ensures.digest in
     let same = length-branch_ways documents levels branches 1 (Or (branch_digests branches d)) d in (
       omega (arith, rw c.in-Or.is at c.decreases),
       (
-        omega (arith, same, rw c.in-Or.is at c.requires.few),
-        omega (arith, same, rw c.in-Or.is at c.requires.inside),
+        c.within.ensures.knows,
+        (
+          omega (arith, within, same, rw c.in-Or.is at c.requires.few),
+          omega (arith, within, same, rw c.in-Or.is at c.requires.inside),
+        ),
       ),
     )
 
-pub push_element-returns-in_ok-push-in-Or-clause-path : goal.push_element-returns-in_ok-push-in-Or-clause-path
-push_element-returns-in_ok-push-in-Or-clause-path t c =
+pub push_element-returns-in_ok-digests-in-Or : goal.push_element-returns-in_ok-digests-in-Or
+push_element-returns-in_ok-digests-in-Or t c =
     let documents = c.args.walk.now.approvals.now in
     let levels = c.args.walk.now.levels in
     let branches = c.in-Or.branches in
-    let d = c.args.before in
+    let d = c.args.before.now.digest in
     let act = Or (branch_digests branches d) in
     let middle = c.push_branch.new.path in
-    let digests_are = c.in_ok-push_branch-in-Or.ensures.digests ∙ ap (λ l. l ++ branch_digests branches d) c.new-digests.ensures in
-    let pushed = c.in_ok-push-in-Or.ensures.ok ∙ ap (λ l. middle.moves ++ Or l ∷ []) digests_are in
+    let gone = subst (λ x. GoesOn c.args.path.now (branch_ways documents levels branches 1 x) c.args.index middle) c.within.ensures.digest c.in_ok-push_branch-in-Or.ensures in
+    let digests_are = ap (λ l. middle.moves ++ Or l ∷ []) c.in_ok-digests-in-Or.ensures in
     let longer : Path = record { steps = middle.steps; moves = c.push.new.self; outside = middle.outside } in
-    rw c.in-Or.is (subst (λ l. GoesOn c.args.path.now l c.args.index longer) (branches_closed documents levels branches 1 act d) (goes_by_move c.args.path.now middle longer act (branch_ways documents levels branches 1 d) c.args.index c.in_ok-push_branch-in-Or.ensures.path (move_pushed middle act c.push.new.self pushed)))
+    rw c.in-Or.is (on_ok_weaker c.push.result (λ pushed. subst (λ l. GoesOn c.args.path.now l c.args.index longer) (branches_closed documents levels branches 1 act d) (goes_by_move c.args.path.now middle longer act (branch_ways documents levels branches 1 d) c.args.index gone (move_pushed middle act c.push.new.self (pushed ∙ digests_are)))) c.push.ensures.ok)
 
 pub push_branch-push_elements-requires : goal.push_branch-push_elements-requires
 push_branch-push_elements-requires t c =
@@ -218,16 +230,19 @@ push_branch-push_elements-requires t c =
     let levels = c.args.walk.now.levels in
     let branch = c.in-More.branch.value in
     let rest = c.in-More.rest.value in
-    let d = c.args.before in
+    let d = c.args.before.now.digest in
     let others = branch_ways documents levels rest (c.args.position + 1) d in
     let step = followed_by (path_of_step (Branch c.args.position branch.name)) in
     let capped = subst (λ (b : ClosedBranch). IsCapped c.extent_of_elements-count.result (extent_at (document_extent documents levels) documents b.policy.elements)) c.deref.ensures c.extent_of_elements-count.ensures in
     let counted = counted_first documents levels c.extent_of_elements-count.result branch.policy.elements d step others (rw c.in-More.is at c.requires.few) capped in
-    let ways = ap (λ (b : ClosedBranch). length (element_list_ways documents levels b.policy.elements d)) (sym c.deref.ensures) in (
+    let ways = ap (λ (b : ClosedBranch). length (element_list_ways documents levels b.policy.elements d)) (sym c.deref.ensures) ∙ ap (λ x. length (element_list_ways documents levels c.deref.result.now.policy.elements x)) (sym c.first-first.ensures.digest) in (
       omega (arith, rw c.in-More.is at c.decreases, ap (λ (b : ClosedBranch). weight b.policy.elements) c.deref.ensures),
       (
-        counted.0 ∙ ways,
-        (omega (arith, counted.1, rw c.in-More.is at c.requires.few), c.if-index-count.true),
+        c.first-first.ensures.knows,
+        (
+          counted.0 ∙ ways,
+          (omega (arith, counted.1, rw c.in-More.is at c.requires.few), c.if-index-count.true),
+        ),
       ),
     )
 
@@ -237,51 +252,57 @@ push_branch-push_branch-requires t c =
     let levels = c.args.walk.now.levels in
     let branch = c.in-More.branch.value in
     let rest = c.in-More.rest.value in
-    let d = c.args.before in
+    let d = c.args.before.now.digest in
     let others = branch_ways documents levels rest (c.args.position + 1) d in
     let step = followed_by (path_of_step (Branch c.args.position branch.name)) in
     let capped = subst (λ (b : ClosedBranch). IsCapped c.extent_of_elements-count.result (extent_at (document_extent documents levels) documents b.policy.elements)) c.deref.ensures c.extent_of_elements-count.ensures in
     let counted = counted_first documents levels c.extent_of_elements-count.result branch.policy.elements d step others (rw c.in-More.is at c.requires.few) capped in
-    let next = ap (λ n. length (branch_ways documents levels c.deref-else-index-count.result.now n d)) c.in_ok-next-in-More.ensures in
-    let ways = next ∙ ap (λ r. length (branch_ways documents levels r (c.args.position + 1) d)) c.deref-else-index-count.ensures in (
-      omega (arith, rw c.in-More.is at c.decreases, ap weight_of_branches c.deref-else-index-count.ensures),
+    let next = ap (λ n. length (branch_ways documents levels c.deref-else-index-count-2.result.now n c.behind-behind.result.digest)) c.in_ok-next-in-More.ensures in
+    let behind = ap (λ x. length (branch_ways documents levels c.deref-else-index-count-2.result.now (c.args.position + 1) x)) c.behind-behind.ensures.digest in
+    let ways = next ∙ behind ∙ ap (λ r. length (branch_ways documents levels r (c.args.position + 1) d)) c.deref-else-index-count-2.ensures in (
+      omega (arith, rw c.in-More.is at c.decreases, ap weight_of_branches c.deref-else-index-count-2.ensures),
       (
-        omega (arith, counted.1, ways, rw c.in-More.is at c.requires.few),
-        omega (arith, counted.1, ways, rw c.in-More.is at c.requires.inside, c.if-index-count.false),
+        subst (KnowsBranches c.behind-behind.result) (c.deref-else-index-count.ensures ∙ sym c.deref-else-index-count-2.ensures) c.behind-behind.ensures.knows,
+        (
+          omega (arith, counted.1, ways, rw c.in-More.is at c.requires.few),
+          omega (arith, counted.1, ways, rw c.in-More.is at c.requires.inside, c.if-index-count.false),
+        ),
       ),
     )
 
-pub push_branch-returns-in_ok-push-in-More-2-clause-path : goal.push_branch-returns-in_ok-push-in-More-2-clause-path
-push_branch-returns-in_ok-push-in-More-2-clause-path t c =
+pub push_branch-returns-in_ok-push-in-More : goal.push_branch-returns-in_ok-push-in-More
+push_branch-returns-in_ok-push-in-More t c =
     let documents = c.args.walk.now.approvals.now in
     let levels = c.args.walk.now.levels in
     let branch = c.in-More.branch.value in
     let rest = c.in-More.rest.value in
-    let d = c.args.before in
+    let d = c.args.before.now.digest in
     let before = c.args.path.now in
     let step = Branch c.args.position branch.name in
     let others = branch_ways documents levels rest (c.args.position + 1) d in
+    let ways = element_list_ways documents levels branch.policy.elements d in
     let named = c.in_ok-name-in-More.ensures ∙ ap (λ (b : ClosedBranch). b.name) c.deref-then-index-count.ensures in
     let pushed = c.in_ok-push-in-More.ensures.ok ∙ ap (λ n. before.steps ++ Branch c.args.position n ∷ []) named in
     let behind : Path = record { steps = c.push.new.self; moves = before.moves; outside = before.outside } in
-    let inner = subst (λ (b : ClosedBranch). GoesOn behind (element_list_ways documents levels b.policy.elements d) c.args.index c.push_elements.new.path) c.deref.ensures c.in_ok-after-in-More.ensures.path in
-    let found = goes_first before c.push_elements.new.path (map (followed_by (path_of_step step)) (element_list_ways documents levels branch.policy.elements d)) others c.args.index (goes_by_step before behind c.push_elements.new.path step (element_list_ways documents levels branch.policy.elements d) c.args.index (step_pushed before step c.push.new.self pushed) inner) in
-    rw c.in-More.is (on_ok_weaker c.push_branch_digests.result (λ e. found) c.push_branch_digests.ensures)
+    let same = ap (element_list_ways documents levels c.deref.result.now.policy.elements) c.first-first.ensures.digest ∙ ap (λ (b : ClosedBranch). element_list_ways documents levels b.policy.elements d) c.deref.ensures in
+    rw c.in-More.is (on_ok_weaker c.push_elements.result (λ g. goes_first before c.push_elements.new.path (map (followed_by (path_of_step step)) ways) others c.args.index (goes_by_step before behind c.push_elements.new.path step ways c.args.index (step_pushed before step c.push.new.self pushed) (subst (λ l. GoesOn behind l c.args.index c.push_elements.new.path) same g))) c.push_elements.ensures)
 
-pub push_branch-returns-in_ok-next-in-More-clause-path : goal.push_branch-returns-in_ok-next-in-More-clause-path
-push_branch-returns-in_ok-next-in-More-clause-path t c =
+pub push_branch-returns-in_ok-next-in-More : goal.push_branch-returns-in_ok-next-in-More
+push_branch-returns-in_ok-next-in-More t c =
     let documents = c.args.walk.now.approvals.now in
     let levels = c.args.walk.now.levels in
     let branch = c.in-More.branch.value in
     let rest = c.in-More.rest.value in
-    let d = c.args.before in
+    let d = c.args.before.now.digest in
     let others = branch_ways documents levels rest (c.args.position + 1) d in
     let step = followed_by (path_of_step (Branch c.args.position branch.name)) in
     let firsts = map step (element_list_ways documents levels branch.policy.elements d) in
     let capped = subst (λ (b : ClosedBranch). IsCapped c.extent_of_elements-count.result (extent_at (document_extent documents levels) documents b.policy.elements)) c.deref.ensures c.extent_of_elements-count.ensures in
     let counted = counted_first documents levels c.extent_of_elements-count.result branch.policy.elements d step others (rw c.in-More.is at c.requires.few) capped in
     let split : c.args.index ≡ length firsts + (c.args.index - c.extent_of_elements-count.result.paths) = omega (arith, counted.0, counted.1, c.if-index-count.false, length-map (element_list_ways documents levels branch.policy.elements d) step) in
-    rw c.in-More.is (on_ok_weaker c.push_branch.result (λ g. goes_later c.args.path.now c.push_branch.new.path firsts others (c.args.index - c.extent_of_elements-count.result.paths) c.args.index split (subst (λ r. GoesOn c.args.path.now (branch_ways documents levels r (c.args.position + 1) d) (c.args.index - c.extent_of_elements-count.result.paths) c.push_branch.new.path) c.deref-else-index-count.ensures (subst (λ n. GoesOn c.args.path.now (branch_ways documents levels c.deref-else-index-count.result.now n d) (c.args.index - c.extent_of_elements-count.result.paths) c.push_branch.new.path) c.in_ok-next-in-More.ensures g))) c.push_branch.ensures.path)
+    let left = c.args.index - c.extent_of_elements-count.result.paths in
+    let same = ap (λ n. branch_ways documents levels c.deref-else-index-count-2.result.now n c.behind-behind.result.digest) c.in_ok-next-in-More.ensures ∙ ap (branch_ways documents levels c.deref-else-index-count-2.result.now (c.args.position + 1)) c.behind-behind.ensures.digest ∙ ap (λ r. branch_ways documents levels r (c.args.position + 1) d) c.deref-else-index-count-2.ensures in
+    rw c.in-More.is (on_ok_weaker c.push_branch.result (λ g. goes_later c.args.path.now c.push_branch.new.path firsts others left c.args.index split (subst (λ l. GoesOn c.args.path.now l left c.push_branch.new.path) same g)) c.push_branch.ensures)
 
 pub push_approval-push_from_zero-requires : goal.push_approval-push_from_zero-requires
 push_approval-push_from_zero-requires t c =
@@ -298,8 +319,14 @@ push_approval-push_from_zero-requires t c =
     let less = level_less levels (greatest documents) (weight document.closed.elements) (omega (arith, c.if-walk-gt0.true)) lighter in (
       omega (arith, less, c.decreases),
       (
-        counted.1,
-        (omega (arith, counted.0, inside, total, c.requires.few), c.if-left-count.true),
+        c.without_memo-before.ensures.knows c.document-item.result.closed.elements,
+        (
+          c.without_memo-before.ensures.digest ∙ c.zero_digest.ensures,
+          (
+            counted.1,
+            (omega (arith, counted.0, inside, total, c.requires.few), c.if-left-count.true),
+          ),
+        ),
       ),
     )
 

@@ -11,7 +11,7 @@ use Rattle.tpol_digest.proofs.OutsideSteps.{paths_of_tell}
 use Rattle.tpol_digest.proofs.Positions.{found_path, found_has}
 use Rattle.tpol_digest.proofs.Refusals.{counted_paths}
 use Rattle.tpol_digest.proofs.Soundness.{paths_of_sound}
-use Rattle.tpol_digest.proofs.at_position.path_at.Goals as goal
+use Rattle.tpol_digest.proofs.at_position.path_from.Goals as goal
 
 pub push_from_zero-requires-clause-counted : goal.push_from_zero-requires-clause-counted
 push_from_zero-requires-clause-counted c =
