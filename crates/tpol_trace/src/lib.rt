@@ -1,9 +1,10 @@
 //! From digest to branch: by which written path the accepted policy commands of a session lead to a
 //! policy's digest.
 //!
-//! The layers above use `opening`. What stands behind it is the law of `facts_open`: where the facts of a
-//! session give the digest of a policy, they went one of its written paths, or two different strings of one
-//! SHA-256 digest, or one of digest zero, are among what was hashed.
+//! The layers above use `opening`, or `opening_with_memo` where the digests of the policy are kept. What
+//! stands behind both is the law of `facts_open`: where the facts of a session give the digest of a policy,
+//! they went one of its written paths, or two different strings of one SHA-256 digest, or one of digest
+//! zero, are among what was hashed.
 #![tactic(auto)]
 
 mod answer;
@@ -17,4 +18,4 @@ mod window;
 
 pub use answer::{Events, Opening};
 pub use laws::{chains_agree, facts_open, facts_open_without_approvals};
-pub use open::opening;
+pub use open::{opening, opening_with_memo};

@@ -1,8 +1,9 @@
 // From the facts of a session back to the path that they went.
 
 ghost use Rattle.std.specs.Prelude.{◌≡◌, ◌<◌, true, All, IfOk, IfSome};
-ghost use Rattle.tpol_digest.specs.Digest.{digest_of_moves, policy_digest};
+ghost use Rattle.tpol_digest.specs.Digest.{digest_of_moves, policy_digest, zero_digest};
 ghost use Rattle.tpol_digest.specs.Limits.{AreWithinLimits};
+ghost use Rattle.tpol_digest.specs.Memos.{IsMemo};
 ghost use Rattle.tpol_digest.specs.Paths.{paths_of};
 ghost use Rattle.tpol_digest.specs.Sound.{IsSound};
 ghost use Rattle.tpol_tree.specs.Facts.{moves_of};
@@ -17,7 +18,8 @@ use crate::walk::{Walk, ways_of_elements};
 use crate::ways::Ways;
 use crate::{Events, Opening};
 use std::alloc::Global;
-use tpol_base::{Digest32, NoMemory};
+use tpol_base::NoMemory;
+use tpol_digest::{Before, Memo, memo_of};
 use tpol_tree::{Approvals, Closed, Fact, Facts};
 
 // How many approvals may lie inside one another.
@@ -44,7 +46,30 @@ pub fn opening(
     ensures means { IfOk result
         (λ opening. spec.IsOpening policy.now approvals.now facts.now opening) }
 {
-    match first_match(alloc, policy, approvals, facts)? {
+    let memo = memo_of(alloc, policy)?;
+    opening_with_memo(alloc, policy, &memo, approvals, facts)
+}
+
+/// The same, where `memo` has the digests of the policy (`tpol_digest::memo_of`). The walk hashes nothing for
+/// the policy's own elements; approved documents are hashed as they are walked.
+pub fn opening_with_memo(
+    alloc: Global,
+    policy: &Closed,
+    memo: &Memo,
+    approvals: &Approvals,
+    facts: &Facts,
+) -> Result<Opening, NoMemory>
+    requires memo { IsMemo policy.now.elements zero_digest memo.now }
+    requires within { AreWithinLimits (paths_of policy.now approvals.now) }
+    requires well_formed { IsWellFormed policy.now approvals.now }
+    requires sound { IsSound (moves_of facts.now) }
+    requires digest { digest_of_moves (moves_of facts.now) ≡ policy_digest policy.now }
+    ensures opening { IfOk result (λ opening. spec.opening_of policy.now approvals.now facts.now
+        ≡ Some opening) }
+    ensures means { IfOk result
+        (λ opening. spec.IsOpening policy.now approvals.now facts.now opening) }
+{
+    match first_match(alloc, policy, memo, approvals, facts)? {
         Some(index) => {
             let events = events_of(alloc, facts.as_slice())?;
             Ok(Opening::Branch {
@@ -60,9 +85,11 @@ pub fn opening(
 fn first_match(
     alloc: Global,
     policy: &Closed,
+    memo: &Memo,
     approvals: &Approvals,
     facts: &Facts,
 ) -> Result<Option<u32>, NoMemory>
+    requires memo { IsMemo policy.now.elements zero_digest memo.now }
     requires within { AreWithinLimits (paths_of policy.now approvals.now) }
     requires lead { ApprovalsLead true policy.now.elements }
     requires documents { All (λ document. ApprovalsLead true document.closed.elements)
@@ -79,7 +106,7 @@ fn first_match(
         levels: MAX_LEVELS,
     };
     let end = Ways::end(alloc, &asked)?;
-    let ways = ways_of_elements(&walk, &policy.elements, Digest32::ZERO, end)?;
+    let ways = ways_of_elements(&walk, &policy.elements, &Before::start(memo), end)?;
     Ok(ways.first[0])
 }
 

@@ -2,12 +2,14 @@
 
 ghost use Rattle.std.specs.Prelude.{◌≡◌, ◌+◌, ◌++◌, true, false, length, map, nat_lt, All, List, ℕ, IfOk, OnOk};
 ghost use Rattle.tpol_base.specs.declared.digest.Digest32.{Digest32 as OneDigest};
-ghost use Rattle.tpol_digest.specs.Digest.{digest_at_element, zero_digest};
+ghost use Rattle.tpol_digest.specs.Digest.{branch_digests, digest_at_element, zero_digest};
+ghost use Rattle.tpol_digest.specs.Memos.{Knows, KnowsBranches, KnowsFirst};
 ghost use Rattle.tpol_digest.specs.Positions as at;
 ghost use Rattle.tpol_digest.specs.Paths as spec;
 ghost use Rattle.tpol_digest.specs.UpdateBytes.{update_value};
 ghost use Rattle.tpol_digest.specs.Update.{update_of};
 ghost use Rattle.tpol_tree.specs.Closed.{ApprovalsLead, ApprovalsLeadElement, ApprovalsLeadBranches};
+ghost use Rattle.tpol_tree.specs.declared.closed.ClosedElement.TheVariants.{Or as OneOr};
 ghost use Rattle.tpol_tree.specs.declared.path.Move.{Move as OneMove};
 ghost use Rattle.tpol_tree.specs.declared.path.Path.{Path};
 ghost use Rattle.tpol_trace.specs.Matching.{is_listed, matches_approval};
@@ -18,7 +20,7 @@ use crate::ways::Ways;
 use std::alloc::Global;
 use tpol_base::{Digest32, Digests, NoMemory};
 use tpol_digest::{
-    UpdateBytes, accepts, digest_after_element, has_or, push_branch_digests, update_of_approve,
+    Before, BeforeBranches, UpdateBytes, accepts, has_or, push_branch_digests, update_of_approve,
     update_of_approve_nv, update_of_assertion, update_of_or, zero_digest,
 };
 use tpol_tree::{ApprovedDoc, ClosedBranches, ClosedElement, ClosedElements};
@@ -32,16 +34,17 @@ pub struct Walk<'a> {
     pub levels: u8,
 }
 
-// The ways through elements, each before one of the ways behind them; `before` is the digest before the
+// The ways through elements, each before one of the ways behind them; `before` has the digest before the
 // elements.
 #[cycle(walk)]
 pub fn ways_of_elements(
     walk: &Walk<'_>,
     elements: &ClosedElements,
-    before: Digest32,
+    before: &Before<'_>,
     behind: Ways,
 ) -> Result<Ways, NoMemory>
     requires lead { ApprovalsLead true elements.now }
+    requires knows { Knows before.now elements.now }
     requires documents { All (λ document. ApprovalsLead true document.closed.elements)
         walk.now.approvals.now }
     requires size { length behind.first.items ≡ length walk.now.facts.now + 1 }
@@ -52,28 +55,30 @@ pub fn ways_of_elements(
         → IfOk result (λ table. IsTable walk.now.approvals.now walk.now.levels moves table
         (spec.product (spec.paths_at
         (spec.document_paths walk.now.approvals.now walk.now.levels) walk.now.approvals.now
-        elements.now before) ways)) }
+        elements.now before.now.digest) ways)) }
 {
     match elements {
         ClosedElements::End => Ok(behind),
         ClosedElements::More(element, rest) => {
             let behind = ways_of_rest(walk, element, rest, before, behind)?;
-            ways_of_element(walk, element, before, behind)
+            ways_of_element(walk, element, rest, before, behind)
         }
     }
 }
 
-// The ways through the rest of a list behind an element, before which stands the digest `before`. A digest is
-// needed only before the branches of an OR, so where none comes behind the element none is hashed.
+// The ways through the rest of a list behind an element, before which stands the digest of `before`. A
+// digest is needed only before the branches of an OR, so where none is kept and no OR comes behind the
+// element none is hashed.
 #[cycle(walk)]
 fn ways_of_rest(
     walk: &Walk<'_>,
     element: &ClosedElement,
     rest: &ClosedElements,
-    before: Digest32,
+    before: &Before<'_>,
     behind: Ways,
 ) -> Result<Ways, NoMemory>
     requires lead { ApprovalsLead true rest.now }
+    requires knows { KnowsFirst before.now element.now rest.now }
     requires documents { All (λ document. ApprovalsLead true document.closed.elements)
         walk.now.approvals.now }
     requires size { length behind.first.items ≡ length walk.now.facts.now + 1 }
@@ -84,11 +89,10 @@ fn ways_of_rest(
         → IfOk result (λ table. IsTable walk.now.approvals.now walk.now.levels moves table
         (spec.product (spec.paths_at
         (spec.document_paths walk.now.approvals.now walk.now.levels) walk.now.approvals.now rest.now
-        (digest_at_element element.now before)) ways)) }
+        (digest_at_element element.now before.now.digest)) ways)) }
 {
-    if has_or(rest) {
-        let after = digest_after_element(element, before);
-        ways_of_elements(walk, rest, after, behind)
+    if before.memo.is_some() || has_or(rest) {
+        ways_of_elements(walk, rest, &before.behind(element, rest), behind)
     } else {
         ways_of_unbranched(walk, rest, behind)
     }
@@ -120,20 +124,23 @@ fn ways_of_unbranched(
         ClosedElements::End => Ok(behind),
         ClosedElements::More(element, rest) => {
             let behind = ways_of_unbranched(walk, rest, behind)?;
-            ways_of_element(walk, element, zero_digest(), behind)
+            let before = Before::without_memo(zero_digest());
+            ways_of_element(walk, element, rest, &before, behind)
         }
     }
 }
 
-// The ways through one element, each before one of the ways behind it.
+// The ways through the element before the rest of its list, each before one of the ways behind it.
 #[cycle(walk)]
 fn ways_of_element(
     walk: &Walk<'_>,
     element: &ClosedElement,
-    before: Digest32,
+    rest: &ClosedElements,
+    before: &Before<'_>,
     mut behind: Ways,
 ) -> Result<Ways, NoMemory>
     requires lead { ApprovalsLeadElement true element.now }
+    requires knows { KnowsFirst before.now element.now rest.now }
     requires documents { All (λ document. ApprovalsLead true document.closed.elements)
         walk.now.approvals.now }
     requires size { length behind.first.items ≡ length walk.now.facts.now + 1 }
@@ -144,7 +151,7 @@ fn ways_of_element(
         → IfOk result (λ table. IsTable walk.now.approvals.now walk.now.levels moves table
         (spec.product (spec.paths_at_element
         (spec.document_paths walk.now.approvals.now walk.now.levels) walk.now.approvals.now
-        element.now before) ways)) }
+        element.now before.now.digest) ways)) }
 {
     match element {
         ClosedElement::Assert(assertion) => {
@@ -153,16 +160,36 @@ fn ways_of_element(
             Ok(behind)
         }
         ClosedElement::Or(branches) => {
-            let mut digests = Digests::new(walk.alloc);
-            push_branch_digests(&mut digests, branches, before)?;
+            let digests = digests_of_branches(walk.alloc, branches, rest, before)?;
             let update = update_of_or(walk.alloc, &digests)?;
             behind.put_behind(walk.facts, &Asked::not_approving(update));
             let mut found = Ways::none(walk.alloc, walk.facts)?;
-            add_branches(walk, &mut found, branches, before, &behind)?;
+            let within = before.within(branches, rest);
+            add_branches(walk, &mut found, branches, &within, &behind)?;
             Ok(found)
         }
         ClosedElement::Authorize { .. } | ClosedElement::AuthorizeNv { .. } => {
             ways_of_approval(walk, element, &behind)
+        }
+    }
+}
+
+// The digests of the branches of an OR, as they are kept or else as they are hashed.
+fn digests_of_branches(
+    alloc: Global,
+    branches: &ClosedBranches,
+    rest: &ClosedElements,
+    before: &Before<'_>,
+) -> Result<Digests, NoMemory>
+    requires { KnowsFirst before.now (OneOr branches.now) rest.now }
+    ensures { IfOk result (λ digests. digests ≡ branch_digests branches.now before.now.digest) }
+{
+    match before.kept_digests(branches, rest) {
+        Some(kept) => Digests::from_slice(alloc, kept),
+        None => {
+            let mut digests = Digests::new(alloc);
+            push_branch_digests(&mut digests, branches, before.digest)?;
+            Ok(digests)
         }
     }
 }
@@ -200,10 +227,11 @@ fn add_branches(
     walk: &Walk<'_>,
     found: &mut Ways,
     branches: &ClosedBranches,
-    before: Digest32,
+    before: &BeforeBranches<'_>,
     behind: &Ways,
 ) -> Result<(), NoMemory>
     requires lead { ApprovalsLeadBranches true branches.now }
+    requires knows { KnowsBranches before.now branches.now }
     requires documents { All (λ document. ApprovalsLead true document.closed.elements)
         walk.now.approvals.now }
     requires size { length behind.now.first.items ≡ length walk.now.facts.now + 1 }
@@ -217,15 +245,16 @@ fn add_branches(
         → OnOk result (IsTable walk.now.approvals.now walk.now.levels moves found.new
         (done ++ spec.product (spec.paths_at_branches
         (spec.document_paths walk.now.approvals.now walk.now.levels) walk.now.approvals.now
-        branches.now position act before) ways)) }
+        branches.now position act before.now.digest) ways)) }
 {
     match branches {
         ClosedBranches::End => Ok(()),
         ClosedBranches::More(branch, rest) => {
             let elements = &branch.policy.elements;
-            let ways = ways_of_elements(walk, elements, before, behind.copy()?)?;
+            let first = before.first(elements, rest);
+            let ways = ways_of_elements(walk, elements, &first, behind.copy()?)?;
             found.append(&ways);
-            add_branches(walk, found, rest, before, behind)
+            add_branches(walk, found, rest, &before.behind(elements, rest), behind)
         }
     }
 }
@@ -267,7 +296,8 @@ fn add_documents(
             let update = update_of_approval(walk.alloc, element)?;
             behind.put_behind(walk.facts, &Asked::approving(update, document.digest));
             let elements = &document.closed.elements;
-            let ways = ways_of_elements(&inner, elements, Digest32::ZERO, behind)?;
+            let before = Before::without_memo(Digest32::ZERO);
+            let ways = ways_of_elements(&inner, elements, &before, behind)?;
             found.append(&ways);
         }
     }

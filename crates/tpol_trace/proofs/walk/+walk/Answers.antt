@@ -1,6 +1,6 @@
 use Rattle.std.proofs.Common.{◌≡◌, suc, ◌+◌, ◌-◌, ◌<◌, ◌≤◌, ◌++◌, [], true, false, map, take, length, inl, inr, refl, sym, ap, ◌∙◌, subst, arith}
 use Rattle.std.specs.Prelude.{IfOk}
-use Rattle.std.proofs.lemmas.Bool.{or_parts}
+use Rattle.std.proofs.lemmas.Bool.{false≢true, or_parts}
 use Rattle.std.proofs.lemmas.List.{take_all}
 use Rattle.std.proofs.lemmas.Result.{IfOk-weaker, on_ok_weaker}
 use Rattle.tpol_tree.specs.Closed.{ApprovalsLead}
@@ -9,7 +9,7 @@ use Rattle.tpol_tree.specs.declared.path.Move.TheVariants.{Assert, Or}
 use Rattle.tpol_digest.specs.Digest.{digest_at_element, branch_digests}
 use Rattle.tpol_digest.specs.Positions.{has_or, is_or}
 use Rattle.tpol_digest.proofs.Positions.{unbranched_element_ways}
-use Rattle.tpol_digest.specs.Paths.{approval_of, approved_paths, document_paths, followed_by, outside_paths, path_of_move, paths_at, paths_by_approval, product, between}
+use Rattle.tpol_digest.specs.Paths.{approval_of, approved_paths, document_paths, followed_by, outside_paths, path_of_move, paths_at, paths_at_branches, paths_by_approval, product, between}
 use Rattle.tpol_tree.specs.declared.path.PathStep.TheVariants.{Branch}
 use Rattle.tpol_digest.specs.Update.{update_of_or}
 use Rattle.tpol_digest.proofs.Products.{empty_product}
@@ -17,14 +17,18 @@ use Rattle.tpol_digest.proofs.Weights.{weight, greatest, weight-lt-greatest, lev
 use Rattle.tpol_trace.specs.Tables.{IsApproval, IsTable}
 use Rattle.tpol_trace.proofs.Walked.{approval_paths, approval_table, branch_table, branches_table, documents_table, inside_at, inside_map, inside_product, lead_weaker, more_table, no_level_table, one_table, other_level, passed_table, same_table, used_table}
 use Rattle.tpol_trace.proofs.walk.+walk.Goals as goal
-use Rattle.tpol_trace.proofs.walk.+walk.Goals.{add_documents-then-accepts+in_ok-behind+in_ok-update+in_ok-ways, add_documents-else-accepts}
+use Rattle.tpol_trace.proofs.walk.+walk.Goals.{add_documents-then-accepts+in_ok-behind+in_ok-update+in_ok-ways, add_documents-else-accepts, ways_of_rest-then-is_some, ways_of_rest-else-is_some}
 
 pub ways_of_elements-ways_of_rest-requires : goal.ways_of_elements-ways_of_rest-requires
 ways_of_elements-ways_of_rest-requires t c =
     let lead = (rw c.in-More.is at c.requires.lead).1 in
+    let knows = rw c.in-More.is at c.requires.knows in
     let small = rw c.in-More.is at c.decreases in (
       rw c.deref-in-More.ensures (omega (arith, small)),
-      (rw c.deref-in-More.ensures (lead_weaker c.in-More.rest.value lead), (c.requires.documents, c.requires.size)),
+      (
+        rw c.deref-in-More.ensures (lead_weaker c.in-More.rest.value lead),
+        (rw c.deref.ensures (rw c.deref-in-More.ensures knows), (c.requires.documents, c.requires.size)),
+      ),
     )
 
 pub ways_of_elements-returns-in-End-clause-table : goal.ways_of_elements-returns-in-End-clause-table
@@ -36,7 +40,7 @@ ways_of_elements-returns-in_ok-behind-in-More-clause-table t c =
     let approvals = c.args.walk.now.approvals.now in
     let levels = c.args.walk.now.levels in
     let within = document_paths approvals levels in
-    let d = c.args.before in
+    let d = c.args.before.now.digest in
     let after = digest_at_element c.deref.result.now d in
     let others = c.deref-in-More.result.now in
     let element = c.in-More.element.value in
@@ -45,21 +49,25 @@ ways_of_elements-returns-in_ok-behind-in-More-clause-table t c =
     rw c.in-More.is (λ moves ways asks inside table. IfOk-weaker c.ways_of_element.result _ _ (λ found h. more_table approvals moves levels within element c.deref-in-More-2.result.now c.in-More.rest.value others d after found ways c.deref-in-More-2.ensures c.deref-in-More.ensures after_is h) (c.ways_of_element.ensures.table moves (product (paths_at within approvals others after) ways) asks (inside_product (paths_at within approvals others after) ways (inside_at within approvals others after lead) inside) (c.in_ok-behind-in-More.ensures.table moves ways asks inside table)))
 
 pub ways_of_rest-ways_of_elements-requires : goal.ways_of_rest-ways_of_elements-requires
-ways_of_rest-ways_of_elements-requires t c = (omega (arith, c.decreases), (c.requires.lead, (c.requires.documents, c.requires.size)))
+ways_of_rest-ways_of_elements-requires t c =
+    (omega (arith, c.decreases), (c.requires.lead, (c.behind.ensures.knows, (c.requires.documents, c.requires.size))))
 
 pub ways_of_rest-ways_of_unbranched-requires : goal.ways_of_rest-ways_of_unbranched-requires
 ways_of_rest-ways_of_unbranched-requires t c =
-    (omega (arith, c.decreases), (sym c.has_or.ensures ∙ c.if-has_or.false, (c.requires.lead, (c.requires.documents, c.requires.size))))
+    let none : has_or c.args.rest.now ≡ false = elim c.if-is_some.branch [
+      | ways_of_rest-then-is_some w ↦ absurd (false≢true (sym c.if-has_or.false ∙ w.value-is ∙ w.if-is_some.true))
+      | ways_of_rest-else-is_some w ↦ sym w.has_or.ensures ∙ sym w.value-is ∙ c.if-has_or.false
+    ] in (omega (arith, c.decreases), (none, (c.requires.lead, (c.requires.documents, c.requires.size))))
 
 pub ways_of_rest-returns-then-has_or-clause-table : goal.ways_of_rest-returns-then-has_or-clause-table
 ways_of_rest-returns-then-has_or-clause-table t c = λ moves ways asks inside table.
     let approvals = c.args.walk.now.approvals.now in
     let levels = c.args.walk.now.levels in
-    subst (λ d. IfOk c.ways_of_elements.result (λ found. IsTable approvals levels moves found (product (paths_at (document_paths approvals levels) approvals c.args.rest.now d) ways))) c.digest_after_element-after.ensures (c.ways_of_elements.ensures.table moves ways asks inside table)
+    subst (λ d. IfOk c.ways_of_elements.result (λ found. IsTable approvals levels moves found (product (paths_at (document_paths approvals levels) approvals c.args.rest.now d) ways))) c.behind.ensures.digest (c.ways_of_elements.ensures.table moves ways asks inside table)
 
 pub ways_of_rest-returns-else-has_or-clause-table : goal.ways_of_rest-returns-else-has_or-clause-table
 ways_of_rest-returns-else-has_or-clause-table t c = λ moves ways asks inside table.
-    c.ways_of_unbranched.ensures.table moves (digest_at_element c.args.element.now c.args.before) ways asks inside table
+    c.ways_of_unbranched.ensures.table moves (digest_at_element c.args.element.now c.args.before.now.digest) ways asks inside table
 
 pub ways_of_unbranched-ways_of_unbranched-requires : goal.ways_of_unbranched-ways_of_unbranched-requires
 ways_of_unbranched-ways_of_unbranched-requires t c =
@@ -70,6 +78,18 @@ ways_of_unbranched-ways_of_unbranched-requires t c =
       (
         rw c.deref.ensures none.1,
         (rw c.deref.ensures (lead_weaker c.in-More.rest.value lead), (c.requires.documents, c.requires.size)),
+      ),
+    )
+
+pub ways_of_unbranched-ways_of_element-requires : goal.ways_of_unbranched-ways_of_element-requires
+ways_of_unbranched-ways_of_element-requires t c =
+    let lead = (rw c.in-More.is at c.requires.lead).0 in
+    let knows = rw c.in-More.is at (c.without_memo-before.ensures.knows c.args.elements.now) in
+    let small = rw c.in-More.is at c.decreases in (
+      rw c.deref-in-More.ensures (omega (arith, small)),
+      (
+        rw c.deref-in-More.ensures lead,
+        (rw c.deref-in-More.ensures (rw c.deref-in-More-2.ensures knows), (c.requires.documents, c.in_ok-behind-in-More.ensures.size)),
       ),
     )
 
@@ -91,7 +111,7 @@ ways_of_unbranched-returns-in_ok-behind-in-More-clause-table t c =
     let after = digest_at_element element d in
     let behind = product (paths_at within approvals others after) ways in
     let found = c.ways_of_element.ensures.table moves behind asks (inside_product (paths_at within approvals others after) ways (inside_at within approvals others after lead) inside) (c.in_ok-behind-in-More.ensures.table moves after ways asks inside table) in
-    IfOk-weaker c.ways_of_element.result _ _ (λ found h. more_table approvals moves levels within element read c.in-More.rest.value others d after found ways c.deref-in-More.ensures c.deref.ensures refl h) (subst (λ firsts. IfOk c.ways_of_element.result (λ x. IsTable approvals levels moves x (product firsts behind))) (unbranched_element_ways approvals levels read c.zero_digest.result d none) found))
+    IfOk-weaker c.ways_of_element.result _ _ (λ found h. more_table approvals moves levels within element read c.in-More.rest.value others d after found ways c.deref-in-More.ensures c.deref.ensures refl h) (subst (λ firsts. IfOk c.ways_of_element.result (λ x. IsTable approvals levels moves x (product firsts behind))) (unbranched_element_ways approvals levels read c.without_memo-before.result.digest d none) found))
 
 pub ways_of_element-returns-in_ok-update-in-Assert-clause-table : goal.ways_of_element-returns-in_ok-update-in-Assert-clause-table
 ways_of_element-returns-in_ok-update-in-Assert-clause-table t c =
@@ -104,11 +124,11 @@ pub ways_of_element-returns-in_ok-add_branches-in-Or-clause-table : goal.ways_of
 ways_of_element-returns-in_ok-add_branches-in-Or-clause-table t c =
     let approvals = c.args.walk.now.approvals.now in
     let levels = c.args.walk.now.levels in
-    let act = Or (branch_digests c.in-Or.branches c.args.before) in
-    let pushed = c.in_ok-push_branch_digests-in-Or.ensures in
-    let started = c.new-digests.ensures in
+    let d = c.args.before.now.digest in
+    let within = document_paths approvals levels in
+    let act = Or (branch_digests c.in-Or.branches d) in
     let hashed = c.in_ok-update-in-Or.ensures in
-    rw c.in-Or.is (λ moves ways asks inside table. c.in_ok-add_branches-in-Or.ensures.table moves act 1 ways [] asks inside (c.put_behind-in-Or.ensures.behind approvals levels moves act ways asks (c.not_approving-in-Or.ensures.asks act (hashed ∙ ap update_of_or (pushed ∙ ap (λ l. l ++ branch_digests c.in-Or.branches c.args.before) started)) refl) inside table) (c.in_ok-found-in-Or.ensures.none approvals levels moves asks))
+    rw c.in-Or.is (λ moves ways asks inside table. subst (λ x. IsTable approvals levels moves c.add_branches.new.found (product (paths_at_branches within approvals c.in-Or.branches 1 act x) ways)) c.within-within.ensures.digest (c.in_ok-add_branches-in-Or.ensures.table moves act 1 ways [] asks inside (c.put_behind-in-Or.ensures.behind approvals levels moves act ways asks (c.not_approving-in-Or.ensures.asks act (hashed ∙ ap update_of_or c.in_ok-digests-in-Or.ensures) refl) inside table) (c.in_ok-found-in-Or.ensures.none approvals levels moves asks)))
 
 pub ways_of_element-returns-in-Authorize-clause-table : goal.ways_of_element-returns-in-Authorize-clause-table
 ways_of_element-returns-in-Authorize-clause-table t c = λ moves ways asks inside table.
@@ -118,7 +138,7 @@ ways_of_element-returns-in-Authorize-clause-table t c = λ moves ways asks insid
       | inl p ↦ subst IsApproval (sym p.2) tt
       | inr q ↦ subst IsApproval (sym q.1) tt
     ] in
-    subst (λ paths. IfOk c.ways_of_approval.result (λ found. IsTable approvals levels moves found (product paths ways))) (sym (approval_paths approvals (document_paths approvals levels) c.args.element.now c.args.before approval)) (c.ways_of_approval.ensures.table moves ways asks inside table)
+    subst (λ paths. IfOk c.ways_of_approval.result (λ found. IsTable approvals levels moves found (product paths ways))) (sym (approval_paths approvals (document_paths approvals levels) c.args.element.now c.args.before.now.digest approval)) (c.ways_of_approval.ensures.table moves ways asks inside table)
 
 pub ways_of_approval-returns-clause-table : goal.ways_of_approval-returns-clause-table
 ways_of_approval-returns-clause-table t c = λ moves ways asks inside table.
@@ -133,7 +153,7 @@ add_branches-returns-in_ok-ways-in-More-clause-table t c =
     let approvals = c.args.walk.now.approvals.now in
     let levels = c.args.walk.now.levels in
     let within = document_paths approvals levels in
-    let d = c.args.before in
+    let d = c.args.before.now.digest in
     let branch = c.in-More.branch.value in
     let elements = branch.policy.elements in
     rw c.in-More.is (λ moves act position ways done asks inside behind found.
@@ -141,9 +161,9 @@ add_branches-returns-in_ok-ways-in-More-clause-table t c =
     let here = map (between (Branch position branch.name) act) paths in
     let copied = same_table approvals moves levels c.args.behind.now c.in_ok-copy-in-More.field-0 (map (followed_by (path_of_move act)) ways) c.in_ok-copy-in-More.ensures.0 c.in_ok-copy-in-More.ensures.1 c.in_ok-copy-in-More.ensures.2 behind in
     let inner = c.in_ok-ways-in-More.ensures.table moves (map (followed_by (path_of_move act)) ways) asks (inside_map (followed_by (path_of_move act)) (λ p h. h) ways inside) copied in
-    let same : IsTable approvals levels moves c.in_ok-ways-in-More.ways (product paths (map (followed_by (path_of_move act)) ways)) = subst (λ (b : ClosedBranch). IsTable approvals levels moves c.in_ok-ways-in-More.ways (product (paths_at within approvals b.policy.elements d) (map (followed_by (path_of_move act)) ways))) c.deref.ensures inner in
+    let same : IsTable approvals levels moves c.in_ok-ways-in-More.ways (product paths (map (followed_by (path_of_move act)) ways)) = subst (λ (b : ClosedBranch). IsTable approvals levels moves c.in_ok-ways-in-More.ways (product (paths_at within approvals b.policy.elements d) (map (followed_by (path_of_move act)) ways))) c.deref.ensures (subst (λ x. IsTable approvals levels moves c.in_ok-ways-in-More.ways (product (paths_at within approvals c.deref.result.now.policy.elements x) (map (followed_by (path_of_move act)) ways))) c.first-first.ensures.digest inner) in
     let joined = c.append.ensures.both approvals levels moves done (product here ways) found (branch_table approvals moves levels position branch.name act c.in_ok-ways-in-More.ways paths ways same) in
-    on_ok_weaker c.add_branches.result (λ h. branches_table approvals moves levels within elements c.in-More.rest.value c.deref-in-More.result.now position branch.name act d c.add_branches.new.found done ways c.deref-in-More.ensures h) (c.add_branches.ensures.table moves act (position + 1) ways (done ++ product here ways) asks inside behind joined))
+    on_ok_weaker c.add_branches.result (λ h. branches_table approvals moves levels within elements c.in-More.rest.value c.deref-in-More-2.result.now position branch.name act d c.add_branches.new.found done ways c.deref-in-More-2.ensures (subst (λ x. IsTable approvals levels moves c.add_branches.new.found ((done ++ product here ways) ++ product (paths_at_branches within approvals c.deref-in-More-2.result.now (position + 1) act x) ways)) c.behind.ensures.digest h)) (c.add_branches.ensures.table moves act (position + 1) ways (done ++ product here ways) asks inside behind joined))
 
 pub add_documents-returns-then-walk-eq0-clause-table : goal.add_documents-returns-then-walk-eq0-clause-table
 add_documents-returns-then-walk-eq0-clause-table t c = λ moves ways done asks inside behind found.
@@ -163,7 +183,7 @@ add_documents-ways_of_elements-requires t c =
       omega (arith, less, c.decreases),
       (
         subst (λ x. ApprovalsLead true x.closed.elements) (sym c.document-item.is) (c.requires.documents c.loop-document.document-index document c.loop-document-test.true),
-        (c.requires.documents, size ∙ copied ∙ first),
+        (c.without_memo-before.ensures.knows document.closed.elements, (c.requires.documents, size ∙ copied ∙ first)),
       ),
     )
 
@@ -186,7 +206,7 @@ add_documents-loop-document-preserved t c =
         ap (λ x. length x.first.items) w.found-is ∙ w.append.ensures.size ∙ c.loop-document.invariant.0,
         λ moves ways done asks inside behind found.
             let n : suc (levels - 1) ≡ levels = omega (arith, c.if-walk-eq0.false) in
-            let used = used_table approvals moves (levels - 1) element c.requires.approval document _ w.in_ok-ways.ways ways refl (sym c.accepts.ensures ∙ w.if-accepts.true) (λ act hashed approved. w.in_ok-ways.ensures.table moves (map (followed_by (path_of_move act)) ways) asks (inside_map (followed_by (path_of_move act)) (λ p h. h) ways inside) (w.put_behind.ensures.behind approvals (levels - 1) moves act ways asks (w.approving.ensures act (w.in_ok-update.ensures ∙ sym hashed) approved) inside (same_table approvals moves (levels - 1) c.args.behind.now w.in_ok-behind.behind ways w.in_ok-behind.ensures.0 w.in_ok-behind.ensures.1 w.in_ok-behind.ensures.2 (other_level approvals moves levels (levels - 1) c.args.behind.now ways inside behind)))) in
+            let used = used_table approvals moves (levels - 1) element c.requires.approval document w.without_memo-before.result.digest w.in_ok-ways.ways ways (ap (λ x. x.bytes) w.without_memo-before.ensures.digest) (sym c.accepts.ensures ∙ w.if-accepts.true) (λ act hashed approved. w.in_ok-ways.ensures.table moves (map (followed_by (path_of_move act)) ways) asks (inside_map (followed_by (path_of_move act)) (λ p h. h) ways inside) (w.put_behind.ensures.behind approvals (levels - 1) moves act ways asks (w.approving.ensures act (w.in_ok-update.ensures ∙ sym hashed) approved) inside (same_table approvals moves (levels - 1) c.args.behind.now w.in_ok-behind.behind ways w.in_ok-behind.ensures.0 w.in_ok-behind.ensures.1 w.in_ok-behind.ensures.2 (other_level approvals moves levels (levels - 1) c.args.behind.now ways inside behind)))) in
             let here = subst (λ l. IsTable approvals l moves w.in_ok-ways.ways (product (paths_by_approval (approval_of element document) document (document_paths approvals l document)) ways)) n used in
             subst (λ x. IsTable approvals levels moves x (done ++ product (approved_paths (document_paths approvals levels) (take (i + 1) approvals) element) ways)) (sym w.found-is) (documents_table approvals moves levels element i document w.append.new.self done ways c.loop-document-test.true c.document-item.is (w.append.ensures.both approvals levels moves (done ++ product (approved_paths (document_paths approvals levels) (take i approvals) element) ways) (product (paths_by_approval (approval_of element document) document (document_paths approvals levels document)) ways) (c.loop-document.invariant.1 moves ways done asks inside behind found) here)),
       )

@@ -5,7 +5,7 @@ use Rattle.tpol_trace.specs.declared.answer.Opening.TheVariants.{Branch}
 use Rattle.tpol_trace.specs.Openings as spec
 use Rattle.tpol_trace.proofs.Meaning.{opening_means}
 use Rattle.tpol_trace.proofs.Opened as opened
-use Rattle.tpol_trace.proofs.open.opening.Goals as goal
+use Rattle.tpol_trace.proofs.open.opening_with_memo.Goals as goal
 
 pub broken_opening-requires : goal.broken_opening-requires
 broken_opening-requires c =
