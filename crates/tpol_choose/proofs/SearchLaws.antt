@@ -155,7 +155,7 @@ module _ (client : Client) (documents : List ApprovedDoc) where
   ahead_hopeless Nothing track n hopeless =
       ap (λ b. if b then Found n else Passed (passed_more n 1)) (hopeless_end client track hopeless)
   ahead_hopeless (After' act first rest before levels p ahead) track n hopeless =
-      elements_hopeless (search_ahead client documents ahead) (ways_ahead documents ahead) (ahead_hopeless ahead) levels rest.now before (after_first client (track_after client track (move_of act)) first) n (hopeless_first client (track_after client track (move_of act)) first (hopeless_after client track (move_of act) hopeless))
+      elements_hopeless (search_ahead client documents ahead) (ways_ahead documents ahead) (ahead_hopeless ahead) levels rest.now before.digest (after_first client (track_after client track (move_of act)) first) n (hopeless_first client (track_after client track (move_of act)) first (hopeless_after client track (move_of act) hopeless))
 
   -- what the counts of two parts, each to 65,537, make
   pub counted_both : (first others : ℕ) (levels : ℕ) (elements : ClosedElements) (ahead : Ahead) → IsCount documents levels elements first → others ≡ min (ways_ahead documents ahead) 65537 → min (first * others) 65537 ≡ min ((extent_at (document_extent documents levels) documents elements).paths * ways_ahead documents ahead) 65537

@@ -26,7 +26,7 @@ block_at_the_end client track = block_at_end client track ∷ []
 abbrev pub blocks_ahead : Client → List ApprovedDoc → Ahead → TrackState → List (Option Block)
 blocks_ahead client documents Nothing track = block_at_the_end client track
 blocks_ahead client documents (After' act first rest before levels p ahead) track =
-    blocks_of client (blocks_ahead client documents ahead) (after_first client (track_after client track (move_of act)) first) (element_list_ways documents levels rest.now before)
+    blocks_of client (blocks_ahead client documents ahead) (after_first client (track_after client track (move_of act)) first) (element_list_ways documents levels rest.now before.digest)
 
 -- the rest of a list, where d is the digest before, and what comes behind it
 abbrev pub blocks_rest : Client → List ApprovedDoc → ℕ → ClosedElements → Digest32 → Ahead → TrackState → List (Option Block)

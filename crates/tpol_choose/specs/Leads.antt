@@ -20,4 +20,4 @@ leads None elements d rest before = (rest ≡ elements) × (before ≡ d)
 leads (Some step) elements d rest before = Begins step elements d rest before
 
 abbrev pub IsLead : Lead → ClosedElements → Digest32 → Type 0
-IsLead lead elements d = leads lead.first elements d lead.rest.now lead.before
+IsLead lead elements d = leads lead.first elements d lead.rest.now lead.before.digest

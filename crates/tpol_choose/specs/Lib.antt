@@ -13,6 +13,7 @@ pub mod Keys
 pub mod Leads
 pub mod Lent
 pub mod Moves
+pub mod OrDigests
 pub mod Outside
 pub mod Searches
 pub mod Tracks

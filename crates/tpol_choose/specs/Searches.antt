@@ -42,7 +42,7 @@ search_end client track passed =
 abbrev pub search_ahead : Client → List ApprovedDoc → Ahead → TrackState → ℕ → Search
 search_ahead client documents Nothing track passed = search_end client track passed
 search_ahead client documents (After' act first rest before levels p ahead) track passed =
-    search_ways client (search_ahead client documents ahead) (after_first client (track_after client track (move_of act)) first) passed (element_list_ways documents levels rest.now before)
+    search_ways client (search_ahead client documents ahead) (after_first client (track_after client track (move_of act)) first) passed (element_list_ways documents levels rest.now before.digest)
 
 -- the rest of a list, where d is the digest before, and what comes behind it
 abbrev pub search_rest : Client → List ApprovedDoc → ℕ → ClosedElements → Digest32 → Ahead → TrackState → ℕ → Search

@@ -5,8 +5,7 @@ ghost use Rattle.tpol_choose.specs.Ahead as spec;
 
 use crate::act::Act;
 use crate::assert_move::AssertMove;
-use tpol_base::Digest32;
-use tpol_digest::count_ways;
+use tpol_digest::{Before, count_ways};
 use tpol_tree::{ApprovedDoc, ClosedElements};
 
 // One more than the greatest number of ways that are walked; no count goes past it.
@@ -22,7 +21,7 @@ pub enum Ahead<'a> {
         act: Act<'a>,
         first: Option<AssertMove<'a>>,
         rest: &'a ClosedElements,
-        before: Digest32,
+        before: Before<'a>,
         levels: u8,
         ahead: &'a Ahead<'a>,
     },

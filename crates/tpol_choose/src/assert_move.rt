@@ -26,6 +26,18 @@ impl<'a> AssertMove<'a> {
         }
     }
 
+    // The same where the digest that it leads to is known.
+    pub fn with_after(assertion: &'a Assertion, before: Digest32, after: Digest32) -> AssertMove<'a>
+        requires known { after ≡ spec.digest_after_assertion assertion.now before }
+        ensures { result.assertion.now ≡ assertion.now }
+    {
+        AssertMove {
+            assertion,
+            before,
+            after,
+        }
+    }
+
     // The digest that it leads to from this one, which a session may have in place of the policy's.
     pub fn digest_from(&self, before: Digest32) -> Digest32
         ensures { result ≡ spec.digest_after_assertion self.now.assertion.now before }

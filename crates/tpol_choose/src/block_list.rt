@@ -1,13 +1,14 @@
 // What stands in the way of each way through a policy, on one walk through it, depth first.
 
 ghost use Rattle.std.specs.Prelude.{◌≡◌, ◌++◌, All, IfOk, OnOk, ℕ, length, map};
-ghost use Rattle.tpol_choose.specs.Ahead.{HasFewBranchesAhead};
+ghost use Rattle.tpol_choose.specs.Ahead.{IsSoundAhead};
 ghost use Rattle.tpol_choose.specs.Blocks.{block_on, first_block};
 ghost use Rattle.tpol_choose.specs.Lent.{client_of_lent};
 ghost use Rattle.tpol_choose.specs.BlockLists as spec;
 ghost use Rattle.tpol_choose.specs.Tracks.{IsTrack, TrackState};
-ghost use Rattle.tpol_digest.specs.Digest.{digest_at_element};
+ghost use Rattle.tpol_digest.specs.Digest.{digest_at_element, zero_digest as no_digest};
 ghost use Rattle.tpol_digest.specs.Limits.{AreWithinLimits};
+ghost use Rattle.tpol_digest.specs.Memos.{IsMemo, Knows, KnowsBranches, KnowsFirst};
 ghost use Rattle.tpol_digest.specs.Paths.{approved_paths, document_paths, outside_paths, paths_of};
 ghost use Rattle.tpol_digest.specs.Positions as at;
 ghost use Rattle.tpol_name.specs.Setups.{IsSight};
@@ -18,30 +19,33 @@ use crate::act::Act;
 use crate::ahead::Ahead;
 use crate::approving::{approval, outside_approval};
 use crate::assert_move::AssertMove;
-use crate::branch_digests::BranchDigests;
 use crate::client::{Client, GoalHashes};
 use crate::lead::Lead;
+use crate::or_digests::OrDigests;
 use crate::or_move::OrMove;
 use crate::track::Track;
 use crate::walk::Walk;
 use std::alloc::Global;
-use tpol_base::{Digest32, NoMemory};
-use tpol_digest::{MAX_LEVELS, digest_after_element, zero_digest};
+use tpol_base::NoMemory;
+use tpol_digest::{Before, BeforeBranches, MAX_LEVELS, Memo, zero_digest};
 use tpol_goal::{Goal, Grants};
 use tpol_name::Sight;
 use tpol_tree::{Approvals, Closed, ClosedBranches, ClosedElement, ClosedElements};
 
 /// What stands in the way of each path of a policy, in the order of the paths (see `can`). The policy is
-/// walked once, and no path is made. It fails only where memory ran out.
+/// walked once, and no path is made; its digests are kept in `memo` (see `tpol_digest::memo_of`). It fails only
+/// where memory ran out.
 pub fn blocks<'a>(
     alloc: Global,
     policy: &Closed,
+    memo: &Memo,
     approvals: &'a Approvals,
     sight: &'a Sight,
     grants: &'a Grants,
     goal: &'a Goal,
     locality: u8,
 ) -> Result<Vec<Option<Block>>, NoMemory>
+    requires memo { IsMemo policy.now.elements no_digest memo.now }
     requires few { HaveFewBranches policy.now approvals.now }
     requires within { AreWithinLimits (paths_of policy.now approvals.now) }
     requires sight { IsSight sight.now }
@@ -61,13 +65,14 @@ pub fn blocks<'a>(
         levels: MAX_LEVELS,
     };
     let mut blocks = Vec::new(alloc);
-    push_policy(&walk, policy, &mut blocks)?;
+    push_policy(&walk, policy, memo, &mut blocks)?;
     Ok(blocks)
 }
 
 fn push_policy(
     walk: &Walk<'_>,
     policy: &Closed,
+    memo: &Memo,
     found: &mut Vec<Option<Block>>,
 ) -> Result<(), NoMemory>
     requires branches { HasFewBranches policy.now.elements }
@@ -75,6 +80,7 @@ fn push_policy(
         walk.now.approvals.now }
     requires sight { IsSight walk.now.client.sight.now }
     requires levels { walk.now.levels ≡ 4 }
+    requires memo { IsMemo policy.now.elements no_digest memo.now }
     requires within { AreWithinLimits (paths_of policy.now walk.now.approvals.now) }
     ensures { OnOk result (found.new.items ≡ found.old.items
         ++ map (block_on (client_of_lent walk.now.client))
@@ -85,7 +91,7 @@ fn push_policy(
         walk,
         track,
         &policy.elements,
-        zero_digest(),
+        Before::start(memo),
         &Ahead::Nothing,
         found,
     )
@@ -98,7 +104,7 @@ fn push_elements<'a>(
     walk: &Walk<'_>,
     track: Track,
     elements: &'a ClosedElements,
-    before: Digest32,
+    before: Before<'a>,
     ahead: &'a Ahead<'a>,
     found: &mut Vec<Option<Block>>,
 ) -> Result<(), NoMemory>
@@ -106,12 +112,14 @@ fn push_elements<'a>(
     requires approved { All (λ document. HasFewBranches document.closed.elements)
         walk.now.approvals.now }
     requires sight { IsSight walk.now.client.sight.now }
-    requires ahead { HasFewBranchesAhead ahead.now }
+    requires ahead { IsSoundAhead ahead.now }
+    requires knows { Knows before elements.now }
     ensures { (state : TrackState) → IsTrack track state
         → OnOk result (found.new.items ≡ found.old.items
         ++ spec.blocks_of (client_of_lent walk.now.client)
         (spec.blocks_ahead (client_of_lent walk.now.client) walk.now.approvals.now ahead.now)
-        state (at.element_list_ways walk.now.approvals.now walk.now.levels elements.now before)) }
+        state (at.element_list_ways walk.now.approvals.now walk.now.levels elements.now
+        before.entry.digest)) }
 {
     match elements {
         ClosedElements::End => push_ahead(walk, track, ahead, found),
@@ -128,7 +136,7 @@ fn push_element<'a>(
     track: Track,
     element: &'a ClosedElement,
     rest: &'a ClosedElements,
-    before: Digest32,
+    before: Before<'a>,
     ahead: &'a Ahead<'a>,
     found: &mut Vec<Option<Block>>,
 ) -> Result<(), NoMemory>
@@ -137,24 +145,29 @@ fn push_element<'a>(
     requires approved { All (λ document. HasFewBranches document.closed.elements)
         walk.now.approvals.now }
     requires sight { IsSight walk.now.client.sight.now }
-    requires ahead { HasFewBranchesAhead ahead.now }
+    requires ahead { IsSoundAhead ahead.now }
+    requires knows { KnowsFirst before element.now rest.now }
     ensures { (state : TrackState) → IsTrack track state
         → OnOk result (found.new.items ≡ found.old.items
         ++ spec.blocks_of (client_of_lent walk.now.client)
         (spec.blocks_rest (client_of_lent walk.now.client) walk.now.approvals.now walk.now.levels
-        rest.now (digest_at_element element.now before) ahead.now)
-        state (at.element_ways walk.now.approvals.now walk.now.levels element.now before)) }
+        rest.now (digest_at_element element.now before.entry.digest) ahead.now)
+        state (at.element_ways walk.now.approvals.now walk.now.levels element.now
+        before.entry.digest)) }
 {
     match element {
         ClosedElement::Assert(assertion) => {
-            let step = AssertMove::new(assertion, before);
+            let after = before.behind(element, rest);
+            let step = AssertMove::with_after(assertion, before.digest, after.digest);
             let next = track.after(&walk.client, &Act::Assert(step));
-            push_elements(walk, next, rest, step.after, ahead, found)
+            push_elements(walk, next, rest, after, ahead, found)
         }
         ClosedElement::Or(branches) => {
-            let digests = BranchDigests::of(branches, before);
-            let or = OrMove::new(digests.as_slice());
-            let lead = Lead::of(rest, or.after);
+            let digests = OrDigests::of(&before, branches, rest);
+            let after = digests.behind(&before, element, rest);
+            let or = OrMove::with_after(digests.as_slice(), after.digest);
+            let lead = Lead::of(rest, after);
+            let inner = before.within(branches, rest);
             let behind = Ahead::After {
                 act: Act::Or(or),
                 first: lead.first,
@@ -163,10 +176,10 @@ fn push_element<'a>(
                 levels: walk.levels,
                 ahead: &*ahead,
             };
-            push_branches(walk, track, &*branches, before, &behind, found)
+            push_branches(walk, track, &*branches, inner, &behind, found)
         }
         ClosedElement::Authorize { .. } | ClosedElement::AuthorizeNv { .. } => {
-            let after = digest_after_element(element, before);
+            let after = before.behind(element, rest);
             push_approvals(walk, track, element, rest, after, ahead, found)
         }
     }
@@ -178,7 +191,7 @@ fn push_branches<'a>(
     walk: &Walk<'_>,
     track: Track,
     branches: &'a ClosedBranches,
-    before: Digest32,
+    before: BeforeBranches<'a>,
     ahead: &'a Ahead<'a>,
     found: &mut Vec<Option<Block>>,
 ) -> Result<(), NoMemory>
@@ -186,19 +199,24 @@ fn push_branches<'a>(
     requires approved { All (λ document. HasFewBranches document.closed.elements)
         walk.now.approvals.now }
     requires sight { IsSight walk.now.client.sight.now }
-    requires ahead { HasFewBranchesAhead ahead.now }
+    requires ahead { IsSoundAhead ahead.now }
+    requires knows { KnowsBranches before branches.now }
     ensures { (state : TrackState) (position : ℕ) → IsTrack track state
         → OnOk result (found.new.items ≡ found.old.items
         ++ spec.blocks_of (client_of_lent walk.now.client)
         (spec.blocks_ahead (client_of_lent walk.now.client) walk.now.approvals.now ahead.now)
         state (at.branch_ways walk.now.approvals.now walk.now.levels branches.now position
-        before)) }
+        before.entry.digest)) }
 {
     match branches {
         ClosedBranches::End => Ok(()),
         ClosedBranches::More(branch, rest) => {
-            push_elements(walk, track, &branch.policy.elements, before, ahead, found)?;
-            push_branches(walk, track, rest, before, ahead, found)
+            let elements = &branch.policy.elements;
+            let rest = &**rest;
+            let first = before.first(elements, rest);
+            let others = before.behind(elements, rest);
+            push_elements(walk, track, elements, first, ahead, found)?;
+            push_branches(walk, track, rest, others, ahead, found)
         }
     }
 }
@@ -211,7 +229,7 @@ fn push_approvals<'a>(
     track: Track,
     element: &'a ClosedElement,
     rest: &'a ClosedElements,
-    after: Digest32,
+    after: Before<'a>,
     ahead: &'a Ahead<'a>,
     found: &mut Vec<Option<Block>>,
 ) -> Result<(), NoMemory>
@@ -220,12 +238,13 @@ fn push_approvals<'a>(
     requires approved { All (λ document. HasFewBranches document.closed.elements)
         walk.now.approvals.now }
     requires sight { IsSight walk.now.client.sight.now }
-    requires ahead { HasFewBranchesAhead ahead.now }
+    requires ahead { IsSoundAhead ahead.now }
+    requires knows { Knows after rest.now }
     ensures { (state : TrackState) → IsTrack track state
         → OnOk result (found.new.items ≡ found.old.items
         ++ spec.blocks_of (client_of_lent walk.now.client)
         (spec.blocks_rest (client_of_lent walk.now.client) walk.now.approvals.now walk.now.levels
-        rest.now after ahead.now)
+        rest.now after.entry.digest ahead.now)
         state (at.approval_ways walk.now.approvals.now walk.now.levels element.now)) }
 {
     push_documents(walk, track, element, rest, after, ahead, found)?;
@@ -245,7 +264,7 @@ fn push_documents<'a>(
     track: Track,
     element: &'a ClosedElement,
     rest: &'a ClosedElements,
-    after: Digest32,
+    after: Before<'a>,
     ahead: &'a Ahead<'a>,
     found: &mut Vec<Option<Block>>,
 ) -> Result<(), NoMemory>
@@ -253,12 +272,13 @@ fn push_documents<'a>(
     requires approved { All (λ document. HasFewBranches document.closed.elements)
         walk.now.approvals.now }
     requires sight { IsSight walk.now.client.sight.now }
-    requires ahead { HasFewBranchesAhead ahead.now }
+    requires ahead { IsSoundAhead ahead.now }
+    requires knows { Knows after rest.now }
     ensures { (state : TrackState) → IsTrack track state
         → OnOk result (found.new.items ≡ found.old.items
         ++ spec.blocks_of (client_of_lent walk.now.client)
         (spec.blocks_rest (client_of_lent walk.now.client) walk.now.approvals.now walk.now.levels
-        rest.now after ahead.now)
+        rest.now after.entry.digest ahead.now)
         state (approved_paths (document_paths walk.now.approvals.now walk.now.levels)
         walk.now.approvals.now element.now)) }
 {
@@ -280,7 +300,8 @@ fn push_documents<'a>(
                 ahead: &*ahead,
             };
             let elements = &document.closed.elements;
-            push_elements(&inner, track, &*elements, zero_digest(), &behind, found)?;
+            let start = Before::without_memo(zero_digest());
+            push_elements(&inner, track, &*elements, start, &behind, found)?;
         }
     }
     Ok(())
@@ -297,7 +318,7 @@ fn push_ahead<'a>(
     requires approved { All (λ document. HasFewBranches document.closed.elements)
         walk.now.approvals.now }
     requires sight { IsSight walk.now.client.sight.now }
-    requires ahead { HasFewBranchesAhead ahead.now }
+    requires ahead { IsSoundAhead ahead.now }
     ensures { (state : TrackState) → IsTrack track state
         → OnOk result (found.new.items ≡ found.old.items
         ++ spec.blocks_ahead (client_of_lent walk.now.client) walk.now.approvals.now ahead.now

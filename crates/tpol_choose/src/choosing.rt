@@ -2,7 +2,9 @@
 
 ghost use Rattle.std.specs.Prelude.{◌≡◌};
 ghost use Rattle.tpol_choose.specs.Blocks.{chosen_path};
+ghost use Rattle.tpol_digest.specs.Digest.{zero_digest as no_digest};
 ghost use Rattle.tpol_digest.specs.Limits.{AreWithinLimits};
+ghost use Rattle.tpol_digest.specs.Memos.{IsMemo, Knows};
 ghost use Rattle.tpol_digest.specs.Paths.{paths_of};
 ghost use Rattle.tpol_choose.specs.Few.{HaveFewBranches};
 ghost use Rattle.tpol_name.specs.Setups.{IsSight};
@@ -10,7 +12,7 @@ ghost use Rattle.tpol_name.specs.Setups.{IsSight};
 use crate::client::{Client, GoalHashes};
 use crate::searching::{Search, search_policy};
 use crate::walk::Walk;
-use tpol_digest::MAX_LEVELS;
+use tpol_digest::{Before, MAX_LEVELS, Memo, zero_digest};
 use tpol_goal::{Goal, Grants};
 use tpol_name::Sight;
 use tpol_tree::{Approvals, Closed};
@@ -32,6 +34,49 @@ pub fn choose<'a>(
     ensures chosen { result ≡ chosen_path
         (paths_of policy.now approvals.now) sight.now grants.now goal.now locality }
 {
+    let before = Before::without_memo(zero_digest());
+    choose_from(policy, before, approvals, sight, grants, goal, locality)
+}
+
+/// The same as `choose`, where the digests of the policy are kept in `memo` (see `tpol_digest::memo_of`).
+pub fn choose_with_memo<'a>(
+    policy: &Closed,
+    memo: &Memo,
+    approvals: &'a Approvals,
+    sight: &'a Sight,
+    grants: &'a Grants,
+    goal: &'a Goal,
+    locality: u8,
+) -> Option<u32>
+    requires memo { IsMemo policy.now.elements no_digest memo.now }
+    requires few { HaveFewBranches policy.now approvals.now }
+    requires within { AreWithinLimits (paths_of policy.now approvals.now) }
+    requires sight { IsSight sight.now }
+    ensures chosen { result ≡ chosen_path
+        (paths_of policy.now approvals.now) sight.now grants.now goal.now locality }
+{
+    let before = Before::start(memo);
+    choose_from(policy, before, approvals, sight, grants, goal, locality)
+}
+
+// The same, where `before` is the digest before the policy.
+fn choose_from<'a>(
+    policy: &Closed,
+    before: Before<'_>,
+    approvals: &'a Approvals,
+    sight: &'a Sight,
+    grants: &'a Grants,
+    goal: &'a Goal,
+    locality: u8,
+) -> Option<u32>
+    requires start { before.digest ≡ no_digest }
+    requires knows { Knows before policy.now.elements }
+    requires few { HaveFewBranches policy.now approvals.now }
+    requires within { AreWithinLimits (paths_of policy.now approvals.now) }
+    requires sight { IsSight sight.now }
+    ensures { result ≡ chosen_path
+        (paths_of policy.now approvals.now) sight.now grants.now goal.now locality }
+{
     if sight.free_sessions == 0 {
         return None;
     }
@@ -46,7 +91,7 @@ pub fn choose<'a>(
         approvals: approvals.as_slice(),
         levels: MAX_LEVELS,
     };
-    match search_policy(&walk, policy) {
+    match search_policy(&walk, policy, before) {
         Search::Found(index) => Some(index as u32 + 1),
         Search::Passed(_) => None,
     }

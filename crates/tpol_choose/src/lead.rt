@@ -1,9 +1,10 @@
 // What a list of elements begins with.
 
 ghost use Rattle.tpol_choose.specs.Leads.{IsLead};
+ghost use Rattle.tpol_digest.specs.Memos.{Knows};
 
 use crate::assert_move::AssertMove;
-use tpol_base::Digest32;
+use tpol_digest::Before;
 use tpol_tree::{ClosedElement, ClosedElements};
 
 // An assertion that a list begins with, if it does, made to a move, and the rest of the list with the digest
@@ -12,23 +13,26 @@ use tpol_tree::{ClosedElement, ClosedElements};
 pub struct Lead<'a> {
     pub first: Option<AssertMove<'a>>,
     pub rest: &'a ClosedElements,
-    pub before: Digest32,
+    pub before: Before<'a>,
 }
 
 impl<'a> Lead<'a> {
     // That of a list with the digest before it.
-    pub fn of(elements: &'a ClosedElements, before: Digest32) -> Lead<'a>
-        ensures { IsLead result elements.now before }
+    pub fn of(elements: &'a ClosedElements, before: Before<'a>) -> Lead<'a>
+        requires knows { Knows before elements.now }
+        ensures lead { IsLead result elements.now before.entry.digest }
+        ensures knows { Knows result.before result.rest.now }
     {
         match elements {
             ClosedElements::End => Lead::without(elements, before),
             ClosedElements::More(element, rest) => match &**element {
                 ClosedElement::Assert(assertion) => {
-                    let step = AssertMove::new(assertion, before);
+                    let after = before.behind(element, rest);
+                    let step = AssertMove::with_after(assertion, before.digest, after.digest);
                     Lead {
                         first: Some(step),
                         rest: &**rest,
-                        before: step.after,
+                        before: after,
                     }
                 }
                 _ => Lead::without(elements, before),
@@ -37,8 +41,10 @@ impl<'a> Lead<'a> {
     }
 
     // That of a list of which nothing is made to a move.
-    fn without(elements: &'a ClosedElements, before: Digest32) -> Lead<'a>
-        ensures { IsLead result elements.now before }
+    fn without(elements: &'a ClosedElements, before: Before<'a>) -> Lead<'a>
+        requires knows { Knows before elements.now }
+        ensures lead { IsLead result elements.now before.entry.digest }
+        ensures knows { Knows result.before result.rest.now }
     {
         Lead {
             first: None,

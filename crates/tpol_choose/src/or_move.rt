@@ -21,4 +21,12 @@ impl<'a> OrMove<'a> {
             after: or_digest(digests),
         }
     }
+
+    // The same where the digest that it leads to is known.
+    pub fn with_after(digests: &'a [Digest32], after: Digest32) -> OrMove<'a>
+        requires known { after ≡ spec.or_digest digests.now }
+        ensures { result.digests.now ≡ digests.now }
+    {
+        OrMove { digests, after }
+    }
 }

@@ -1,13 +1,14 @@
 // The first way through a policy that can be gone, on one walk through it, depth first.
 
 ghost use Rattle.std.specs.Prelude.{◌≡◌, ◌*◌, All, ℕ, length};
-ghost use Rattle.tpol_choose.specs.Ahead.{HasFewBranchesAhead, ways_ahead};
+ghost use Rattle.tpol_choose.specs.Ahead.{IsSoundAhead, ways_ahead};
 ghost use Rattle.tpol_choose.specs.Lent.{client_of_lent};
 ghost use Rattle.tpol_choose.specs.Searches as spec;
 ghost use Rattle.tpol_choose.specs.Tracks.{IsTrack, TrackState, fresh_track};
 ghost use Rattle.tpol_choose.specs.declared.searching.Search.TheVariants as found;
-ghost use Rattle.tpol_digest.specs.Digest.{digest_at_element};
+ghost use Rattle.tpol_digest.specs.Digest.{digest_at_element, zero_digest as no_digest};
 ghost use Rattle.tpol_digest.specs.Extent.{document_extent, extent_at};
+ghost use Rattle.tpol_digest.specs.Memos.{Knows, KnowsBranches, KnowsFirst};
 ghost use Rattle.tpol_digest.specs.Paths.{approved_paths, document_paths, outside_paths, paths_of};
 ghost use Rattle.tpol_digest.specs.Positions as at;
 ghost use Rattle.tpol_name.specs.Setups.{IsSight};
@@ -17,13 +18,12 @@ use crate::act::Act;
 use crate::ahead::{Ahead, COUNTED, count_ahead};
 use crate::approving::approval;
 use crate::assert_move::AssertMove;
-use crate::branch_digests::BranchDigests;
 use crate::lead::Lead;
+use crate::or_digests::OrDigests;
 use crate::or_move::OrMove;
 use crate::track::Track;
 use crate::walk::Walk;
-use tpol_base::Digest32;
-use tpol_digest::{count_ways, digest_after_element, zero_digest};
+use tpol_digest::{Before, BeforeBranches, count_ways, zero_digest};
 use tpol_tree::{Closed, ClosedBranches, ClosedElement, ClosedElements};
 
 // How far a search is: at the index, from 0, of a way that can be gone; or past so many ways, counted to
@@ -34,13 +34,15 @@ pub enum Search {
     Passed(u64),
 }
 
-// Looks for the first way through a policy that can be gone.
-pub fn search_policy(walk: &Walk<'_>, policy: &Closed) -> Search
+// Looks for the first way through a policy that can be gone; `before` is the digest before it.
+pub fn search_policy(walk: &Walk<'_>, policy: &Closed, before: Before<'_>) -> Search
     requires branches { HasFewBranches policy.now.elements }
     requires approved { All (λ document. HasFewBranches document.closed.elements)
         walk.now.approvals.now }
     requires sight { IsSight walk.now.client.sight.now }
     requires levels { walk.now.levels ≡ 4 }
+    requires start { before.digest ≡ no_digest }
+    requires knows { Knows before policy.now.elements }
     ensures found { result ≡ spec.search_ways (client_of_lent walk.now.client)
         (spec.search_end (client_of_lent walk.now.client))
         (fresh_track (client_of_lent walk.now.client)) 0
@@ -48,14 +50,7 @@ pub fn search_policy(walk: &Walk<'_>, policy: &Closed) -> Search
     ensures counted { spec.IsCounted result }
 {
     let track = Track::new(&walk.client);
-    search_elements(
-        walk,
-        track,
-        &policy.elements,
-        zero_digest(),
-        &Ahead::Nothing,
-        0,
-    )
+    search_elements(walk, track, &policy.elements, before, &Ahead::Nothing, 0)
 }
 
 // Goes on with a search, from a track that has passed so many ways, through all ways through elements and
@@ -65,7 +60,7 @@ fn search_elements<'a>(
     walk: &Walk<'_>,
     track: Track,
     elements: &'a ClosedElements,
-    before: Digest32,
+    before: Before<'a>,
     ahead: &'a Ahead<'a>,
     passed: u64,
 ) -> Search
@@ -73,12 +68,13 @@ fn search_elements<'a>(
     requires approved { All (λ document. HasFewBranches document.closed.elements)
         walk.now.approvals.now }
     requires sight { IsSight walk.now.client.sight.now }
-    requires ahead { HasFewBranchesAhead ahead.now }
+    requires ahead { IsSoundAhead ahead.now }
+    requires knows { Knows before elements.now }
     ensures { (state : TrackState) → IsTrack track state
         → result ≡ spec.search_ways (client_of_lent walk.now.client)
         (spec.search_ahead (client_of_lent walk.now.client) walk.now.approvals.now ahead.now)
         state passed (at.element_list_ways walk.now.approvals.now walk.now.levels elements.now
-        before) }
+        before.entry.digest) }
 {
     if track.is_hopeless(&walk.client) {
         return pass_over(walk, elements, ahead, passed);
@@ -98,7 +94,7 @@ fn search_element<'a>(
     track: Track,
     element: &'a ClosedElement,
     rest: &'a ClosedElements,
-    before: Digest32,
+    before: Before<'a>,
     ahead: &'a Ahead<'a>,
     passed: u64,
 ) -> Search
@@ -107,23 +103,28 @@ fn search_element<'a>(
     requires approved { All (λ document. HasFewBranches document.closed.elements)
         walk.now.approvals.now }
     requires sight { IsSight walk.now.client.sight.now }
-    requires ahead { HasFewBranchesAhead ahead.now }
+    requires ahead { IsSoundAhead ahead.now }
+    requires knows { KnowsFirst before element.now rest.now }
     ensures { (state : TrackState) → IsTrack track state
         → result ≡ spec.search_ways (client_of_lent walk.now.client)
         (spec.search_rest (client_of_lent walk.now.client) walk.now.approvals.now walk.now.levels
-        rest.now (digest_at_element element.now before) ahead.now)
-        state passed (at.element_ways walk.now.approvals.now walk.now.levels element.now before) }
+        rest.now (digest_at_element element.now before.entry.digest) ahead.now)
+        state passed (at.element_ways walk.now.approvals.now walk.now.levels element.now
+        before.entry.digest) }
 {
     match element {
         ClosedElement::Assert(assertion) => {
-            let step = AssertMove::new(assertion, before);
+            let after = before.behind(element, rest);
+            let step = AssertMove::with_after(assertion, before.digest, after.digest);
             let next = track.after(&walk.client, &Act::Assert(step));
-            search_elements(walk, next, rest, step.after, ahead, passed)
+            search_elements(walk, next, rest, after, ahead, passed)
         }
         ClosedElement::Or(branches) => {
-            let digests = BranchDigests::of(branches, before);
-            let or = OrMove::new(digests.as_slice());
-            let lead = Lead::of(rest, or.after);
+            let digests = OrDigests::of(&before, branches, rest);
+            let after = digests.behind(&before, element, rest);
+            let or = OrMove::with_after(digests.as_slice(), after.digest);
+            let lead = Lead::of(rest, after);
+            let inner = before.within(branches, rest);
             let behind = Ahead::After {
                 act: Act::Or(or),
                 first: lead.first,
@@ -132,10 +133,10 @@ fn search_element<'a>(
                 levels: walk.levels,
                 ahead: &*ahead,
             };
-            search_branches(walk, track, &*branches, before, &behind, passed)
+            search_branches(walk, track, &*branches, inner, &behind, passed)
         }
         ClosedElement::Authorize { .. } | ClosedElement::AuthorizeNv { .. } => {
-            let after = digest_after_element(element, before);
+            let after = before.behind(element, rest);
             search_approvals(walk, track, element, rest, after, ahead, passed)
         }
     }
@@ -147,7 +148,7 @@ fn search_branches<'a>(
     walk: &Walk<'_>,
     track: Track,
     branches: &'a ClosedBranches,
-    before: Digest32,
+    before: BeforeBranches<'a>,
     ahead: &'a Ahead<'a>,
     passed: u64,
 ) -> Search
@@ -155,20 +156,26 @@ fn search_branches<'a>(
     requires approved { All (λ document. HasFewBranches document.closed.elements)
         walk.now.approvals.now }
     requires sight { IsSight walk.now.client.sight.now }
-    requires ahead { HasFewBranchesAhead ahead.now }
+    requires ahead { IsSoundAhead ahead.now }
+    requires knows { KnowsBranches before branches.now }
     ensures { (state : TrackState) (position : ℕ) → IsTrack track state
         → result ≡ spec.search_ways (client_of_lent walk.now.client)
         (spec.search_ahead (client_of_lent walk.now.client) walk.now.approvals.now ahead.now)
         state passed (at.branch_ways walk.now.approvals.now walk.now.levels branches.now position
-        before) }
+        before.entry.digest) }
 {
     match branches {
         ClosedBranches::End => Search::Passed(passed),
         ClosedBranches::More(branch, rest) => {
             let elements = &branch.policy.elements;
-            match search_elements(walk, track, elements, before, ahead, passed) {
+            let rest = &**rest;
+            let first = before.first(elements, rest);
+            match search_elements(walk, track, elements, first, ahead, passed) {
                 Search::Found(index) => Search::Found(index),
-                Search::Passed(more) => search_branches(walk, track, rest, before, ahead, more),
+                Search::Passed(more) => {
+                    let others = before.behind(elements, rest);
+                    search_branches(walk, track, rest, others, ahead, more)
+                }
             }
         }
     }
@@ -182,7 +189,7 @@ fn search_approvals<'a>(
     track: Track,
     element: &'a ClosedElement,
     rest: &'a ClosedElements,
-    after: Digest32,
+    after: Before<'a>,
     ahead: &'a Ahead<'a>,
     passed: u64,
 ) -> Search
@@ -191,11 +198,12 @@ fn search_approvals<'a>(
     requires approved { All (λ document. HasFewBranches document.closed.elements)
         walk.now.approvals.now }
     requires sight { IsSight walk.now.client.sight.now }
-    requires ahead { HasFewBranchesAhead ahead.now }
+    requires ahead { IsSoundAhead ahead.now }
+    requires knows { Knows after rest.now }
     ensures { (state : TrackState) → IsTrack track state
         → result ≡ spec.search_ways (client_of_lent walk.now.client)
         (spec.search_rest (client_of_lent walk.now.client) walk.now.approvals.now walk.now.levels
-        rest.now after ahead.now)
+        rest.now after.entry.digest ahead.now)
         state passed (at.approval_ways walk.now.approvals.now walk.now.levels element.now) }
 {
     match search_documents(walk, track, element, rest, after, ahead, passed) {
@@ -211,7 +219,7 @@ fn search_documents<'a>(
     track: Track,
     element: &'a ClosedElement,
     rest: &'a ClosedElements,
-    after: Digest32,
+    after: Before<'a>,
     ahead: &'a Ahead<'a>,
     passed: u64,
 ) -> Search
@@ -219,11 +227,12 @@ fn search_documents<'a>(
     requires approved { All (λ document. HasFewBranches document.closed.elements)
         walk.now.approvals.now }
     requires sight { IsSight walk.now.client.sight.now }
-    requires ahead { HasFewBranchesAhead ahead.now }
+    requires ahead { IsSoundAhead ahead.now }
+    requires knows { Knows after rest.now }
     ensures { (state : TrackState) → IsTrack track state
         → result ≡ spec.search_ways (client_of_lent walk.now.client)
         (spec.search_rest (client_of_lent walk.now.client) walk.now.approvals.now walk.now.levels
-        rest.now after ahead.now)
+        rest.now after.entry.digest ahead.now)
         state passed (approved_paths
         (document_paths walk.now.approvals.now walk.now.levels) walk.now.approvals.now
         element.now) }
@@ -247,7 +256,8 @@ fn search_documents<'a>(
                 ahead: &*ahead,
             };
             let elements = &document.closed.elements;
-            match search_elements(&inner, track, &*elements, zero_digest(), &behind, so_far) {
+            let start = Before::without_memo(zero_digest());
+            match search_elements(&inner, track, &*elements, start, &behind, so_far) {
                 Search::Found(index) => return Search::Found(index),
                 Search::Passed(more) => so_far = more,
             }
@@ -262,7 +272,7 @@ fn search_ahead<'a>(walk: &Walk<'_>, track: Track, ahead: &'a Ahead<'a>, passed:
     requires approved { All (λ document. HasFewBranches document.closed.elements)
         walk.now.approvals.now }
     requires sight { IsSight walk.now.client.sight.now }
-    requires ahead { HasFewBranchesAhead ahead.now }
+    requires ahead { IsSoundAhead ahead.now }
     ensures { (state : TrackState) → IsTrack track state
         → result ≡ spec.search_ahead
         (client_of_lent walk.now.client) walk.now.approvals.now ahead.now state passed }

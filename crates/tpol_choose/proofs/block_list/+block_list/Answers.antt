@@ -7,6 +7,7 @@ use Rattle.tpol_tree.specs.declared.path.Move.TheVariants.{Assert, Or}
 use Rattle.tpol_tree.specs.declared.path.PathStep.TheVariants.{Branch}
 use Rattle.tpol_choose.specs.Few.{HasFewBranches, ElementHasFewBranches, BranchesHaveFewBranches}
 use Rattle.tpol_digest.specs.Digest.{branch_digests, digest_at_element, or_digest}
+use Rattle.tpol_digest.specs.Memos.{KnowsFirst}
 use Rattle.tpol_digest.specs.Paths.{approved_paths, document_paths, empty_path, followed_by, outside_paths, paths_by_approval}
 use Rattle.tpol_digest.specs.Positions.{path_of_step, element_list_ways, element_ways, branch_ways, approval_ways}
 use Rattle.tpol_digest.proofs.Documents.{approved_none}
@@ -37,7 +38,7 @@ push_elements-returns-in-More t c =
     let client = client_of_lent c.args.walk.now.client in
     let documents = c.args.walk.now.approvals.now in
     let levels = c.args.walk.now.levels in
-    let d = c.args.before in
+    let d = c.args.before.digest in
     let element = c.in-More.element.value in
     let rest = c.in-More.rest.value in
     let ahead = c.args.ahead.now in
@@ -58,10 +59,10 @@ push_element-returns-in-Assert t c =
     let ahead = c.args.ahead.now in
     let blocks = c.args.found.now.items in
     let act = Assert c.in-Assert.assertion in
-    let step = c.new-step.ensures in
+    let after = c.behind-after.ensures.digest ∙ ap (λ e. digest_at_element e c.args.before.digest) c.in-Assert.is in
     rw c.in-Assert.is (λ state h. on_ok_weaker c.push_elements.result (λ e. e
-    ∙ ap (λ d. blocks ++ blocks_of client (blocks_ahead client documents ahead) (track_after client state act) (element_list_ways documents levels rest d)) step.after
-    ∙ ap (λ l. blocks ++ l) (sym (blocks_one_move client (blocks_rest client documents levels rest (digest_at_element (closed.Assert c.in-Assert.assertion) c.args.before) ahead) state act))) (c.push_elements.ensures (track_after client state act) (subst (λ a. IsTrack c.after-next.result (track_after client state (Assert a))) step.assertion (c.after-next.ensures state h))))
+    ∙ ap (λ d. blocks ++ blocks_of client (blocks_ahead client documents ahead) (track_after client state act) (element_list_ways documents levels rest d)) after
+    ∙ ap (λ l. blocks ++ l) (sym (blocks_one_move client (blocks_rest client documents levels rest (digest_at_element (closed.Assert c.in-Assert.assertion) c.args.before.digest) ahead) state act))) (c.push_elements.ensures (track_after client state act) (subst (λ a. IsTrack c.after-next.result (track_after client state (Assert a))) c.with_after-step.ensures (c.after-next.ensures state h))))
 
 pub push_element-returns-in-Or : goal.push_element-returns-in-Or
 push_element-returns-in-Or t c =
@@ -71,20 +72,21 @@ push_element-returns-in-Or t c =
     let rest = c.args.rest.now in
     let ahead = c.args.ahead.now in
     let blocks = c.args.found.now.items in
-    let d = c.args.before in
+    let d = c.args.before.digest in
     let branches = c.in-Or.branches in
     let digests = branch_digests branches d in
     let ways = branch_ways documents levels branches 1 d in
     let first = c.of-lead.result.first in
-    let before = c.of-lead.result.before in
+    let before = c.of-lead.result.before.digest in
     let begins = c.of-lead.result.rest.now in
-    let behind = λ (s : TrackState). blocks_rest client documents levels begins before ahead (after_first client (track_after client s (Or c.new-or.result.digests.now)) first) in
-    let whole = λ (s : TrackState). blocks_rest client documents levels rest c.new-or.result.after ahead (track_after client s (Or c.new-or.result.digests.now)) in
-    let leads = λ (s : TrackState). lead_blocks client documents levels ahead (track_after client s (Or c.new-or.result.digests.now)) first rest c.new-or.result.after begins before c.of-lead.ensures in
+    let behind = λ (s : TrackState). blocks_rest client documents levels begins before ahead (after_first client (track_after client s (Or c.with_after-or.result.digests.now)) first) in
+    let whole = λ (s : TrackState). blocks_rest client documents levels rest c.behind-after-in-Or.result.digest ahead (track_after client s (Or c.with_after-or.result.digests.now)) in
+    let leads = λ (s : TrackState). lead_blocks client documents levels ahead (track_after client s (Or c.with_after-or.result.digests.now)) first rest c.behind-after-in-Or.result.digest begins before c.of-lead.ensures.lead in
     rw c.in-Or.is (λ state h. on_ok_weaker c.push_branches.result (λ e. e
+    ∙ ap (λ x. blocks ++ blocks_of client behind state (branch_ways documents levels branches 1 x)) c.within-inner.ensures.digest
     ∙ ap (λ l. blocks ++ l) (blocks_same client behind whole leads state ways)
-    ∙ ap (λ ds. blocks ++ blocks_of client (λ s. blocks_rest client documents levels rest c.new-or.result.after ahead (track_after client s (Or ds))) state ways) (c.new-or.ensures ∙ c.as_slice.ensures ∙ c.of-digests.ensures)
-    ∙ ap (λ x. blocks ++ blocks_of client (λ s. blocks_rest client documents levels rest x ahead (track_after client s (Or digests))) state ways) (c.new-or.result.known ∙ ap or_digest (c.new-or.ensures ∙ c.as_slice.ensures ∙ c.of-digests.ensures))
+    ∙ ap (λ ds. blocks ++ blocks_of client (λ s. blocks_rest client documents levels rest c.behind-after-in-Or.result.digest ahead (track_after client s (Or ds))) state ways) (c.with_after-or.ensures ∙ c.as_slice.ensures ∙ c.of-digests.ensures)
+    ∙ ap (λ x. blocks ++ blocks_of client (λ s. blocks_rest client documents levels rest x ahead (track_after client s (Or digests))) state ways) (c.behind-after-in-Or.ensures.digest ∙ ap or_digest c.of-digests.ensures)
     ∙ ap (λ l. blocks ++ l) (sym (blocks_by_move client (blocks_rest client documents levels rest (or_digest digests) ahead) state (Or digests) ways)
     ∙ ap (blocks_of client (blocks_rest client documents levels rest (or_digest digests) ahead) state) (branches_closed documents levels branches 1 (Or digests) d))) (c.push_branches.ensures state 1 h))
 
@@ -96,14 +98,14 @@ push_element-returns-in-Authorize t c = λ state h.
     let rest = c.args.rest.now in
     let ahead = c.args.ahead.now in
     let blocks = c.args.found.now.items in
-    let d = c.args.before in
+    let d = c.args.before.digest in
     let element = c.args.element.now in
     let same : approval_ways documents levels element ≡ element_ways documents levels element d = elim c.in-Authorize.is [
       | inl p ↦ subst (λ e. approval_ways documents levels e ≡ element_ways documents levels e d) (sym p.2) refl
       | inr q ↦ subst (λ e. approval_ways documents levels e ≡ element_ways documents levels e d) (sym q.1) refl
     ] in
     on_ok_weaker c.push_approvals.result (λ e. e
-    ∙ ap (λ x. blocks ++ blocks_of client (blocks_rest client documents levels rest x ahead) state (approval_ways documents levels element)) c.digest_after_element-after.ensures
+    ∙ ap (λ x. blocks ++ blocks_of client (blocks_rest client documents levels rest x ahead) state (approval_ways documents levels element)) c.behind-after-in-Authorize.ensures.digest
     ∙ ap (λ w. blocks ++ blocks_of client (blocks_rest client documents levels rest (digest_at_element element d) ahead) state w) same) (c.push_approvals.ensures state h)
 
 -- ---- branches
@@ -118,16 +120,17 @@ push_branches-returns-in_ok-push_elements-in-More t c =
     let levels = c.args.walk.now.levels in
     let behind = blocks_ahead client documents c.args.ahead.now in
     let blocks = c.args.found.now.items in
-    let d = c.args.before in
+    let d = c.args.before.digest in
     let branch = c.in-More.branch.value in
     let rest = c.in-More.rest.value in
     let ways = element_list_ways documents levels branch.policy.elements d in
     rw c.in-More.is (λ state position h.
     let step = Branch position branch.name in
     let others = branch_ways documents levels rest (position + 1) d in
-    let first = c.in_ok-push_elements-in-More.ensures state h ∙ ap (λ (b : ClosedBranch). blocks ++ blocks_of client behind state (element_list_ways documents levels b.policy.elements d)) c.deref.ensures in
+    let first = c.in_ok-push_elements-in-More.ensures state h ∙ ap (λ x. blocks ++ blocks_of client behind state (element_list_ways documents levels c.deref.result.now.policy.elements x)) c.first-first.ensures.digest ∙ ap (λ (b : ClosedBranch). blocks ++ blocks_of client behind state (element_list_ways documents levels b.policy.elements d)) c.deref.ensures in
     on_ok_weaker c.push_branches.result (λ e. e
-    ∙ ap (λ r. c.push_elements.new.found.items ++ blocks_of client behind state (branch_ways documents levels r (position + 1) d)) c.deref-in-More.ensures
+    ∙ ap (λ x. c.push_elements.new.found.items ++ blocks_of client behind state (branch_ways documents levels c.deref-rest.result.now (position + 1) x)) c.behind-others.ensures.digest
+    ∙ ap (λ r. c.push_elements.new.found.items ++ blocks_of client behind state (branch_ways documents levels r (position + 1) d)) c.deref-rest.ensures
     ∙ ap (λ l. l ++ blocks_of client behind state others) first
     ∙ append_assoc blocks (blocks_of client behind state ways) (blocks_of client behind state others)
     ∙ ap (λ l. blocks ++ (l ++ blocks_of client behind state others)) (sym (blocks_by_step client behind state step ways))
@@ -142,7 +145,7 @@ push_approvals-returns-in-Some t c = λ state h.
     let levels = c.args.walk.now.levels in
     let element = c.args.element.now in
     let blocks = c.args.found.now.items in
-    let behind = blocks_rest client documents levels c.args.rest.now c.args.after c.args.ahead.now in
+    let behind = blocks_rest client documents levels c.args.rest.now c.args.after.digest c.args.ahead.now in
     let act = move_of c.in-Some.act in
     let listed = approved_paths (document_paths documents levels) documents element in
     let gone = gone_outside (track_after client state act) in
@@ -159,7 +162,7 @@ push_documents-returns-then-walk-eq0 t c = λ state h.
     let client = client_of_lent c.args.walk.now.client in
     let documents = c.args.walk.now.approvals.now in
     let element = c.args.element.now in
-    let behind = blocks_rest client documents c.args.walk.now.levels c.args.rest.now c.args.after c.args.ahead.now in
+    let behind = blocks_rest client documents c.args.walk.now.levels c.args.rest.now c.args.after.digest c.args.ahead.now in
     let blocks = c.args.found.now.items in
     sym (ap (λ w. blocks ++ blocks_of client behind state w) (ap (λ n. approved_paths (document_paths documents n) documents element) c.if-walk-eq0.true ∙ approved_none documents documents element) ∙ append-nil blocks)
 
@@ -171,7 +174,7 @@ push_documents-returns t c = λ state h.
     let client = client_of_lent c.args.walk.now.client in
     let documents = c.args.walk.now.approvals.now in
     let levels = c.args.walk.now.levels in
-    let behind = blocks_rest client documents levels c.args.rest.now c.args.after c.args.ahead.now in
+    let behind = blocks_rest client documents levels c.args.rest.now c.args.after.digest c.args.ahead.now in
     sym (c.loop-document.invariant state h
     ∙ ap (λ w. c.loop-document.found.items ++ blocks_of client behind state w) (none_left documents levels c.args.element.now c.loop-document.document-index (omega (arith, c.loop-document-test.false)))
     ∙ append-nil c.loop-document.found.items)
@@ -201,13 +204,14 @@ push_elements-push_element-requires t c =
     let some = share_some c.args.walk.now.approvals.now c.args.walk.now.levels in
     let first = ap (λ e. weight_of_element e * s) c.deref.ensures in
     let rest = ap (λ e. weight e * s) c.deref-in-More.ensures in
+    let knows = subst (λ e. KnowsFirst c.args.before e c.deref-in-More.result.now) (sym c.deref.ensures) (subst (KnowsFirst c.args.before c.in-More.element.value) (sym c.deref-in-More.ensures) (rw c.in-More.is at c.requires.knows)) in
     let counts = rw c.in-More.is at c.requires.branches in (
       omega (arith, rw c.in-More.is at c.decreases, first, rest, some),
       (
         subst ElementHasFewBranches (sym c.deref.ensures) counts.0,
         (
           subst HasFewBranches (sym c.deref-in-More.ensures) counts.1,
-          (c.requires.approved, (c.requires.sight, c.requires.ahead)),
+          (c.requires.approved, (c.requires.sight, (c.requires.ahead, knows))),
         ),
       ),
     )
@@ -215,16 +219,16 @@ push_elements-push_element-requires t c =
 pub push_element-push_elements-requires : goal.push_element-push_elements-requires
 push_element-push_elements-requires t c =
     let some = share_some c.args.walk.now.approvals.now c.args.walk.now.levels in
-    (omega (arith, rw c.in-Assert.is at c.decreases, some), (c.requires.rest, (c.requires.approved, (c.requires.sight, c.requires.ahead))))
+    (omega (arith, rw c.in-Assert.is at c.decreases, some), (c.requires.rest, (c.requires.approved, (c.requires.sight, (c.requires.ahead, c.behind-after.ensures.knows)))))
 
 pub push_element-push_branches-requires : goal.push_element-push_branches-requires
 push_element-push_branches-requires t c =
     let some = share_some c.args.walk.now.approvals.now c.args.walk.now.levels in
     let counts = rw c.in-Or.is at c.requires.branches in
     let lead = c.of-lead.result in
-    let lighter = lead_lighter (share c.args.walk.now.approvals.now c.args.walk.now.levels) lead.first c.args.rest.now c.new-or.result.after lead.rest.now lead.before c.of-lead.ensures in
-    let few = lead_few lead.first c.args.rest.now c.new-or.result.after lead.rest.now lead.before c.of-lead.ensures c.requires.rest in
-    (omega (arith, rw c.in-Or.is at c.decreases, some, lighter), (counts.1, (c.requires.approved, (c.requires.sight, (few, c.requires.ahead)))))
+    let lighter = lead_lighter (share c.args.walk.now.approvals.now c.args.walk.now.levels) lead.first c.args.rest.now c.behind-after-in-Or.result.digest lead.rest.now lead.before.digest c.of-lead.ensures.lead in
+    let few = lead_few lead.first c.args.rest.now c.behind-after-in-Or.result.digest lead.rest.now lead.before.digest c.of-lead.ensures.lead c.requires.rest in
+    (omega (arith, rw c.in-Or.is at c.decreases, some, lighter), (counts.1, (c.requires.approved, (c.requires.sight, ((few, (c.of-lead.ensures.knows, c.requires.ahead)), c.within-inner.ensures.knows)))))
 
 pub push_element-push_approvals-requires : goal.push_element-push_approvals-requires
 push_element-push_approvals-requires t c =
@@ -234,14 +238,14 @@ push_element-push_approvals-requires t c =
         omega (arith, rw p.2 at c.decreases, some),
         (
           subst (λ e. length (outside_paths e) ≡ 1) (sym p.2) refl,
-          (c.requires.rest, (c.requires.approved, (c.requires.sight, c.requires.ahead))),
+          (c.requires.rest, (c.requires.approved, (c.requires.sight, (c.requires.ahead, c.behind-after-in-Authorize.ensures.knows)))),
         ),
       )
       | inr q ↦ (
         omega (arith, rw q.1 at c.decreases, some),
         (
           subst (λ e. length (outside_paths e) ≡ 1) (sym q.1) refl,
-          (c.requires.rest, (c.requires.approved, (c.requires.sight, c.requires.ahead))),
+          (c.requires.rest, (c.requires.approved, (c.requires.sight, (c.requires.ahead, c.behind-after-in-Authorize.ensures.knows)))),
         ),
       )
     ]
@@ -255,7 +259,7 @@ push_branches-push_elements-requires t c =
       omega (arith, rw c.in-More.is at c.decreases, same, some),
       (
         subst (λ (b : ClosedBranch). HasFewBranches b.policy.elements) (sym c.deref.ensures) counts.0,
-        (c.requires.approved, (c.requires.sight, c.requires.ahead)),
+        (c.requires.approved, (c.requires.sight, (c.requires.ahead, c.first-first.ensures.knows))),
       ),
     )
 
@@ -263,19 +267,19 @@ pub push_branches-push_branches-requires : goal.push_branches-push_branches-requ
 push_branches-push_branches-requires t c =
     let s = share c.args.walk.now.approvals.now c.args.walk.now.levels in
     let some = share_some c.args.walk.now.approvals.now c.args.walk.now.levels in
-    let same = ap (λ b. weight_of_branches b * s) c.deref-in-More.ensures in
+    let same = ap (λ b. weight_of_branches b * s) c.deref-rest.ensures in
     let counts = rw c.in-More.is at c.requires.branches in (
       omega (arith, rw c.in-More.is at c.decreases, same, some),
       (
-        subst BranchesHaveFewBranches (sym c.deref-in-More.ensures) counts.1,
-        (c.requires.approved, (c.requires.sight, c.requires.ahead)),
+        subst BranchesHaveFewBranches (sym c.deref-rest.ensures) counts.1,
+        (c.requires.approved, (c.requires.sight, (c.requires.ahead, c.behind-others.ensures.knows))),
       ),
     )
 
 pub push_approvals-push_documents-requires : goal.push_approvals-push_documents-requires
 push_approvals-push_documents-requires t c =
     let some = share_some c.args.walk.now.approvals.now c.args.walk.now.levels in
-    (omega (arith, c.decreases, some), (c.requires.rest, (c.requires.approved, (c.requires.sight, c.requires.ahead))))
+    (omega (arith, c.decreases, some), (c.requires.rest, (c.requires.approved, (c.requires.sight, (c.requires.ahead, c.requires.knows)))))
 
 pub push_documents-push_elements-requires : goal.push_documents-push_elements-requires
 push_documents-push_elements-requires t c =
@@ -289,19 +293,19 @@ push_documents-push_elements-requires t c =
       omega (arith, less, c.decreases),
       (
         subst (λ x. HasFewBranches x.closed.elements) (sym c.document-item.is) (c.requires.approved i document c.loop-document-test.true),
-        (c.requires.approved, (c.requires.sight, (c.requires.rest, c.requires.ahead))),
+        (c.requires.approved, (c.requires.sight, ((c.requires.rest, (c.requires.knows, c.requires.ahead)), c.without_memo-start.ensures.knows document.closed.elements))),
       ),
     )
 
 pub push_ahead-push_elements-requires : goal.push_ahead-push_elements-requires
 push_ahead-push_elements-requires t c =
     let counts = rw c.in-After.is at c.requires.ahead in
-    (omega (arith, rw c.in-After.is at c.decreases), (counts.0, (c.requires.approved, (c.requires.sight, counts.1))))
+    (omega (arith, rw c.in-After.is at c.decreases), (counts.0, (c.requires.approved, (c.requires.sight, (counts.1.1, counts.1.0)))))
 
 pub push_approvals-push_elements-requires : goal.push_approvals-push_elements-requires
 push_approvals-push_elements-requires t c =
     let some = share_some c.args.walk.now.approvals.now c.args.walk.now.levels in
-    (omega (arith, c.decreases, some), (c.requires.rest, (c.requires.approved, (c.requires.sight, c.requires.ahead))))
+    (omega (arith, c.decreases, some), (c.requires.rest, (c.requires.approved, (c.requires.sight, (c.requires.ahead, c.requires.knows)))))
 
 pub push_documents-loop-document-preserved : goal.push_documents-loop-document-preserved
 push_documents-loop-document-preserved t c =
@@ -309,7 +313,7 @@ push_documents-loop-document-preserved t c =
     let documents = c.args.walk.now.approvals.now in
     let levels = c.args.walk.now.levels in
     let element = c.args.element.now in
-    let behind = blocks_rest client documents levels c.args.rest.now c.args.after c.args.ahead.now in
+    let behind = blocks_rest client documents levels c.args.rest.now c.args.after.digest c.args.ahead.now in
     let document = c.document-item.result in
     let i = c.loop-document.document-index in
     let blocks = c.loop-document.found.items in
@@ -318,7 +322,7 @@ push_documents-loop-document-preserved t c =
     elim c.match-approval.branch [
       | push_documents-in-Some+in_ok-push_elements w ↦ λ state h.
           let others = blocks_of client behind state (left documents levels element (i + 1)) in
-          let inner = blocks_entered client behind documents levels element document (move_of w.in-Some.act) w.zero_digest.result state level w.in-Some.ensures w.zero_digest.ensures in
+          let inner = blocks_entered client behind documents levels element document (move_of w.in-Some.act) w.without_memo-start.result.digest state level w.in-Some.ensures (w.without_memo-start.ensures.digest ∙ w.zero_digest.ensures) in
           c.loop-document.invariant state h
           ∙ ap (λ v. blocks ++ blocks_of client behind state v) next
           ∙ ap (λ l. blocks ++ l) (blocks_append client behind state (part documents levels element document) (left documents levels element (i + 1)))

@@ -17,5 +17,5 @@ returns c =
     let paths = paths_of c.args.policy.now documents in
     let blocks = c.args.found.now.items in
     on_ok_weaker c.push_elements.result (λ e. e
-    ∙ ap (λ w. blocks ++ blocks_of client (block_at_the_end client) (fresh_track client) w) (whole_ways documents c.args.walk.now.levels c.args.policy.now c.zero_digest.result c.requires.levels c.zero_digest.ensures)
+    ∙ ap (λ w. blocks ++ blocks_of client (block_at_the_end client) (fresh_track client) w) (whole_ways documents c.args.walk.now.levels c.args.policy.now c.start.result.digest c.requires.levels c.start.ensures.digest)
     ∙ ap (λ l. blocks ++ l) (blocks_all client paths (recursion_from_All (λ (path : Path). length path.moves ≤ 512) paths c.requires.within.short))) (c.push_elements.ensures (fresh_track client) c.new-track.ensures)

@@ -5,6 +5,7 @@ use Rattle.tpol_tree.specs.declared.path.Move.TheVariants.{Assert, Or}
 use Rattle.tpol_tree.specs.declared.path.PathStep.TheVariants.{Branch}
 use Rattle.tpol_choose.specs.Few.{HasFewBranches, ElementHasFewBranches, BranchesHaveFewBranches}
 use Rattle.tpol_digest.specs.Digest.{branch_digests, digest_at_element, or_digest}
+use Rattle.tpol_digest.specs.Memos.{KnowsFirst}
 use Rattle.tpol_digest.specs.Extent.{document_extent, extent_at}
 use Rattle.tpol_digest.specs.Paths.{approved_paths, document_paths, empty_path, followed_by, outside_paths, paths_by_approval}
 use Rattle.tpol_digest.specs.Positions.{path_of_step, element_list_ways, element_ways, branch_ways, approval_ways}
@@ -31,7 +32,7 @@ search_elements-returns-then-is_hopeless t c = λ state h.
     let documents = c.args.walk.now.approvals.now in
     let ahead = c.args.ahead.now in
     c.pass_over.ensures
-    ∙ sym (elements_hopeless client documents (search_ahead client documents ahead) (ways_ahead documents ahead) (ahead_hopeless client documents ahead) c.args.walk.now.levels c.args.elements.now c.args.before state c.args.passed (sym (c.is_hopeless.ensures state h) ∙ c.if-is_hopeless.true))
+    ∙ sym (elements_hopeless client documents (search_ahead client documents ahead) (ways_ahead documents ahead) (ahead_hopeless client documents ahead) c.args.walk.now.levels c.args.elements.now c.args.before.digest state c.args.passed (sym (c.is_hopeless.ensures state h) ∙ c.if-is_hopeless.true))
 
 pub search_elements-returns-in-End : goal.search_elements-returns-in-End
 search_elements-returns-in-End t c =
@@ -44,7 +45,7 @@ search_elements-returns-in-More t c =
     let client = client_of_lent c.args.walk.now.client in
     let documents = c.args.walk.now.approvals.now in
     let levels = c.args.walk.now.levels in
-    let d = c.args.before in
+    let d = c.args.before.digest in
     let element = c.in-More.element.value in
     let rest = c.in-More.rest.value in
     let ahead = c.args.ahead.now in
@@ -65,11 +66,11 @@ search_element-returns-in-Assert t c =
     let ahead = c.args.ahead.now in
     let passed = c.args.passed in
     let act = Assert c.in-Assert.assertion in
-    let step = c.new-step.ensures in
+    let after = c.behind-after.ensures.digest ∙ ap (λ e. digest_at_element e c.args.before.digest) c.in-Assert.is in
     rw c.in-Assert.is (λ state h.
-    c.search_elements.ensures (track_after client state act) (subst (λ a. IsTrack c.after-next.result (track_after client state (Assert a))) step.assertion (c.after-next.ensures state h))
-    ∙ ap (λ d. search_ways client (search_ahead client documents ahead) (track_after client state act) passed (element_list_ways documents levels rest d)) step.after
-    ∙ sym (ways_one_move client (search_rest client documents levels rest (digest_at_element (closed.Assert c.in-Assert.assertion) c.args.before) ahead) state passed act))
+    c.search_elements.ensures (track_after client state act) (subst (λ a. IsTrack c.after-next.result (track_after client state (Assert a))) c.with_after-step.ensures (c.after-next.ensures state h))
+    ∙ ap (λ d. search_ways client (search_ahead client documents ahead) (track_after client state act) passed (element_list_ways documents levels rest d)) after
+    ∙ sym (ways_one_move client (search_rest client documents levels rest (digest_at_element (closed.Assert c.in-Assert.assertion) c.args.before.digest) ahead) state passed act))
 
 pub search_element-returns-in-Or : goal.search_element-returns-in-Or
 search_element-returns-in-Or t c =
@@ -79,21 +80,22 @@ search_element-returns-in-Or t c =
     let rest = c.args.rest.now in
     let ahead = c.args.ahead.now in
     let passed = c.args.passed in
-    let d = c.args.before in
+    let d = c.args.before.digest in
     let branches = c.in-Or.branches in
     let digests = branch_digests branches d in
     let ways = branch_ways documents levels branches 1 d in
     let first = c.of-lead.result.first in
-    let before = c.of-lead.result.before in
+    let before = c.of-lead.result.before.digest in
     let begins = c.of-lead.result.rest.now in
-    let behind = λ (s : TrackState) (m : ℕ). search_rest client documents levels begins before ahead (after_first client (track_after client s (Or c.new-or.result.digests.now)) first) m in
-    let whole = λ (s : TrackState) (m : ℕ). search_rest client documents levels rest c.new-or.result.after ahead (track_after client s (Or c.new-or.result.digests.now)) m in
-    let leads = λ (s : TrackState) (m : ℕ). lead_search client documents levels ahead (track_after client s (Or c.new-or.result.digests.now)) m first rest c.new-or.result.after begins before c.of-lead.ensures in
+    let behind = λ (s : TrackState) (m : ℕ). search_rest client documents levels begins before ahead (after_first client (track_after client s (Or c.with_after-or.result.digests.now)) first) m in
+    let whole = λ (s : TrackState) (m : ℕ). search_rest client documents levels rest c.behind-after-in-Or.result.digest ahead (track_after client s (Or c.with_after-or.result.digests.now)) m in
+    let leads = λ (s : TrackState) (m : ℕ). lead_search client documents levels ahead (track_after client s (Or c.with_after-or.result.digests.now)) m first rest c.behind-after-in-Or.result.digest begins before c.of-lead.ensures.lead in
     rw c.in-Or.is (λ state h.
     c.search_branches.ensures state 1 h
+    ∙ ap (λ x. search_ways client behind state passed (branch_ways documents levels branches 1 x)) c.within-inner.ensures.digest
     ∙ ways_same client behind whole leads state passed ways
-    ∙ ap (λ ds. search_ways client (λ s m. search_rest client documents levels rest c.new-or.result.after ahead (track_after client s (Or ds)) m) state passed ways) (c.new-or.ensures ∙ c.as_slice.ensures ∙ c.of-digests.ensures)
-    ∙ ap (λ e. search_ways client (λ s m. search_rest client documents levels rest e ahead (track_after client s (Or digests)) m) state passed ways) (c.new-or.result.known ∙ ap or_digest (c.new-or.ensures ∙ c.as_slice.ensures ∙ c.of-digests.ensures))
+    ∙ ap (λ ds. search_ways client (λ s m. search_rest client documents levels rest c.behind-after-in-Or.result.digest ahead (track_after client s (Or ds)) m) state passed ways) (c.with_after-or.ensures ∙ c.as_slice.ensures ∙ c.of-digests.ensures)
+    ∙ ap (λ e. search_ways client (λ s m. search_rest client documents levels rest e ahead (track_after client s (Or digests)) m) state passed ways) (c.behind-after-in-Or.ensures.digest ∙ ap or_digest c.of-digests.ensures)
     ∙ sym (ways_by_move client (search_rest client documents levels rest (or_digest digests) ahead) state passed (Or digests) ways)
     ∙ ap (search_ways client (search_rest client documents levels rest (or_digest digests) ahead) state passed) (branches_closed documents levels branches 1 (Or digests) d))
 
@@ -105,14 +107,14 @@ search_element-returns-in-Authorize t c = λ state h.
     let rest = c.args.rest.now in
     let ahead = c.args.ahead.now in
     let passed = c.args.passed in
-    let d = c.args.before in
+    let d = c.args.before.digest in
     let element = c.args.element.now in
     let same : approval_ways documents levels element ≡ element_ways documents levels element d = elim c.in-Authorize.is [
       | inl p ↦ subst (λ e. approval_ways documents levels e ≡ element_ways documents levels e d) (sym p.2) refl
       | inr q ↦ subst (λ e. approval_ways documents levels e ≡ element_ways documents levels e d) (sym q.1) refl
     ] in
     c.search_approvals.ensures state h
-    ∙ ap (λ e. search_ways client (search_rest client documents levels rest e ahead) state passed (approval_ways documents levels element)) c.digest_after_element-after.ensures
+    ∙ ap (λ e. search_ways client (search_rest client documents levels rest e ahead) state passed (approval_ways documents levels element)) c.behind-after-in-Authorize.ensures.digest
     ∙ ap (search_ways client (search_rest client documents levels rest (digest_at_element element d) ahead) state passed) same
 
 -- ---- branches
@@ -127,12 +129,12 @@ search_branches-returns-in-Found t c =
     let levels = c.args.walk.now.levels in
     let behind = search_ahead client documents c.args.ahead.now in
     let passed = c.args.passed in
-    let d = c.args.before in
+    let d = c.args.before.digest in
     let branch = c.in-More.branch.value in
     let ways = element_list_ways documents levels branch.policy.elements d in
     rw c.in-More.is (λ state position h.
     let step = Branch position branch.name in
-    let first = sym (c.search_elements.ensures state h ∙ ap (λ (b : ClosedBranch). search_ways client behind state passed (element_list_ways documents levels b.policy.elements d)) c.deref.ensures) in
+    let first = sym (c.search_elements.ensures state h ∙ ap (λ x. search_ways client behind state passed (element_list_ways documents levels c.deref.result.now.policy.elements x)) c.first-first.ensures.digest ∙ ap (λ (b : ClosedBranch). search_ways client behind state passed (element_list_ways documents levels b.policy.elements d)) c.deref.ensures) in
     sym (found_first client behind state passed c.in-Found.index (map (followed_by (path_of_step step)) ways) (branch_ways documents levels c.in-More.rest.value (position + 1) d) (ways_by_step client behind state passed step ways ∙ first ∙ c.in-Found.is)))
 
 pub search_branches-returns-in-Passed : goal.search_branches-returns-in-Passed
@@ -143,15 +145,16 @@ search_branches-returns-in-Passed t c =
     let behind = search_ahead client documents c.args.ahead.now in
     let passed = c.args.passed in
     let more = c.in-Passed.more in
-    let d = c.args.before in
+    let d = c.args.before.digest in
     let branch = c.in-More.branch.value in
     let rest = c.in-More.rest.value in
     let ways = element_list_ways documents levels branch.policy.elements d in
     rw c.in-More.is (λ state position h.
     let step = Branch position branch.name in
-    let first = sym (c.search_elements.ensures state h ∙ ap (λ (b : ClosedBranch). search_ways client behind state passed (element_list_ways documents levels b.policy.elements d)) c.deref.ensures) in
+    let first = sym (c.search_elements.ensures state h ∙ ap (λ x. search_ways client behind state passed (element_list_ways documents levels c.deref.result.now.policy.elements x)) c.first-first.ensures.digest ∙ ap (λ (b : ClosedBranch). search_ways client behind state passed (element_list_ways documents levels b.policy.elements d)) c.deref.ensures) in
     c.search_branches.ensures state (position + 1) h
-    ∙ ap (λ r. search_ways client behind state more (branch_ways documents levels r (position + 1) d)) c.deref-in-Passed.ensures
+    ∙ ap (λ x. search_ways client behind state more (branch_ways documents levels c.deref-rest.result.now (position + 1) x)) c.behind-others.ensures.digest
+    ∙ ap (λ r. search_ways client behind state more (branch_ways documents levels r (position + 1) d)) c.deref-rest.ensures
     ∙ sym (passed_first client behind state passed more (map (followed_by (path_of_step step)) ways) (branch_ways documents levels rest (position + 1) d) (ways_by_step client behind state passed step ways ∙ first ∙ c.in-Passed.is)))
 
 -- ---- approvals
@@ -162,7 +165,7 @@ search_approvals-returns-in-Found t c = λ state h.
     let documents = c.args.walk.now.approvals.now in
     let levels = c.args.walk.now.levels in
     let element = c.args.element.now in
-    let behind = search_rest client documents levels c.args.rest.now c.args.after c.args.ahead.now in
+    let behind = search_rest client documents levels c.args.rest.now c.args.after.digest c.args.ahead.now in
     sym (found_first client behind state c.args.passed c.in-Found.index (approved_paths (document_paths documents levels) documents element) (outside_paths element) (sym (c.search_documents.ensures state h) ∙ c.in-Found.is))
 
 pub search_approvals-returns-in-Passed : goal.search_approvals-returns-in-Passed
@@ -173,11 +176,11 @@ search_approvals-returns-in-Passed t c = λ state h.
     let element = c.args.element.now in
     let rest = c.args.rest.now in
     let ahead = c.args.ahead.now in
-    let behind = search_rest client documents levels rest c.args.after ahead in
+    let behind = search_rest client documents levels rest c.args.after.digest ahead in
     let left_out = (extent_at (document_extent documents levels) documents rest).paths * ways_ahead documents ahead in
     c.pass_over.ensures
     ∙ sym (passed_first client behind state c.args.passed c.in-Passed.more (approved_paths (document_paths documents levels) documents element) (outside_paths element) (sym (c.search_documents.ensures state h) ∙ c.in-Passed.is)
-    ∙ outside_hopeless client documents behind left_out (λ s m lost. elements_hopeless client documents (search_ahead client documents ahead) (ways_ahead documents ahead) (ahead_hopeless client documents ahead) levels rest c.args.after s m lost) element state c.in-Passed.more c.requires.asks)
+    ∙ outside_hopeless client documents behind left_out (λ s m lost. elements_hopeless client documents (search_ahead client documents ahead) (ways_ahead documents ahead) (ahead_hopeless client documents ahead) levels rest c.args.after.digest s m lost) element state c.in-Passed.more c.requires.asks)
 
 -- ---- documents
 
@@ -186,7 +189,7 @@ search_documents-returns-then-walk-eq0 t c = λ state h.
     let client = client_of_lent c.args.walk.now.client in
     let documents = c.args.walk.now.approvals.now in
     let element = c.args.element.now in
-    let behind = search_rest client documents c.args.walk.now.levels c.args.rest.now c.args.after c.args.ahead.now in
+    let behind = search_rest client documents c.args.walk.now.levels c.args.rest.now c.args.after.digest c.args.ahead.now in
     sym (ap (search_ways client behind state c.args.passed) (ap (λ n. approved_paths (document_paths documents n) documents element) c.if-walk-eq0.true ∙ approved_none documents documents element))
 
 pub search_documents-loop-document-init : goal.search_documents-loop-document-init
@@ -198,12 +201,12 @@ search_documents-returns-in-Found t c = λ state h.
     let documents = c.args.walk.now.approvals.now in
     let levels = c.args.walk.now.levels in
     let element = c.args.element.now in
-    let behind = search_rest client documents levels c.args.rest.now c.args.after c.args.ahead.now in
+    let behind = search_rest client documents levels c.args.rest.now c.args.after.digest c.args.ahead.now in
     let document = c.document-item.result in
     let i = c.loop-document.document-index in
     let so_far = c.loop-document.so_far in
     let level : levels ≢ 0 = c.if-walk-eq0.false in
-    let inner = entered client behind documents levels element document (move_of c.in-Some.act) c.zero_digest.result state so_far c.search_elements.result level c.in-Some.ensures c.zero_digest.ensures (c.search_elements.ensures state h) in
+    let inner = entered client behind documents levels element document (move_of c.in-Some.act) c.without_memo-start.result.digest state so_far c.search_elements.result level c.in-Some.ensures (c.without_memo-start.ensures.digest ∙ c.zero_digest.ensures) (c.search_elements.ensures state h) in
     sym (c.loop-document.invariant state h
     ∙ ap (search_ways client behind state so_far) (next_left documents levels element i document c.loop-document-test.true c.document-item.is)
     ∙ found_first client behind state so_far c.in-Found.index (part documents levels element document) (left documents levels element (i + 1)) (inner ∙ c.in-Found.is))
@@ -214,7 +217,7 @@ search_documents-loop-document-preserved t c =
     let documents = c.args.walk.now.approvals.now in
     let levels = c.args.walk.now.levels in
     let element = c.args.element.now in
-    let behind = search_rest client documents levels c.args.rest.now c.args.after c.args.ahead.now in
+    let behind = search_rest client documents levels c.args.rest.now c.args.after.digest c.args.ahead.now in
     let document = c.document-item.result in
     let i = c.loop-document.document-index in
     let so_far = c.loop-document.so_far in
@@ -222,7 +225,7 @@ search_documents-loop-document-preserved t c =
     let next = next_left documents levels element i document c.loop-document-test.true c.document-item.is in
     elim c.match-approval.branch [
       | search_documents-in-Some+in-Passed w ↦ λ state h.
-          let inner = entered client behind documents levels element document (move_of w.in-Some.act) w.zero_digest.result state so_far w.search_elements.result level w.in-Some.ensures w.zero_digest.ensures (w.search_elements.ensures state h) in
+          let inner = entered client behind documents levels element document (move_of w.in-Some.act) w.without_memo-start.result.digest state so_far w.search_elements.result level w.in-Some.ensures (w.without_memo-start.ensures.digest ∙ w.zero_digest.ensures) (w.search_elements.ensures state h) in
           c.loop-document.invariant state h
           ∙ ap (search_ways client behind state so_far) next
           ∙ passed_first client behind state so_far w.in-Passed.more (part documents levels element document) (left documents levels element (i + 1)) (inner ∙ w.in-Passed.is)
@@ -239,7 +242,7 @@ search_documents-returns t c = λ state h.
     let client = client_of_lent c.args.walk.now.client in
     let documents = c.args.walk.now.approvals.now in
     let levels = c.args.walk.now.levels in
-    let behind = search_rest client documents levels c.args.rest.now c.args.after c.args.ahead.now in
+    let behind = search_rest client documents levels c.args.rest.now c.args.after.digest c.args.ahead.now in
     sym (c.loop-document.invariant state h
     ∙ ap (search_ways client behind state c.loop-document.so_far) (none_left documents levels c.args.element.now c.loop-document.document-index (omega (arith, c.loop-document-test.false))))
 
@@ -268,13 +271,14 @@ search_elements-search_element-requires t c =
     let some = share_some c.args.walk.now.approvals.now c.args.walk.now.levels in
     let first = ap (λ e. weight_of_element e * s) c.deref.ensures in
     let rest = ap (λ e. weight e * s) c.deref-in-More.ensures in
+    let knows = subst (λ e. KnowsFirst c.args.before e c.deref-in-More.result.now) (sym c.deref.ensures) (subst (KnowsFirst c.args.before c.in-More.element.value) (sym c.deref-in-More.ensures) (rw c.in-More.is at c.requires.knows)) in
     let counts = rw c.in-More.is at c.requires.branches in (
       omega (arith, rw c.in-More.is at c.decreases, first, rest, some),
       (
         subst ElementHasFewBranches (sym c.deref.ensures) counts.0,
         (
           subst HasFewBranches (sym c.deref-in-More.ensures) counts.1,
-          (c.requires.approved, (c.requires.sight, c.requires.ahead)),
+          (c.requires.approved, (c.requires.sight, (c.requires.ahead, knows))),
         ),
       ),
     )
@@ -282,16 +286,16 @@ search_elements-search_element-requires t c =
 pub search_element-search_elements-requires : goal.search_element-search_elements-requires
 search_element-search_elements-requires t c =
     let some = share_some c.args.walk.now.approvals.now c.args.walk.now.levels in
-    (omega (arith, rw c.in-Assert.is at c.decreases, some), (c.requires.rest, (c.requires.approved, (c.requires.sight, c.requires.ahead))))
+    (omega (arith, rw c.in-Assert.is at c.decreases, some), (c.requires.rest, (c.requires.approved, (c.requires.sight, (c.requires.ahead, c.behind-after.ensures.knows)))))
 
 pub search_element-search_branches-requires : goal.search_element-search_branches-requires
 search_element-search_branches-requires t c =
     let some = share_some c.args.walk.now.approvals.now c.args.walk.now.levels in
     let counts = rw c.in-Or.is at c.requires.branches in
     let lead = c.of-lead.result in
-    let lighter = lead_lighter (share c.args.walk.now.approvals.now c.args.walk.now.levels) lead.first c.args.rest.now c.new-or.result.after lead.rest.now lead.before c.of-lead.ensures in
-    let few = lead_few lead.first c.args.rest.now c.new-or.result.after lead.rest.now lead.before c.of-lead.ensures c.requires.rest in
-    (omega (arith, rw c.in-Or.is at c.decreases, some, lighter), (counts.1, (c.requires.approved, (c.requires.sight, (few, c.requires.ahead)))))
+    let lighter = lead_lighter (share c.args.walk.now.approvals.now c.args.walk.now.levels) lead.first c.args.rest.now c.behind-after-in-Or.result.digest lead.rest.now lead.before.digest c.of-lead.ensures.lead in
+    let few = lead_few lead.first c.args.rest.now c.behind-after-in-Or.result.digest lead.rest.now lead.before.digest c.of-lead.ensures.lead c.requires.rest in
+    (omega (arith, rw c.in-Or.is at c.decreases, some, lighter), (counts.1, (c.requires.approved, (c.requires.sight, ((few, (c.of-lead.ensures.knows, c.requires.ahead)), c.within-inner.ensures.knows)))))
 
 pub search_element-search_approvals-requires : goal.search_element-search_approvals-requires
 search_element-search_approvals-requires t c =
@@ -301,14 +305,14 @@ search_element-search_approvals-requires t c =
         omega (arith, rw p.2 at c.decreases, some),
         (
           subst (λ e. length (outside_paths e) ≡ 1) (sym p.2) refl,
-          (c.requires.rest, (c.requires.approved, (c.requires.sight, c.requires.ahead))),
+          (c.requires.rest, (c.requires.approved, (c.requires.sight, (c.requires.ahead, c.behind-after-in-Authorize.ensures.knows)))),
         ),
       )
       | inr q ↦ (
         omega (arith, rw q.1 at c.decreases, some),
         (
           subst (λ e. length (outside_paths e) ≡ 1) (sym q.1) refl,
-          (c.requires.rest, (c.requires.approved, (c.requires.sight, c.requires.ahead))),
+          (c.requires.rest, (c.requires.approved, (c.requires.sight, (c.requires.ahead, c.behind-after-in-Authorize.ensures.knows)))),
         ),
       )
     ]
@@ -322,7 +326,7 @@ search_branches-search_elements-requires t c =
       omega (arith, rw c.in-More.is at c.decreases, same, some),
       (
         subst (λ (b : ClosedBranch). HasFewBranches b.policy.elements) (sym c.deref.ensures) counts.0,
-        (c.requires.approved, (c.requires.sight, c.requires.ahead)),
+        (c.requires.approved, (c.requires.sight, (c.requires.ahead, c.first-first.ensures.knows))),
       ),
     )
 
@@ -330,19 +334,19 @@ pub search_branches-search_branches-requires : goal.search_branches-search_branc
 search_branches-search_branches-requires t c =
     let s = share c.args.walk.now.approvals.now c.args.walk.now.levels in
     let some = share_some c.args.walk.now.approvals.now c.args.walk.now.levels in
-    let same = ap (λ b. weight_of_branches b * s) c.deref-in-Passed.ensures in
+    let same = ap (λ b. weight_of_branches b * s) c.deref-rest.ensures in
     let counts = rw c.in-More.is at c.requires.branches in (
       omega (arith, rw c.in-More.is at c.decreases, same, some),
       (
-        subst BranchesHaveFewBranches (sym c.deref-in-Passed.ensures) counts.1,
-        (c.requires.approved, (c.requires.sight, c.requires.ahead)),
+        subst BranchesHaveFewBranches (sym c.deref-rest.ensures) counts.1,
+        (c.requires.approved, (c.requires.sight, (c.requires.ahead, c.behind-others.ensures.knows))),
       ),
     )
 
 pub search_approvals-search_documents-requires : goal.search_approvals-search_documents-requires
 search_approvals-search_documents-requires t c =
     let some = share_some c.args.walk.now.approvals.now c.args.walk.now.levels in
-    (omega (arith, c.decreases, some), (c.requires.rest, (c.requires.approved, (c.requires.sight, c.requires.ahead))))
+    (omega (arith, c.decreases, some), (c.requires.rest, (c.requires.approved, (c.requires.sight, (c.requires.ahead, c.requires.knows)))))
 
 pub search_documents-search_elements-requires : goal.search_documents-search_elements-requires
 search_documents-search_elements-requires t c =
@@ -356,11 +360,11 @@ search_documents-search_elements-requires t c =
       omega (arith, less, c.decreases),
       (
         subst (λ x. HasFewBranches x.closed.elements) (sym c.document-item.is) (c.requires.approved i document c.loop-document-test.true),
-        (c.requires.approved, (c.requires.sight, (c.requires.rest, c.requires.ahead))),
+        (c.requires.approved, (c.requires.sight, ((c.requires.rest, (c.requires.knows, c.requires.ahead)), c.without_memo-start.ensures.knows document.closed.elements))),
       ),
     )
 
 pub search_ahead-search_elements-requires : goal.search_ahead-search_elements-requires
 search_ahead-search_elements-requires t c =
     let counts = rw c.in-After.is at c.requires.ahead in
-    (omega (arith, rw c.in-After.is at c.decreases), (counts.0, (c.requires.approved, (c.requires.sight, counts.1))))
+    (omega (arith, rw c.in-After.is at c.decreases), (counts.0, (c.requires.approved, (c.requires.sight, (counts.1.1, counts.1.0)))))

@@ -36,5 +36,5 @@ invariant-search_documents-loop-document l =
     let documents = l.walk.approvals.now in
     let levels = l.walk.levels in
     let client = client_of_lent l.walk.client in
-    let behind = search_rest client documents levels l.rest l.after l.ahead in
+    let behind = search_rest client documents levels l.rest l.after.digest l.ahead in
     (state : TrackState) → IsTrack l.track state → search_ways client behind state l.fn.passed (approved_paths (document_paths documents levels) documents l.element) ≡ search_ways client behind state l.so_far (approved_paths (document_paths documents levels) (drop l.document-index documents) l.element)

@@ -14,5 +14,5 @@ returns c =
     let paths = paths_of c.args.policy.now documents in
     let found : c.search_elements.result ≡ search_ways client (search_end client) (fresh_track client) 0 paths =
     c.search_elements.ensures (fresh_track client) c.new-track.ensures
-    ∙ ap (search_ways client (search_end client) (fresh_track client) 0) (whole_ways documents c.args.walk.now.levels c.args.policy.now c.zero_digest.result c.requires.levels c.zero_digest.ensures) in
+    ∙ ap (search_ways client (search_end client) (fresh_track client) 0) (whole_ways documents c.args.walk.now.levels c.args.policy.now c.args.before.digest c.requires.levels c.requires.start) in
     record { found = found; counted = is_counted client (fresh_track client) 0 paths c.search_elements.result (omega arith) found }

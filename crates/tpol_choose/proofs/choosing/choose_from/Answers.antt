@@ -5,7 +5,7 @@ use Rattle.tpol_choose.specs.Blocks.{block_on, chosen_path, client_of, first_blo
 use Rattle.tpol_choose.specs.Searches.{search_end, search_ways}
 use Rattle.tpol_choose.specs.Tracks.{fresh_track}
 use Rattle.tpol_choose.proofs.SearchLaws.{first_found, position_of, without_session}
-use Rattle.tpol_choose.proofs.choosing.choose.Goals as goal
+use Rattle.tpol_choose.proofs.choosing.choose_from.Goals as goal
 use Rattle.tpol_digest.proofs.Walks.{first_path-none}
 use Rattle.tpol_digest.specs.Paths.{paths_of}
 use Rattle.tpol_digest.specs.Walks.{first_path}
@@ -16,7 +16,7 @@ unfolding chosen_path first_block
 returns-then-sight-eq0 c =
     let paths = paths_of c.args.policy.now c.args.approvals.now in
     let client = client_of c.args.sight.now c.args.grants.now c.args.goal.now c.args.locality in
-    record { chosen = sym (first_path-none (λ path. is_none (block_on client path)) (without_session client c.if-sight-eq0.true) 1 paths) }
+    sym (first_path-none (λ path. is_none (block_on client path)) (without_session client c.if-sight-eq0.true) 1 paths)
 
 pub returns-in-Found : goal.returns-in-Found
 unfolding chosen_path first_block
@@ -28,7 +28,7 @@ returns-in-Found c =
     let found = sym c.in-Found.is ∙ c.search_policy.ensures.found ∙ ap (λ l. search_ways client (search_end client) (fresh_track client) 0 (paths_of policy l)) c.as_slice.ensures in
     let one : 0 + 1 ≡ 1 = omega arith in
     let few : 0 + length paths ≤ 65537 = omega (arith, c.requires.within.few) in
-    record { chosen = ap position_of found ∙ first_found client 0 paths few (recursion_from_All (λ (path : Path). length path.moves ≤ 512) paths c.requires.within.short) ∙ ap (λ n. first_path (λ path. is_none (block_on client path)) n paths) one }
+    ap position_of found ∙ first_found client 0 paths few (recursion_from_All (λ (path : Path). length path.moves ≤ 512) paths c.requires.within.short) ∙ ap (λ n. first_path (λ path. is_none (block_on client path)) n paths) one
 
 pub returns-in-Passed : goal.returns-in-Passed
 unfolding chosen_path first_block
@@ -40,4 +40,4 @@ returns-in-Passed c =
     let found = sym c.in-Passed.is ∙ c.search_policy.ensures.found ∙ ap (λ l. search_ways client (search_end client) (fresh_track client) 0 (paths_of policy l)) c.as_slice.ensures in
     let one : 0 + 1 ≡ 1 = omega arith in
     let few : 0 + length paths ≤ 65537 = omega (arith, c.requires.within.few) in
-    record { chosen = ap position_of found ∙ first_found client 0 paths few (recursion_from_All (λ (path : Path). length path.moves ≤ 512) paths c.requires.within.short) ∙ ap (λ n. first_path (λ path. is_none (block_on client path)) n paths) one }
+    ap position_of found ∙ first_found client 0 paths few (recursion_from_All (λ (path : Path). length path.moves ≤ 512) paths c.requires.within.short) ∙ ap (λ n. first_path (λ path. is_none (block_on client path)) n paths) one
