@@ -3,4 +3,3 @@ pub mod Keeping
 pub mod Least
 pub mod Numbered
 pub mod Slots
-pub mod Tables

@@ -3,7 +3,6 @@ ghost use Rattle.std.specs.Int.{bit_at};
 ghost use Rattle.std.specs.Option.{option_copied};
 ghost use Rattle.tpm_session.specs.Slots as spec;
 
-use indexmap::IndexMap;
 use std::alloc::Global;
 use std::marker::Model;
 use tpol_base::NoMemory;
@@ -18,18 +17,18 @@ pub const SLOT_COUNT: u32 = 64;
 /// Contracts see the list of what each slot has, if anything. Only `new` takes memory.
 #[derive(Drop)]
 pub struct Table<T> {
-    map: IndexMap<u32, Option<T>>,
+    slots: Vec<Option<T>>,
 }
 
 impl<T> Model for Table<T> {
     ghost use Rattle.std.specs.Prelude.{List, Option};
-    ghost use Rattle.tpm_session.specs.Table.{IsTable, slots_of};
+    ghost use Rattle.tpm_session.specs.Table.{IsTable};
 
     ghost Value = { List (Option T) };
 
-    ghost view = { λ t. slots_of t.map.entries };
+    ghost view = { λ t. t.slots.items };
 
-    ghost invariant = { λ t. IsTable t.map.entries };
+    ghost invariant = { λ t. IsTable t.slots.items };
 }
 
 impl<T: Drop> Table<T> {
@@ -37,19 +36,20 @@ impl<T: Drop> Table<T> {
     pub fn new(alloc: Global) -> Result<Table<T>, NoMemory>
         ensures { IfOk result (λ table. table ≡ replicate spec.slot_count None) }
     {
-        let mut map = IndexMap::with_capacity(alloc, SLOT_COUNT as usize)?;
-        for slot in 0..SLOT_COUNT {
-            map.insert(FIRST_HANDLE + slot, None)?;
+        let mut slots = Vec::with_capacity(alloc, SLOT_COUNT as usize)?;
+        for _slot in 0..SLOT_COUNT {
+            slots.push(None)?;
         }
-        Ok(Table { map })
+        Ok(Table { slots })
     }
 
     /// What the slot of a handle has.
     pub fn get(&self, handle: u32) -> Option<&T>
         ensures { option_copied result ≡ spec.content_at self.now handle }
     {
-        match self.map.get(&handle) {
-            Some(slot) => slot.as_ref(),
+        let slot = handle.checked_sub(FIRST_HANDLE)?;
+        match self.slots.get(slot as usize) {
+            Some(content) => content.as_ref(),
             None => None,
         }
     }
@@ -61,7 +61,10 @@ impl<T: Drop> Table<T> {
         ensures slot { is_some result ≡ true → spec.IsSlotHandle handle }
         ensures after { self.new ≡ spec.with_content self.old handle content }
     {
-        let Some(slot) = self.map.get_mut(&handle) else {
+        if handle < FIRST_HANDLE {
+            return None;
+        }
+        let Some(slot) = self.slots.get_mut((handle - FIRST_HANDLE) as usize) else {
             return None;
         };
         std::mem::replace(slot, content)
@@ -72,7 +75,7 @@ impl<T: Drop> Table<T> {
         ensures value { result ≡ spec.bits_of self.now }
         ensures bits { (slot : ℕ) → bit_at result slot ≡ spec.bit_of (spec.in_slot self.now slot) }
     {
-        let count = self.map.len();
+        let count = self.slots.len();
         let mut bits = 0;
         for above in 0..count {
             let slot = (count - 1 - above) as u32;
@@ -85,7 +88,7 @@ impl<T: Drop> Table<T> {
     pub fn clear(&mut self)
         ensures { self.new ≡ replicate spec.slot_count None }
     {
-        for slot in 0..self.map.len() {
+        for slot in 0..self.slots.len() {
             self.replace(FIRST_HANDLE + slot as u32, None);
         }
     }

@@ -1,15 +1,13 @@
 use Rattle.std.proofs.Common.{ℕ, ◌<◌, ◌++◌, ◌+◌, ap, sym, ◌∙◌, length, replicate, drop, None, add-one, subst}
 use Rattle.tpm_session.specs.Slots.{first_handle, with_content}
 use Rattle.tpm_session.proofs.Slots.{clear-more}
-use Rattle.tpm_session.proofs.Tables.{length-slots_of}
 use Rattle.tpm_session.proofs.table.Table.clear.Goals as goal
 
 pub loop-slot-preserved : goal.loop-slot-preserved
 loop-slot-preserved g c =
     let old = c.args.self.now in
     let slot = c.loop-slot.slot in
-    let entries = c.self.inside.map.entries in
-    let count = c.len-slot-end.ensures.len ∙ (sym (length-slots_of entries) ∙ ap length c.self.view_is) in
+    let count = c.len-slot-end.ensures ∙ c.self.inside.slots.ok.0 ∙ ap length c.self.view_is in
     let less = subst (λ n. slot < n) count c.loop-slot-test.true in
     c.replace.ensures.after
     ∙ (ap (λ s. with_content s (first_handle + slot) None) c.loop-slot.invariant
