@@ -1,3 +1,4 @@
+pub mod Digits
 pub mod LabelLaws
 pub mod Loads
 pub mod TextLaws

@@ -97,6 +97,24 @@ kind_written form a b c d kind ts n lines choices longer g kept same_lines same_
     let choice : b.choices.items ≡ a.choices.items = ap (λ v. v.items) choices in
     writes_behind form a b c d (of_kind kind) ts lines (same_texts (texts_of_pen b) (join (texts_of_pen a) (of_kind kind)) (choice ∙ sym (append-nil a.choices.items)) longer) g same_lines (ap (λ v. v.items) same_choices ∙ g.choices ∙ choice) (cut ∙ given_back n a.kinds.items (44 ∷ kind) c.kinds.items kept (g.kinds ∙ longer))
 
+-- choices alone tell no kind
+labels-kind : (n : ℕ) (before : Texts) (kind : List ℕ) (ts : List Texts) → lines_behind Label n before (map (join (of_kind kind)) ts) ≡ lines_behind Label n before ts
+labels-kind n before kind [] = refl
+labels-kind n before kind (t ∷ ts) = ap (λ l. behind_separator (before.choices ++ t.choices) (codes "-") ∷ l) (labels-kind (n + 1) before kind ts)
+
+pub kind_left_out : (form : Form) (a b : Pen) (kind : List ℕ) (ts : List Texts) → form ≡ Label → Writes form a b ts → Writes form a b (map (join (of_kind kind)) ts)
+kind_left_out form a b kind ts is g = record {
+  lines =
+      let n = length a.lines + 1 in
+      let before = texts_of_pen a in
+      g.lines
+      ∙ ap (λ f. a.lines ++ lines_behind f n before ts) is
+      ∙ ap (λ l. a.lines ++ l) (sym (labels-kind n before kind ts))
+      ∙ ap (λ f. a.lines ++ lines_behind f n before (map (join (of_kind kind)) ts)) (sym is);
+  choices = g.choices;
+  kinds = g.kinds;
+}
+
 -- a choice, and what was written behind it
 pub choice_written : (form : Form) (a b c d : Pen) (text : List ℕ) (ts : List Texts) (n : ℕ) → b.lines ≡ a.lines → b.kinds ≡ a.kinds → b.choices.items ≡ a.choices.items ++ 47 ∷ text → Writes form b c ts → n ≡ length a.choices.items → d.lines ≡ c.lines → d.kinds ≡ c.kinds → d.choices.items ≡ take n c.choices.items → Writes form a d (map (join (of_choice text)) ts)
 choice_written form a b c d text ts n lines kinds longer g kept same_lines same_kinds cut =

@@ -1,16 +1,20 @@
 // The line of a path that cannot be gone.
 
-ghost use Rattle.std.specs.Prelude.{◌≡◌, IfOk, List};
-ghost use Rattle.std.specs.String.{string_bytes};
+ghost use Rattle.std.specs.Prelude.{◌≡◌, ◌++◌, codes, decimal, IfOk, List, OnOk};
 ghost use Rattle.tpol_lines.specs.BlockLine.{answer_text, block_line, why_text};
+ghost use Rattle.tpol_lines.specs.Hex.{code_text};
 ghost use Rattle.tpol_lines.specs.PathLine.{label};
 ghost use Rattle.tpol_tree.specs.declared.path.PathStep.{PathStep};
 
+use crate::decimal::push_decimal;
 use crate::events::check_word;
-use crate::hexadecimal::code_text;
+use crate::hexadecimal::push_code;
 use std::alloc::Global;
 use tpol_base::{Blob, NoMemory};
 use tpol_choose::{Block, Why};
+
+// Room for all of a path's line, and its line end, but its choices.
+const ROOM_BESIDE_CHOICES: usize = 64;
 
 /// The line of the path at a position, from 1, with its choices as `label` gives them, and the first thing that
 /// stands in its way. It fails only where memory ran out.
@@ -23,46 +27,66 @@ pub fn block_line(
     ensures { (steps : List PathStep) → choices.now ≡ label steps
         → IfOk result (λ line. line ≡ block_line position steps block.now) }
 {
-    let head = format!(in alloc; "block {position} ")?;
-    let why = why_text(alloc, block.at, &block.why)?;
-    let room = head
-        .len()
-        .saturating_add(choices.len())
-        .saturating_add(why.len())
-        .saturating_add(2);
+    let room = choices.len().saturating_add(ROOM_BESIDE_CHOICES);
     let mut line = Vec::with_capacity(alloc, room)?;
-    line.extend_from_slice(head.as_bytes())?;
+    line.extend_from_slice(b"block ")?;
+    push_decimal(&mut line, u64::from(position))?;
+    line.push(b' ')?;
     line.extend_from_slice(choices)?;
     line.push(b' ')?;
-    line.extend_from_slice(why.as_bytes())?;
+    push_why(&mut line, block.at, &block.why)?;
     Ok(Blob::from_vec(line))
 }
 
-// What stands in the way, of the move at a place where it is a move's.
-fn why_text(alloc: Global, place: u32, why: &Why) -> Result<String, NoMemory>
-    ensures { IfOk result (λ text. string_bytes text ≡ why_text place why.now) }
+// Adds what stands in the way, of the move at a place where it is a move's.
+fn push_why(line: &mut Vec<u8>, place: u32, why: &Why) -> Result<(), NoMemory>
+    ensures { OnOk result (line.new.items ≡ line.old.items ++ why_text place why.now) }
 {
     match why {
-        Why::Outside => Ok(String::from_str(alloc, "outside")?),
-        Why::NoSession => Ok(String::from_str(alloc, "nosession")?),
-        Why::NoEntity => Ok(format!(in alloc; "move {place} noentity")?),
-        Why::NoKey => Ok(format!(in alloc; "move {place} nokey")?),
-        Why::Answer(rc) => answer_text(alloc, place, rc.code),
+        Why::Outside => line.extend_from_slice(b"outside")?,
+        Why::NoSession => line.extend_from_slice(b"nosession")?,
+        Why::NoEntity => {
+            push_move(line, place)?;
+            line.extend_from_slice(b" noentity")?;
+        }
+        Why::NoKey => {
+            push_move(line, place)?;
+            line.extend_from_slice(b" nokey")?;
+        }
+        Why::Answer(rc) => push_answer(line, place, rc.code)?,
         Why::Deferred(check) => {
-            let word = check_word(check);
-            Ok(format!(in alloc; "goal denied {word}")?)
+            line.extend_from_slice(b"goal denied ")?;
+            line.extend_from_slice(check_word(check).as_bytes())?;
         }
-        Why::GoalRule(rc) => {
-            let code = code_text(alloc, rc.code)?;
-            Ok(format!(in alloc; "goal answer {code}")?)
-        }
+        Why::GoalRule(rc) => push_goal_answer(line, rc.code)?,
     }
+    Ok(())
 }
 
-// The code that answers the move at a place.
-fn answer_text(alloc: Global, place: u32, code: u32) -> Result<String, NoMemory>
-    ensures { IfOk result (λ text. string_bytes text ≡ answer_text place code) }
+// Adds the code that answers the move at a place.
+fn push_answer(line: &mut Vec<u8>, place: u32, code: u32) -> Result<(), NoMemory>
+    ensures { OnOk result (line.new.items ≡ line.old.items ++ answer_text place code) }
 {
-    let code = code_text(alloc, code)?;
-    Ok(format!(in alloc; "move {place} answer {code}")?)
+    push_move(line, place)?;
+    line.extend_from_slice(b" answer ")?;
+    push_code(line, code)
+}
+
+// Adds the code that answers the goal.
+fn push_goal_answer(line: &mut Vec<u8>, code: u32) -> Result<(), NoMemory>
+    ensures { OnOk result (line.new.items
+        ≡ line.old.items ++ (codes "goal answer " ++ code_text code)) }
+{
+    line.extend_from_slice(b"goal answer ")?;
+    push_code(line, code)?;
+    Ok(())
+}
+
+// Adds the word for the move at a place.
+fn push_move(line: &mut Vec<u8>, place: u32) -> Result<(), NoMemory>
+    ensures { OnOk result (line.new.items
+        ≡ line.old.items ++ (codes "move " ++ decimal place)) }
+{
+    line.extend_from_slice(b"move ")?;
+    push_decimal(line, u64::from(place))
 }

@@ -1,16 +1,16 @@
 // The lines of the events of a machine.
 
-ghost use Rattle.std.specs.Prelude.{◌≡◌, ◌++◌, IfOk, OnOk};
-ghost use Rattle.std.specs.String.{string_bytes};
+ghost use Rattle.std.specs.Prelude.{◌≡◌, ◌∷◌, ◌++◌, IfOk, OnOk};
 ghost use Rattle.tpol_lines.specs.Events.{answer_text, check_word, class_text, command_line, denial_word, presence_line, reset_line, switch_word, time_line};
 
-use crate::hexadecimal::code_of_buffer;
+use crate::decimal::push_decimal;
+use crate::hexadecimal::{push_code_of_buffer, push_hexadecimal};
 use std::alloc::Global;
 use tpm_rules::{Denial, Outcome};
-use tpol_base::{Check, NoMemory, Text};
+use tpol_base::{Blob, Check, NoMemory, Text};
 
-// Room for all of a command's line but its reply.
-const ROOM_BESIDE_REPLY: usize = 96;
+// Room for all of a command's line, and its line end, but its reply.
+const ROOM_BESIDE_REPLY: usize = 112;
 
 /// The line of a command: the number of its event, the client that sent it and from which locality, the
 /// codes of the command and of the reply, what became of it, and the reply. It fails only where memory ran out.
@@ -25,55 +25,51 @@ pub fn command_line(
     buffer: &[u8],
     reply: &[u8],
     outcome: &Outcome,
-) -> Result<Text, NoMemory>
+) -> Result<Blob, NoMemory>
     ensures { IfOk result (λ line. line
         ≡ command_line event client locality buffer.now reply.now outcome.now) }
 {
-    let code = code_of_buffer(alloc, buffer)?;
     let room = reply
         .len()
         .saturating_mul(2)
         .saturating_add(ROOM_BESIDE_REPLY);
-    let mut line = String::with_capacity(alloc, room)?;
-    write!(
-        line,
-        "{event} client {client} locality {locality} code {code} "
-    )?;
-    push_answer(alloc, &mut line, reply, outcome)?;
-    Ok(Text::from_string(line))
+    let mut line = Vec::with_capacity(alloc, room)?;
+    push_decimal(&mut line, u64::from(event))?;
+    line.extend_from_slice(b" client ")?;
+    push_decimal(&mut line, u64::from(client))?;
+    line.extend_from_slice(b" locality ")?;
+    push_decimal(&mut line, u64::from(locality))?;
+    line.extend_from_slice(b" code ")?;
+    push_code_of_buffer(&mut line, buffer)?;
+    push_answer(&mut line, reply, outcome)?;
+    Ok(Blob::from_vec(line))
 }
 
-// Adds the reply to a command, and what became of it.
-fn push_answer(
-    alloc: Global,
-    line: &mut String,
-    reply: &[u8],
-    outcome: &Outcome,
-) -> Result<(), NoMemory>
-    ensures { OnOk result (string_bytes line.new
-        ≡ string_bytes line.old ++ answer_text reply.now outcome.now) }
+// Adds the reply to a command, and what became of it, behind a space.
+fn push_answer(line: &mut Vec<u8>, reply: &[u8], outcome: &Outcome) -> Result<(), NoMemory>
+    ensures { OnOk result (line.new.items
+        ≡ line.old.items ++ 32 ∷ answer_text reply.now outcome.now) }
 {
-    let rc = code_of_buffer(alloc, reply)?;
-    write!(line, "rc {rc} ")?;
+    line.extend_from_slice(b" rc ")?;
+    push_code_of_buffer(line, reply)?;
+    line.push(b' ')?;
     push_class(line, outcome)?;
-    let reply = hex::encode(alloc, reply)?;
-    write!(line, " reply {reply}")?;
-    Ok(())
+    line.extend_from_slice(b" reply ")?;
+    push_hexadecimal(line, reply)
 }
 
 // Adds what became of a command.
-fn push_class(line: &mut String, outcome: &Outcome) -> Result<(), NoMemory>
-    ensures { OnOk result (string_bytes line.new
-        ≡ string_bytes line.old ++ class_text outcome.now) }
+fn push_class(line: &mut Vec<u8>, outcome: &Outcome) -> Result<(), NoMemory>
+    ensures { OnOk result (line.new.items ≡ line.old.items ++ class_text outcome.now) }
 {
     match outcome {
-        Outcome::Accepted => line.push_str("accepted")?,
-        Outcome::Served => line.push_str("served")?,
+        Outcome::Accepted => line.extend_from_slice(b"accepted")?,
+        Outcome::Served => line.extend_from_slice(b"served")?,
         Outcome::Denied(denial) => {
-            line.push_str("denied ")?;
-            line.push_str(denial_word(denial))?;
+            line.extend_from_slice(b"denied ")?;
+            line.extend_from_slice(denial_word(denial).as_bytes())?;
         }
-        Outcome::Refused(_) => line.push_str("refused")?,
+        Outcome::Refused(_) => line.extend_from_slice(b"refused")?,
     }
     Ok(())
 }

@@ -10,6 +10,7 @@
 mod blocks;
 mod certificates;
 mod dead_paths;
+mod decimal;
 mod events;
 mod generated;
 mod hexadecimal;

@@ -1,17 +1,25 @@
 // The line of an opening.
 
-ghost use Rattle.std.specs.Prelude.{◌≡◌, IfOk, List};
+ghost use Rattle.std.specs.Prelude.{◌≡◌, ◌++◌, IfOk, List, OnOk};
 ghost use Rattle.tpol_digest.specs.Limits.{AreWithinLimits};
 ghost use Rattle.tpol_digest.specs.Paths.{paths_of};
 ghost use Rattle.tpol_lines.specs.OpeningLine.{branch_line, clash_line, events_text, opening_line, zero_line, IsListed};
 ghost use Rattle.tpol_lines.specs.PathLine.{label};
 ghost use Rattle.tpol_tree.specs.declared.path.PathStep.{PathStep};
 
+use crate::decimal::push_decimal;
+use crate::hexadecimal::push_hexadecimal;
 use crate::one_label::label_at;
 use std::alloc::Global;
-use tpol_base::{NoMemory, Text};
+use tpol_base::{Blob, NoMemory};
 use tpol_trace::Opening;
 use tpol_tree::{Approvals, Closed};
+
+// Room for all of an opening's line, and its line end, but its choices and events.
+const ROOM_BESIDE_CHOICES: usize = 64;
+
+// Room for the number of an event.
+const ROOM_FOR_EVENT: usize = 8;
 
 /// The line of the opening behind an event: by which path, with its choices, a session's facts led to the
 /// policy's digest, and the events of the facts; or the two strings of one digest, or the string whose digest
@@ -22,7 +30,7 @@ pub fn opening_line(
     policy: &Closed,
     approvals: &Approvals,
     opening: &Opening,
-) -> Result<Text, NoMemory>
+) -> Result<Blob, NoMemory>
     requires within { AreWithinLimits (paths_of policy.now approvals.now) }
     requires listed { IsListed (paths_of policy.now approvals.now) opening.now }
     ensures { IfOk result (λ line. line
@@ -49,30 +57,40 @@ pub(crate) fn branch_line(
     position: u32,
     choices: &str,
     events: &[u32],
-) -> Result<Text, NoMemory>
+) -> Result<Blob, NoMemory>
     ensures { (steps : List PathStep) → choices.now ≡ label steps
         → IfOk result (λ line. line ≡ branch_line event position steps events.now) }
 {
-    let events = events_text(alloc, events)?;
-    let events = events.as_str();
-    Ok(Text::from_string(format!(in alloc;
-        "opening {event} path {position} {choices} events {events}"
-    )?))
+    let room = events
+        .len()
+        .saturating_mul(ROOM_FOR_EVENT)
+        .saturating_add(choices.len())
+        .saturating_add(ROOM_BESIDE_CHOICES);
+    let mut line = Vec::with_capacity(alloc, room)?;
+    line.extend_from_slice(b"opening ")?;
+    push_decimal(&mut line, u64::from(event))?;
+    line.extend_from_slice(b" path ")?;
+    push_decimal(&mut line, u64::from(position))?;
+    line.push(b' ')?;
+    line.extend_from_slice(choices.as_bytes())?;
+    line.extend_from_slice(b" events ")?;
+    push_events(&mut line, events)?;
+    Ok(Blob::from_vec(line))
 }
 
-// The numbers of events, with `,` between.
-fn events_text(alloc: Global, events: &[u32]) -> Result<Text, NoMemory>
-    ensures { IfOk result (λ text. text ≡ events_text events.now) }
+// Adds the numbers of events, with `,` between.
+fn push_events(line: &mut Vec<u8>, events: &[u32]) -> Result<(), NoMemory>
+    ensures { OnOk result (line.new.items ≡ line.old.items ++ events_text events.now) }
 {
-    let mut text = Text::new(alloc);
     let Some((first, rest)) = events.split_first() else {
-        return Ok(text);
+        return Ok(());
     };
-    text.push_str(format!(in alloc; "{first}")?.as_str())?;
+    push_decimal(line, u64::from(*first))?;
     for event in rest {
-        text.push_str(format!(in alloc; ",{event}")?.as_str())?;
+        line.push(b',')?;
+        push_decimal(line, u64::from(*event))?;
     }
-    Ok(text)
+    Ok(())
 }
 
 pub(crate) fn clash_line(
@@ -80,17 +98,26 @@ pub(crate) fn clash_line(
     event: u32,
     first: &[u8],
     second: &[u8],
-) -> Result<Text, NoMemory>
+) -> Result<Blob, NoMemory>
     ensures { IfOk result (λ line. line ≡ clash_line event first.now second.now) }
 {
-    let first = hex::encode(alloc, first)?;
-    let second = hex::encode(alloc, second)?;
-    Ok(Text::from_string(format!(in alloc; "clash {event} {first} {second}")?))
+    let mut line = Vec::new(alloc);
+    line.extend_from_slice(b"clash ")?;
+    push_decimal(&mut line, u64::from(event))?;
+    line.push(b' ')?;
+    push_hexadecimal(&mut line, first)?;
+    line.push(b' ')?;
+    push_hexadecimal(&mut line, second)?;
+    Ok(Blob::from_vec(line))
 }
 
-pub(crate) fn zero_line(alloc: Global, event: u32, input: &[u8]) -> Result<Text, NoMemory>
+pub(crate) fn zero_line(alloc: Global, event: u32, input: &[u8]) -> Result<Blob, NoMemory>
     ensures { IfOk result (λ line. line ≡ zero_line event input.now) }
 {
-    let input = hex::encode(alloc, input)?;
-    Ok(Text::from_string(format!(in alloc; "zero {event} {input}")?))
+    let mut line = Vec::new(alloc);
+    line.extend_from_slice(b"zero ")?;
+    push_decimal(&mut line, u64::from(event))?;
+    line.push(b' ')?;
+    push_hexadecimal(&mut line, input)?;
+    Ok(Blob::from_vec(line))
 }

@@ -122,6 +122,9 @@ fn write_element(
 {
     let kind = match element {
         ClosedElement::Assert(assertion) => {
+            if let Form::Label = shelf.form {
+                return write_elements(shelf, pen, rest, levels, ahead);
+            }
             let kept = pen.kinds.len();
             pen.push_kind(assertion_kind(assertion))?;
             write_elements(shelf, pen, rest, levels, ahead)?;
@@ -218,6 +221,9 @@ fn write_ahead(shelf: &Shelf<'_>, pen: &mut Pen, ahead: &Ahead<'_>) -> Result<()
             levels,
             ahead,
         } => {
+            if let Form::Label = shelf.form {
+                return write_elements(shelf, pen, rest, *levels, ahead);
+            }
             let kept = pen.kinds.len();
             pen.push_kind(kind)?;
             write_elements(shelf, pen, rest, *levels, ahead)?;

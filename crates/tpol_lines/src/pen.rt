@@ -3,10 +3,14 @@ ghost use Rattle.json.specs.Print.{quoted};
 ghost use Rattle.tpol_lines.specs.Lines.{line_of};
 ghost use Rattle.tpol_lines.specs.Pen.{behind_separator, line_behind, written};
 
+use crate::decimal::push_decimal;
 use crate::lines::Lines;
 use std::alloc::Global;
 use tpol_base::{Blob, NoMemory};
 use tpol_json::push_quoted;
+
+// Room for all of a path's line but its choices and kinds: 27 bytes at most.
+const ROOM_BESIDE_CHOICES: usize = 32;
 
 // What is written of a path that is whole.
 #[derive(Clone, Copy)]
@@ -96,16 +100,16 @@ impl Pen {
             self.now.kinds.items)) }
     {
         let position = self.lines.len().checked_add(1).ok_or(NoMemory)?;
-        let head = format!(in alloc; "path {position} ")?;
         let choices = behind_separator(self.choices.as_slice(), b"-");
         let kinds = behind_separator(self.kinds.as_slice(), b"");
-        let room = head
+        let room = choices
             .len()
-            .saturating_add(choices.len())
             .saturating_add(kinds.len())
-            .saturating_add(2);
+            .saturating_add(ROOM_BESIDE_CHOICES);
         let mut line = Vec::with_capacity(alloc, room)?;
-        line.extend_from_slice(head.as_bytes())?;
+        line.extend_from_slice(b"path ")?;
+        push_decimal(&mut line, position as u64)?;
+        line.push(b' ')?;
         line.extend_from_slice(choices)?;
         line.push(b' ')?;
         line.extend_from_slice(kinds)?;

@@ -114,7 +114,7 @@ fn opens(alloc: Global, event: u32, policy: &Closed, opening: &Opening, wanted: 
 {
     let none = Approvals::new(alloc);
     match check_paths(policy, &none) {
-        Ok(_) => reads(opening_line(alloc, event, policy, &none, opening), wanted),
+        Ok(_) => shows(opening_line(alloc, event, policy, &none, opening), wanted),
         Err(_) => false,
     }
 }

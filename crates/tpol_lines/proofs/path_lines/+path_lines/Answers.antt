@@ -10,7 +10,7 @@ use Rattle.tpol_lines.specs.Texts.{of_choice, of_kind, join, both, element_list_
 use Rattle.tpol_digest.proofs.Shares.{share, share_some, entered_lighter}
 use Rattle.tpol_digest.proofs.Images.{both-append, both-one, both-join, both_assoc, both-closed, both-first_none, of_more, of_assertion, of_or, of_key, of_index, documents_more, document_entered, document_passed, no_documents}
 use Rattle.tpol_digest.specs.Images.{document_images}
-use Rattle.tpol_lines.proofs.TextLaws.{texts, writes_then, writes_nothing, kind_written, choice_written, line_written}
+use Rattle.tpol_lines.proofs.TextLaws.{texts, writes_then, writes_nothing, kind_left_out, kind_written, choice_written, line_written}
 use Rattle.tpol_lines.proofs.path_lines.+path_lines.Goals as goal
 use Rattle.tpol_lines.proofs.path_lines.+path_lines.Goals.{write_element-in-Authorize, write_element-in-AuthorizeNv, write_approvals-then-accepts+in_ok-push_name+in_ok-write_elements, write_approvals-else-accepts, write_approvals-then-levels-gt0+else-loop-document-test, write_approvals-else-levels-gt0}
 
@@ -29,6 +29,10 @@ write_approvals-write_elements-requires t c =
 
 pub write_element-write_elements-requires : goal.write_element-write_elements-requires
 write_element-write_elements-requires t c =
+    (omega (arith, rw c.in-Assert.is at c.decreases, share_some c.args.shelf.now.approvals.now c.args.levels), tt)
+
+pub write_element-write_elements-requires-in-Assert : goal.write_element-write_elements-requires-in-Assert
+write_element-write_elements-requires-in-Assert t c =
     (omega (arith, rw c.in-Assert.is at c.decreases, share_some c.args.shelf.now.approvals.now c.args.levels), tt)
 
 pub write_elements-write_ahead-requires : goal.write_elements-write_ahead-requires
@@ -79,8 +83,13 @@ write_ahead-returns-in-Nothing t c =
 pub write_ahead-returns-in_ok-write_elements-in-After : goal.write_ahead-returns-in_ok-write_elements-in-After
 write_ahead-returns-in_ok-write_elements-in-After t c =
     let documents = c.args.shelf.now.approvals.now in
-    let after : Pen = record { lines = c.write_elements.new.pen.lines; choices = c.write_elements.new.pen.choices; kinds = c.truncate.new.self } in
-    rw c.in-After.is (kind_written c.args.shelf.now.form c.args.pen.now c.push_kind.new.self c.write_elements.new.pen after c.in-After.kind.now (both (element_list_texts documents c.in-After.levels c.in-After.rest.now) (texts_ahead documents c.in-After.ahead.now)) c.len-kept.result c.in_ok-push_kind-in-After.ensures.lines c.in_ok-push_kind-in-After.ensures.choices c.in_ok-push_kind-in-After.ensures.kinds c.in_ok-write_elements-in-After.ensures (c.len-kept.ensures ∙ c.args.pen.now.kinds.ok.0) refl refl c.truncate.ensures.items)
+    let after : Pen = record { lines = c.write_elements-in-After.new.pen.lines; choices = c.write_elements-in-After.new.pen.choices; kinds = c.truncate.new.self } in
+    rw c.in-After.is (kind_written c.args.shelf.now.form c.args.pen.now c.push_kind.new.self c.write_elements-in-After.new.pen after c.in-After.kind.now (both (element_list_texts documents c.in-After.levels c.in-After.rest.now) (texts_ahead documents c.in-After.ahead.now)) c.len-kept.result c.in_ok-push_kind-in-After.ensures.lines c.in_ok-push_kind-in-After.ensures.choices c.in_ok-push_kind-in-After.ensures.kinds c.in_ok-write_elements-in-After.ensures (c.len-kept.ensures ∙ c.args.pen.now.kinds.ok.0) refl refl c.truncate.ensures.items)
+
+pub write_ahead-returns-in-Label : goal.write_ahead-returns-in-Label
+write_ahead-returns-in-Label t c =
+    let behind = both (element_list_texts c.args.shelf.now.approvals.now c.in-After.levels c.in-After.rest.now) (texts_ahead c.args.shelf.now.approvals.now c.in-After.ahead.now) in
+    rw c.in-After.is (on_ok_weaker c.write_elements.result (λ g. kind_left_out c.args.shelf.now.form c.args.pen.now c.write_elements.new.pen c.in-After.kind.now behind c.in-Label.is g) c.write_elements.ensures)
 
 pub write_branches-returns-in-End : goal.write_branches-returns-in-End
 write_branches-returns-in-End t c = rw c.in-End.is (writes_nothing c.args.shelf.now.form c.args.pen.now)
@@ -108,11 +117,21 @@ write_element-returns-in-Assert t c =
     let levels = c.args.levels in
     let behind = both (element_list_texts documents levels c.args.rest.now) (texts_ahead documents c.args.ahead.now) in
     let kind = assertion_kind c.in-Assert.assertion in
-    let after : Pen = record { lines = c.write_elements.new.pen.lines; choices = c.write_elements.new.pen.choices; kinds = c.truncate.new.self } in
+    let after : Pen = record { lines = c.write_elements-in-Assert.new.pen.lines; choices = c.write_elements-in-Assert.new.pen.choices; kinds = c.truncate.new.self } in
     let pushed = c.in_ok-push_kind-in-Assert.ensures.kinds ∙ ap (λ k. c.args.pen.now.kinds.items ++ 44 ∷ k) c.assertion_kind.ensures in
     let same : map (join (of_kind kind)) behind ≡ both (element_texts documents levels c.args.element.now) behind =
     sym (both-one texts (of_kind kind) behind) ∙ ap (λ l. both l behind) (sym (of_assertion texts documents levels c.in-Assert.assertion)) ∙ ap (λ e. both (element_texts documents levels e) behind) (sym c.in-Assert.is) in
-    subst (Writes c.args.shelf.now.form c.args.pen.now after) same (kind_written c.args.shelf.now.form c.args.pen.now c.push_kind.new.self c.write_elements.new.pen after kind behind c.len-kept.result c.in_ok-push_kind-in-Assert.ensures.lines c.in_ok-push_kind-in-Assert.ensures.choices pushed c.in_ok-write_elements-in-Assert.ensures (c.len-kept.ensures ∙ c.args.pen.now.kinds.ok.0) refl refl c.truncate.ensures.items)
+    subst (Writes c.args.shelf.now.form c.args.pen.now after) same (kind_written c.args.shelf.now.form c.args.pen.now c.push_kind.new.self c.write_elements-in-Assert.new.pen after kind behind c.len-kept.result c.in_ok-push_kind-in-Assert.ensures.lines c.in_ok-push_kind-in-Assert.ensures.choices pushed c.in_ok-write_elements-in-Assert.ensures (c.len-kept.ensures ∙ c.args.pen.now.kinds.ok.0) refl refl c.truncate.ensures.items)
+
+pub write_element-returns-in-Label : goal.write_element-returns-in-Label
+write_element-returns-in-Label t c =
+    let documents = c.args.shelf.now.approvals.now in
+    let levels = c.args.levels in
+    let behind = both (element_list_texts documents levels c.args.rest.now) (texts_ahead documents c.args.ahead.now) in
+    let kind = assertion_kind c.in-Assert.assertion in
+    let same : map (join (of_kind kind)) behind ≡ both (element_texts documents levels c.args.element.now) behind =
+    sym (both-one texts (of_kind kind) behind) ∙ ap (λ l. both l behind) (sym (of_assertion texts documents levels c.in-Assert.assertion)) ∙ ap (λ e. both (element_texts documents levels e) behind) (sym c.in-Assert.is) in
+    on_ok_weaker c.write_elements.result (λ g. subst (Writes c.args.shelf.now.form c.args.pen.now c.write_elements.new.pen) same (kind_left_out c.args.shelf.now.form c.args.pen.now c.write_elements.new.pen kind behind c.in-Label.is g)) c.write_elements.ensures
 
 pub write_element-returns-in-Or : goal.write_element-returns-in-Or
 write_element-returns-in-Or t c =
