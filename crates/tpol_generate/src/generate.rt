@@ -26,7 +26,10 @@ use tpol_lines::{Lines, command_count_line, generated_line, path_count_line, pus
 use tpol_name::{Setup, directory};
 use tpol_perform::Performance;
 use tpol_prepare::{Manner, Scenario, Way};
-use tpol_steps::{Answer, FilledDocument, Halt, Verdict, check_limits, digest_line, fill_document};
+use tpol_steps::{
+    Answer, CompiledDocument, FilledDocument, Halt, Verdict, check_limits, digest_line,
+    fill_document,
+};
 use tpol_tree::{Approvals, Closed};
 
 /// The command `gen`: a policy of so many ORs, in an order by the bits of a number, its paths and its digest, and a
@@ -237,13 +240,17 @@ fn generated_scenario(alloc: Global, setup: &Setup, closed: Closed) -> Result<Sc
 }
 
 // The policy, under its name, is the one document.
-fn generated_documents(alloc: Global, closed: Closed) -> Result<Sequence<FilledDocument>, NoMemory>
+fn generated_documents(
+    alloc: Global,
+    closed: Closed,
+) -> Result<Sequence<CompiledDocument>, NoMemory>
     ensures { IfOk result (λ documents. documents ≡ record { name = codes "gen"; closed = closed } ∷ []) }
 {
     match Text::from_str(alloc, "gen") {
         Ok(name) => {
             let mut documents = Sequence::new(alloc);
-            documents.push(FilledDocument { name, closed })?;
+            let document = CompiledDocument::new(alloc, FilledDocument { name, closed })?;
+            documents.push(document)?;
             Ok(documents)
         }
         Err(NoMemory) => {

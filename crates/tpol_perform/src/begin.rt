@@ -22,13 +22,13 @@ use crate::new_run::{NewRun, run_seed};
 use crate::performance::Performance;
 use std::alloc::Global;
 use tpol_base::{Blob, ExactClone, NoMemory};
-use tpol_choose::{Block, blocks, choose};
-use tpol_digest::path_at;
+use tpol_choose::{Block, blocks, choose_with_memo};
+use tpol_digest::path_at_with_memo;
 use tpol_driver::{Plan, Tickets};
 use tpol_lines::{block_line, chosen_line, labels, nobranch_line};
 use tpol_name::Sight;
 use tpol_prepare::{Scenario, Way};
-use tpol_steps::FilledDocument;
+use tpol_steps::CompiledDocument;
 use tpol_tree::{Approvals, Path};
 
 impl Performance {
@@ -133,7 +133,7 @@ impl Performance {
         alloc: Global,
         scenario: &Scenario,
         sight: &Sight,
-        document: &FilledDocument,
+        document: &CompiledDocument,
         run: NewRun,
     ) -> Result<(), NoMemory>
         requires walked { IsWalkable scenario.now.approvals document.now.closed }
@@ -146,21 +146,25 @@ impl Performance {
         ensures setup { OnOk result (self.new.setup ≡ self.old.setup) }
     {
         let approvals = &scenario.approvals;
-        match choose(
-            &document.closed,
+        let policy = &document.filled().closed;
+        match choose_with_memo(
+            policy,
+            document.memo(),
             approvals,
             sight,
             &run.grants,
             &run.goal,
             run.locality,
         ) {
-            Some(position) => match path_at(alloc, &document.closed, approvals, position) {
-                Ok(path) => self.begin_along(alloc, scenario, sight, position, path, run),
-                Err(NoMemory) => {
-                    drop(run);
-                    Err(NoMemory)
+            Some(position) => {
+                match path_at_with_memo(alloc, policy, document.memo(), approvals, position) {
+                    Ok(path) => self.begin_along(alloc, scenario, sight, position, path, run),
+                    Err(NoMemory) => {
+                        drop(run);
+                        Err(NoMemory)
+                    }
                 }
-            },
+            }
             None => {
                 let begun = self.begin_blocked(alloc, approvals, sight, document, &run);
                 drop(run);
@@ -260,7 +264,7 @@ impl Performance {
         alloc: Global,
         approvals: &Approvals,
         sight: &Sight,
-        document: &FilledDocument,
+        document: &CompiledDocument,
         run: &NewRun,
     ) -> Result<(), NoMemory>
         requires walked { IsWalkable approvals.now document.now.closed }
@@ -293,7 +297,7 @@ impl Performance {
         alloc: Global,
         approvals: &Approvals,
         sight: &Sight,
-        document: &FilledDocument,
+        document: &CompiledDocument,
         run: &NewRun,
     ) -> Result<(), NoMemory>
         requires walked { IsWalkable approvals.now document.now.closed }
@@ -304,16 +308,18 @@ impl Performance {
         ensures past { OnOk result (self.new.past ≡ self.old.past) }
         ensures setup { OnOk result (self.new.setup ≡ self.old.setup) }
     {
+        let policy = &document.filled().closed;
         let blocks = blocks(
             alloc,
-            &document.closed,
+            policy,
+            document.memo(),
             approvals,
             sight,
             &run.grants,
             &run.goal,
             run.locality,
         )?;
-        match labels(alloc, &document.closed, approvals) {
+        match labels(alloc, policy, approvals) {
             Ok(labels) => {
                 let printed = self.print_block_list(alloc, labels.as_slice(), &blocks);
                 drop(labels);

@@ -127,7 +127,7 @@ impl Performance {
             done.reply.as_slice(),
             &done.outcome,
         )?;
-        self.print(alloc, line.as_str())
+        self.print_bytes(line)
     }
 }
 

@@ -19,7 +19,8 @@ use tpol_base::NoMemory;
 use tpol_cert::certify;
 use tpol_lines::{certificate_line, opening_line};
 use tpol_prepare::Scenario;
-use tpol_trace::{Opening, opening};
+use tpol_steps::CompiledDocument;
+use tpol_trace::{Opening, opening_with_memo};
 use tpol_tree::{Approvals, Closed, Facts};
 
 impl Performance {
@@ -63,10 +64,10 @@ impl Performance {
         ensures past { OnOk result (self.new.past ≡ self.old.past) }
         ensures setup { OnOk result (self.new.setup ≡ self.old.setup) }
     {
-        match scenario.policy_of_entity(opened.entity) {
+        match scenario.document_of_entity(opened.entity) {
             None => Ok(()),
-            Some(policy) => {
-                self.print_policy_opening(alloc, scenario, event, policy, &opened.facts)
+            Some(document) => {
+                self.print_policy_opening(alloc, scenario, event, document, &opened.facts)
             }
         }
     }
@@ -78,19 +79,22 @@ impl Performance {
         alloc: Global,
         scenario: &Scenario,
         event: u32,
-        policy: &Closed,
+        document: &CompiledDocument,
         facts: &Facts,
     ) -> Result<(), NoMemory>
-        requires walked { IsWalkable scenario.now.approvals policy.now }
+        requires walked { IsWalkable scenario.now.approvals document.now.closed }
         requires sound { IsSound (moves_of_facts facts.now) }
-        requires digest { digest_of_moves (moves_of_facts facts.now) ≡ policy_digest policy.now }
+        requires digest { digest_of_moves (moves_of_facts facts.now)
+            ≡ policy_digest document.now.closed }
         ensures told { OnOk result (self.new
             ≡ policy_opened scenario.now.manner scenario.now.approvals event facts.now
-            (Some policy.now) self.old) }
+            (Some document.now.closed) self.old) }
         ensures past { OnOk result (self.new.past ≡ self.old.past) }
         ensures setup { OnOk result (self.new.setup ≡ self.old.setup) }
     {
-        let opening = opening(alloc, policy, &scenario.approvals, facts)?;
+        let policy = &document.filled().closed;
+        let approvals = &scenario.approvals;
+        let opening = opening_with_memo(alloc, policy, document.memo(), approvals, facts)?;
         let told = self.print_lines(alloc, scenario, event, policy, &opening);
         drop(opening);
         told
@@ -114,7 +118,7 @@ impl Performance {
         ensures setup { OnOk result (self.new.setup ≡ self.old.setup) }
     {
         let line = opening_line(alloc, event, policy, &scenario.approvals, opening)?;
-        self.print(alloc, line.as_str())?;
+        self.print_bytes(line)?;
         if scenario.manner.certifies() {
             self.print_certificate(alloc, event, policy, &scenario.approvals, opening)
         } else {

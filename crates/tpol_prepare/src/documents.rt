@@ -9,7 +9,7 @@ use crate::references::{Reference, policy_at};
 use std::alloc::Global;
 use tpol_base::Sequence;
 use tpol_name::Sight;
-use tpol_steps::{FilledDocument, Halt, fill_document};
+use tpol_steps::{CompiledDocument, FilledDocument, Halt, fill_document};
 use tpol_store::Store;
 
 /// Fills the documents that are named, each once, in the order of their first references.
@@ -22,7 +22,7 @@ pub fn fill_references(
     store: &Store,
     sight: Option<&Sight>,
     references: &[Reference],
-) -> Result<Sequence<FilledDocument>, Halt>
+) -> Result<Sequence<CompiledDocument>, Halt>
     ensures answer { Answers (map erased_filled)
         (documents_from (policies_of store.now) (option_copied sight.entry) [] references.now)
         result }
@@ -42,7 +42,7 @@ fn add_reference(
     alloc: Global,
     store: &Store,
     sight: Option<&Sight>,
-    documents: &mut Sequence<FilledDocument>,
+    documents: &mut Sequence<CompiledDocument>,
     reference: &Reference,
 ) -> Result<(), Halt>
     ensures answer { Answers (λ _. map erased_filled documents.new)
@@ -61,12 +61,12 @@ fn add_reference(
 }
 
 // Whether a document of this name is among these.
-fn is_filled(documents: &[FilledDocument], name: &str) -> bool
+fn is_filled(documents: &[CompiledDocument], name: &str) -> bool
     ensures { result ≡ is_filled name.now documents.now }
 {
     documents
         .iter()
-        .any(|document| document.name.as_str() == name)
+        .any(|document| document.filled().name.as_str() == name)
 }
 
 // Fills the document that is named.
@@ -76,7 +76,7 @@ fn fill_reference(
     store: &Store,
     sight: Option<&Sight>,
     reference: &Reference,
-) -> Result<FilledDocument, Halt>
+) -> Result<CompiledDocument, Halt>
     ensures answer { Answers erased_filled
         (reference_step (policies_of store.now) (option_copied sight.entry) reference.now) result }
     ensures inside { IsInside result }
@@ -85,5 +85,5 @@ fn fill_reference(
     let written = policy_at(alloc, store, &reference.name, &reference.place)?;
     let closed = fill_document(alloc, Some(&reference.name), written, sight)?;
     let name = reference.name.try_clone(alloc)?;
-    Ok(FilledDocument { name, closed })
+    Ok(CompiledDocument::new(alloc, FilledDocument { name, closed })?)
 }

@@ -9,13 +9,12 @@ ghost use Rattle.tpol_tree.specs.ClosedErased.{erased};
 use crate::references::policy_at;
 use std::alloc::Global;
 use tpol_base::{Blob, Digest32, NoMemory, Sequence};
-use tpol_digest::digest_of;
 use tpol_name::{
     IndexEntry, Indices, NamedIndices, NamedObjects, ObjectEntry, Objects, Setup, Sight,
     opening_sight,
 };
 use tpol_scene::EntityPolicy;
-use tpol_steps::{FilledDocument, Halt, fill_document};
+use tpol_steps::{CompiledDocument, FilledDocument, Halt, fill_document};
 use tpol_store::Store;
 use tpol_tree::Closed;
 
@@ -23,7 +22,7 @@ use tpol_tree::Closed;
 #[derive(Drop)]
 pub struct CompiledEntity {
     pub handle: u32,
-    pub document: FilledDocument,
+    pub document: CompiledDocument,
 }
 
 /// What a machine starts from, where the entities whose policies are compiled have the digests of these as
@@ -146,11 +145,10 @@ fn add_entity(
         → OnOk result (All IsReadyEntity compiled.new.entities) }
     ensures setup { IsSetup compiled.old.setup → OnOk result (IsSetup compiled.new.setup) }
 {
-    let digest = digest_of(&closed);
-    set_policy(alloc, &mut compiled.setup, policy.handle, &digest)?;
     let name = policy.name.try_clone(alloc)?;
-    let document = FilledDocument { name, closed };
+    let document = CompiledDocument::new(alloc, FilledDocument { name, closed })?;
     let handle = policy.handle;
+    set_policy(alloc, &mut compiled.setup, handle, &document.digest())?;
     compiled.entities.push(CompiledEntity { handle, document })?;
     Ok(())
 }

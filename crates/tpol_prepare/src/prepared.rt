@@ -13,7 +13,7 @@ use std::alloc::Global;
 use tpol_base::{ExactClone, NoMemory, Sequence, Shelf, Text};
 use tpol_name::{Setup, Sight, opening_sight};
 use tpol_scene::Scene;
-use tpol_steps::{FilledDocument, Halt, load_store, scene_of_shelf};
+use tpol_steps::{CompiledDocument, Halt, load_store, scene_of_shelf};
 use tpol_store::Store;
 
 /// A scene whose policies are filled: what its machine starts from, what the machine shows then, the entities
@@ -23,7 +23,7 @@ pub struct PreparedScene {
     pub setup: Setup,
     pub sight: Sight,
     pub entities: Sequence<CompiledEntity>,
-    pub begun: Sequence<FilledDocument>,
+    pub begun: Sequence<CompiledDocument>,
 }
 
 /// Looks up all policies that a scene names, and fills them: those of its entities, and then those that its

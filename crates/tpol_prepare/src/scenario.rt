@@ -1,6 +1,6 @@
 //! Scenes that can be carried out.
 
-ghost use Rattle.std.specs.Option.{option_copied};
+ghost use Rattle.std.specs.Option.{option_copied, option_map};
 ghost use Rattle.std.specs.Prelude.{◌≡◌, ◌≤◌, Some, true, All, IfSome, IfOk, IsOk, ⊤, find, length, map, reverse};
 ghost use Rattle.tpol_name.specs.Directories.{directory_of};
 ghost use Rattle.tpol_name.specs.Setups.{IsSetup};
@@ -14,6 +14,7 @@ ghost use Rattle.tpol_prepare.specs.declared.manner.Way.TheVariants.{Blind};
 ghost use Rattle.tpol_prepare.specs.Scenario.{CanHappen, HasFewPaths, IsScenarioOf, IsWalkable, begun_limits, entity_document, erased_staged, grants_of, is_client, is_document, is_entity, limited_step, policy_of_entity, scenario_with, staged_from, staged_of, staged_step, staged_with};
 ghost use Rattle.tpol_prepare.specs.Staged.{IsStaged};
 ghost use Rattle.tpol_steps.specs.Filled.{IsReadyDocument, erased_filled};
+ghost use Rattle.tpol_steps.specs.declared.filled.FilledDocument.{FilledDocument as OneDocument};
 ghost use Rattle.tpol_digest.specs.Limits.{AreWithinLimits};
 ghost use Rattle.tpol_digest.specs.Paths.{paths_of};
 ghost use Rattle.tpol_steps.specs.Limits.{limits_step};
@@ -31,7 +32,7 @@ use tpol_goal::Grants;
 use tpol_name::{Directory, Setup, directory};
 use tpol_scene::{Clients, Scene, Script};
 use tpol_steps::{
-    FilledDocument, Halt, check_documents, check_limits, check_tried, load_store, scene_of_bytes,
+    CompiledDocument, Halt, check_documents, check_limits, check_tried, load_store, scene_of_bytes,
 };
 use tpol_store::Store;
 use tpol_tree::{Approvals, Closed};
@@ -45,7 +46,7 @@ pub struct Scenario {
     pub seed: Digest32,
     pub directory: Directory,
     pub entities: Sequence<CompiledEntity>,
-    pub begun: Sequence<FilledDocument>,
+    pub begun: Sequence<CompiledDocument>,
     pub approvals: Approvals,
     pub clients: Clients,
 }
@@ -238,7 +239,7 @@ fn check_scene(
 fn check_begun(
     alloc: Global,
     way: Way,
-    begun: &[FilledDocument],
+    begun: &[CompiledDocument],
     approvals: &Approvals,
 ) -> Result<(), Halt>
     ensures answer { Answers (λ _. tt)
@@ -273,7 +274,7 @@ fn check_entities(
         (λ _. All (λ entity. IsWalkable approvals.now entity.document.closed) entities.now) }
 {
     for entity in entities {
-        let document = &entity.document;
+        let document = entity.document.filled();
         check_limits(alloc, Some(&document.name), &document.closed, approvals)?;
     }
     Ok(())
@@ -317,21 +318,22 @@ fn staged(manner: Manner, scene: Scene, policies: ScenePolicies) -> StagedScene
 
 impl Scenario {
     /// The document of this name that the script begins.
-    pub fn document(&self, name: &str) -> Option<&FilledDocument>
+    pub fn document(&self, name: &str) -> Option<&CompiledDocument>
         ensures { option_copied result ≡ find (is_document name.now) self.now.begun }
     {
         self.begun
             .as_slice()
             .iter()
-            .find(|document| document.name.as_str() == name)
+            .find(|document| document.filled().name.as_str() == name)
     }
 
-    /// The policy of the entity of this handle, where the scene names it.
-    pub fn policy_of_entity(&self, handle: u32) -> Option<&Closed>
-        ensures { option_copied result ≡ policy_of_entity self.now.entities handle }
+    /// The document of the policy of the entity of this handle, where the scene names it.
+    pub fn document_of_entity(&self, handle: u32) -> Option<&CompiledDocument>
+        ensures { option_map (λ (document : OneDocument). document.closed) (option_copied result)
+            ≡ policy_of_entity self.now.entities handle }
     {
         let entity = find_entity(self.entities.as_slice(), handle)?;
-        Some(&entity.document.closed)
+        Some(&entity.document)
     }
 
     /// What a client may use: nothing where it is not listed. It fails only where memory ran out.

@@ -11,6 +11,7 @@
 #![tactic(auto)]
 
 mod answer;
+mod compiled;
 mod filled;
 mod halt;
 mod limits;
@@ -21,6 +22,7 @@ mod scene_step;
 mod store_step;
 
 pub use answer::{Answer, Verdict};
+pub use compiled::CompiledDocument;
 pub use filled::{FilledDocument, fill_document};
 pub use halt::Halt;
 pub use limits::{check_documents, check_limits, check_tried};

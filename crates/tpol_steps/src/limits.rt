@@ -7,6 +7,7 @@ ghost use Rattle.tpol_steps.specs.Limits.{few_to_try, limit_step, limits_step, t
 ghost use Rattle.tpol_steps.specs.Steps.{Answers, IsInside};
 ghost use Rattle.tpol_tree.specs.ClosedErased.{erased, erased_document};
 
+use crate::compiled::CompiledDocument;
 use crate::filled::FilledDocument;
 use crate::halt::Halt;
 use crate::refusals::path_limit;
@@ -52,7 +53,7 @@ pub fn check_limits(
 #[tactic(auto, unfolding(crate::specs::Limits::limits_step))]
 pub fn check_documents(
     alloc: Global,
-    documents: &[FilledDocument],
+    documents: &[CompiledDocument],
     approvals: &Approvals,
 ) -> Result<(), Halt>
     ensures answer { Answers (λ _. tt)
@@ -63,6 +64,7 @@ pub fn check_documents(
         documents.now) }
 {
     for document in documents {
+        let document = document.filled();
         check_limits(alloc, Some(&document.name), &document.closed, approvals)?;
     }
     Ok(())
@@ -75,7 +77,7 @@ pub fn check_documents(
 #[tactic(auto, unfolding(crate::specs::Limits::tried_limits_step))]
 pub fn check_tried(
     alloc: Global,
-    documents: &[FilledDocument],
+    documents: &[CompiledDocument],
     approvals: &Approvals,
 ) -> Result<(), Halt>
     ensures answer { Answers (λ _. tt)
@@ -90,7 +92,7 @@ pub fn check_tried(
         ≤ 64) documents.now) }
 {
     for document in documents {
-        check_tried_document(alloc, document, approvals)?;
+        check_tried_document(alloc, document.filled(), approvals)?;
     }
     Ok(())
 }

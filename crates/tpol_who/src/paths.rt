@@ -19,25 +19,29 @@ use tpol_choose::{Block, blocks};
 use tpol_lines::{Lines, labels, push_bytes};
 use tpol_name::Sight;
 use tpol_perform::NewRun;
-use tpol_tree::{Approvals, Closed};
+use tpol_steps::CompiledDocument;
+use tpol_tree::Approvals;
 
 /// Adds a line for each path of a policy, in order, with what the machine shows. It fails only where memory ran out.
 pub fn push_paths(
     alloc: Global,
-    policy: &Closed,
+    document: &CompiledDocument,
     approvals: &Approvals,
     sight: &Sight,
     run: &NewRun,
     lines: &mut Lines,
 ) -> Result<(), NoMemory>
-    requires walked { IsWalkable approvals.now policy.now }
+    requires walked { IsWalkable approvals.now document.now.closed }
     requires sight { IsSight sight.now }
     ensures { OnOk result (lines.new
-        ≡ lines.old ++ paths_told sight.now run.now 1 (paths_of policy.now approvals.now)) }
+        ≡ lines.old ++ paths_told sight.now run.now 1
+        (paths_of document.now.closed approvals.now)) }
 {
+    let policy = &document.filled().closed;
     let blocks = blocks(
         alloc,
         policy,
+        document.memo(),
         approvals,
         sight,
         &run.grants,

@@ -231,14 +231,7 @@ impl Survey {
             None => Ok(()),
             Some(document) => {
                 let approvals = &scenario.approvals;
-                push_paths(
-                    alloc,
-                    &document.closed,
-                    approvals,
-                    sight,
-                    run,
-                    &mut self.lines,
-                )
+                push_paths(alloc, document, approvals, sight, run, &mut self.lines)
             }
         }
     }

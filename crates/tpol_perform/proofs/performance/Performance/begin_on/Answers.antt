@@ -1,5 +1,9 @@
+use Rattle.std.proofs.Common.{subst, sym}
 use Rattle.tpol_choose.proofs.Few.{few_branches}
+use Rattle.tpol_choose.specs.Few.{HaveFewBranches}
+use Rattle.tpol_steps.specs.declared.filled.FilledDocument.{FilledDocument}
 use Rattle.tpol_perform.proofs.performance.Performance.begin_on.Goals as goal
 
-pub choose-requires-clause-few : goal.choose-requires-clause-few
-choose-requires-clause-few c = few_branches c.args.document.now.closed c.args.scenario.now.approvals c.requires.walked.branches
+pub choose_with_memo-requires-clause-few : goal.choose_with_memo-requires-clause-few
+choose_with_memo-requires-clause-few c =
+    subst (λ (document : FilledDocument). HaveFewBranches document.closed c.args.scenario.now.approvals) (sym c.filled.ensures) (few_branches c.args.document.now.closed c.args.scenario.now.approvals c.requires.walked.branches)

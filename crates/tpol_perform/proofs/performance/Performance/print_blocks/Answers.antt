@@ -1,17 +1,20 @@
-use Rattle.std.proofs.Common.{length, sym, ap, ◌∙◌, arith}
+use Rattle.std.proofs.Common.{length, map, subst, sym, ap, ◌∙◌, arith}
 use Rattle.std.proofs.lemmas.List.{length-map}
 use Rattle.tpol_choose.proofs.Few.{few_branches}
 use Rattle.tpol_choose.specs.Blocks.{first_block}
+use Rattle.tpol_choose.specs.Few.{HaveFewBranches}
 use Rattle.tpol_digest.specs.Paths.{paths_of}
 use Rattle.tpol_lines.specs.PathLine.{label}
+use Rattle.tpol_steps.specs.declared.filled.FilledDocument.{FilledDocument}
 use Rattle.tpol_perform.proofs.performance.Performance.print_blocks.Goals as goal
 
 pub blocks-requires-clause-few : goal.blocks-requires-clause-few
-blocks-requires-clause-few c = few_branches c.args.document.now.closed c.args.approvals.now c.requires.walked.branches
+blocks-requires-clause-few c =
+    subst (λ (document : FilledDocument). HaveFewBranches document.closed c.args.approvals.now) (sym c.filled.ensures) (few_branches c.args.document.now.closed c.args.approvals.now c.requires.walked.branches)
 
 pub print_block_list-printed-requires-clause-alike : goal.print_block_list-printed-requires-clause-alike
 print_block_list-printed-requires-clause-alike c =
-    let paths = paths_of c.args.document.now.closed c.args.approvals.now in
+    let paths = paths_of c.filled.result.now.closed c.args.approvals.now in
     let run = c.args.run.now in
     let count = ap length (c.as_slice.ensures ∙ c.in-Ok.ensures) ∙ length-map paths (λ path. label path.steps) in
     let same = ap length (c.deref.ensures.value ∙ c.in_ok-blocks.ensures) ∙ length-map paths (λ path. first_block path c.args.sight.now run.grants run.goal run.locality) in
@@ -19,11 +22,16 @@ print_block_list-printed-requires-clause-alike c =
 
 pub print_block_list-printed-requires-clause-few : goal.print_block_list-printed-requires-clause-few
 print_block_list-printed-requires-clause-few c =
-    let paths = paths_of c.args.document.now.closed c.args.approvals.now in
+    let paths = paths_of c.filled.result.now.closed c.args.approvals.now in
     let run = c.args.run.now in
     let same = ap length (c.deref.ensures.value ∙ c.in_ok-blocks.ensures) ∙ length-map paths (λ path. first_block path c.args.sight.now run.grants run.goal run.locality) in
-    omega (arith, same, c.requires.walked.within.few)
+    let document = ap (λ (document : FilledDocument). length (paths_of document.closed c.args.approvals.now)) c.filled.ensures in
+    omega (arith, same, document, c.requires.walked.within.few)
 
 pub returns-in-Ok-clause-told : goal.returns-in-Ok-clause-told
 returns-in-Ok-clause-told c =
-    c.print_block_list-printed.ensures.told c.args.sight.now c.args.run.now (paths_of c.args.document.now.closed c.args.approvals.now) (c.deref.ensures.value ∙ c.in_ok-blocks.ensures) (c.as_slice.ensures ∙ c.in-Ok.ensures)
+    let approvals = c.args.approvals.now in
+    let run = c.args.run.now in
+    let blocks = ap (λ (document : FilledDocument). map (λ path. first_block path c.args.sight.now run.grants run.goal run.locality) (paths_of document.closed approvals)) c.filled.ensures in
+    let labels = ap (λ (document : FilledDocument). map (λ path. label path.steps) (paths_of document.closed approvals)) c.filled.ensures in
+    c.print_block_list-printed.ensures.told c.args.sight.now run (paths_of c.args.document.now.closed approvals) (c.deref.ensures.value ∙ c.in_ok-blocks.ensures ∙ blocks) (c.as_slice.ensures ∙ c.in-Ok.ensures ∙ labels)
