@@ -1,6 +1,7 @@
 //! What a run is to do, as a table of the tests has it, and the state behind its steps.
 
-use crate::steps::{BOOT, OWNER, Step, ZERO_PCRS, at_start, turn};
+use crate::states::{BOOT, OWNER, ZERO_PCRS, at_start, turn};
+use crate::steps::Step;
 use std::alloc::Global;
 use tpol_base::{Blob, Compare, Digest32, Digests, Name, NoMemory, Sequence, Text};
 use tpol_driver::{HeldTicket, Next, Plan, Stage, Tickets};

@@ -3,13 +3,13 @@
 
 ghost use Rattle.std.specs.Prelude.{◌≤◌, All, IsTrue, length};
 
-use crate::steps::{DENIED, NONCE_SEED, OK, START, Step, is_made};
 use std::alloc::Global;
 use tpol_base::{Blob, Digest32, Digests, Name, NoMemory, Rc, Text};
 use tpol_driver::{
     BlindAgain, BlindAsserting, BlindClosing, BlindEnd, BlindNext, BlindPlan, BlindReady,
     BlindStart, Stage, Tried,
 };
+use tpol_driver_tests::steps::{DENIED, NONCE_SEED, OK, START, Step, is_made};
 use tpol_goal::{Goal, Grants, Secrets};
 use tpol_name::{DirEntry, Directory};
 use tpol_tree::{Assertion, Move, Moves, Path, PathSteps, Paths};
