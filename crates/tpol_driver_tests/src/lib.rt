@@ -2,13 +2,12 @@
 //! stand in a crate of their own, over the one that they test, so that it is proved once and not a second time with its tests.
 #![tactic(auto)]
 
-pub mod steps;
-
 #[cfg(test)]
 mod runs;
 #[cfg(test)]
 mod sighted;
 #[cfg(test)]
 mod states;
+pub mod steps;
 #[cfg(test)]
 mod tickets;
