@@ -1,28 +1,37 @@
 // What one more move of a policy binds a session to.
 
-ghost use Rattle.std.specs.Prelude.{◌≡◌, ◌≤◌, ◌^◌};
-ghost use Rattle.tpm_bindings.specs.Merged.{merged};
-ghost use Rattle.tpm_bindings.specs.State.{SessionState};
-ghost use Rattle.tpm_rules.specs.Standing.{standing_of};
+ghost use Rattle.std.specs.Prelude.{◌≡◌, ◌++◌, ◌∷◌, [], List, None, ℕ};
+ghost use Rattle.tpm_bindings.specs.Merged.{fact_of, merged};
 ghost use Rattle.tpol_choose.specs.Acts.{move_of};
 ghost use Rattle.tpol_choose.specs.Facts as spec;
-ghost use Rattle.tpol_name.specs.declared.sight.Sight.{Sight as OneSight};
+ghost use Rattle.tpol_tree.specs.declared.facts.Fact.{Fact as OneFact};
+ghost use Rattle.tpol_tree.specs.declared.path.Move.{Move as OneMove};
 
 use crate::act::Act;
-use crate::session::{cp_hash_of, deadline_after};
+use crate::session::cp_hash_of;
 use tpm_bindings::Bindings;
-use tpm_rules::Standing;
+use tpol_base::Digest32;
 
-// What the facts bind together with that of one more move.
-pub fn bindings_after(session: &Standing, act: &Act<'_>) -> Bindings
-    requires start { session.now.start ≤ 2 ^ 63 }
-    ensures { (state : SessionState) (sight : OneSight) → session.now ≡ standing_of state
-        → result ≡ merged (spec.session_after sight state (move_of act.now)).facts }
+// Adds what the fact of one more move binds, with this deadline.
+pub fn bind_move(bindings: &mut Bindings, act: &Act<'_>, deadline: Option<u64>)
+    ensures { (facts : List OneFact) → bindings.old ≡ merged facts
+        → bindings.new ≡ merged (facts
+        ++ fact_of 0 (move_of act.now) (spec.cp_hash_of (move_of act.now)) deadline ∷ []) }
 {
-    let mut bindings = session.bindings;
-    if let Act::Assert(step) = *act {
+    if let Act::Assert(step) = act {
         bindings.bind(step.assertion);
     }
-    bindings.limit(cp_hash_of(act), deadline_after(session, act));
-    bindings
+    limit_move(bindings, cp_hash_of(act), deadline);
+}
+
+// Adds the cpHashA and the deadline of the fact of the move that was added last, where it has one of them.
+fn limit_move(bindings: &mut Bindings, cp_hash: Option<Digest32>, deadline: Option<u64>)
+    ensures { (facts : List OneFact) (event : ℕ) (act : OneMove)
+        → bindings.old ≡ merged (facts ++ fact_of event act None None ∷ [])
+        → bindings.new ≡ merged (facts ++ fact_of event act cp_hash deadline ∷ []) }
+{
+    match (cp_hash, deadline) {
+        (None, None) => {}
+        (cp_hash, deadline) => bindings.limit(cp_hash, deadline),
+    }
 }

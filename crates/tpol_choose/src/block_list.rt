@@ -89,7 +89,7 @@ fn push_policy(
     let track = Track::new(&walk.client);
     push_elements(
         walk,
-        track,
+        &track,
         &policy.elements,
         Before::start(memo),
         &Ahead::Nothing,
@@ -102,7 +102,7 @@ fn push_policy(
 #[cycle(block_list)]
 fn push_elements<'a>(
     walk: &Walk<'_>,
-    track: Track,
+    track: &Track,
     elements: &'a ClosedElements,
     before: Before<'a>,
     ahead: &'a Ahead<'a>,
@@ -114,7 +114,7 @@ fn push_elements<'a>(
     requires sight { IsSight walk.now.client.sight.now }
     requires ahead { IsSoundAhead ahead.now }
     requires knows { Knows before elements.now }
-    ensures { (state : TrackState) → IsTrack track state
+    ensures { (state : TrackState) → IsTrack track.now state
         → OnOk result (found.new.items ≡ found.old.items
         ++ spec.blocks_of (client_of_lent walk.now.client)
         (spec.blocks_ahead (client_of_lent walk.now.client) walk.now.approvals.now ahead.now)
@@ -133,7 +133,7 @@ fn push_elements<'a>(
 #[cycle(block_list)]
 fn push_element<'a>(
     walk: &Walk<'_>,
-    track: Track,
+    track: &Track,
     element: &'a ClosedElement,
     rest: &'a ClosedElements,
     before: Before<'a>,
@@ -147,7 +147,7 @@ fn push_element<'a>(
     requires sight { IsSight walk.now.client.sight.now }
     requires ahead { IsSoundAhead ahead.now }
     requires knows { KnowsFirst before element.now rest.now }
-    ensures { (state : TrackState) → IsTrack track state
+    ensures { (state : TrackState) → IsTrack track.now state
         → OnOk result (found.new.items ≡ found.old.items
         ++ spec.blocks_of (client_of_lent walk.now.client)
         (spec.blocks_rest (client_of_lent walk.now.client) walk.now.approvals.now walk.now.levels
@@ -159,8 +159,9 @@ fn push_element<'a>(
         ClosedElement::Assert(assertion) => {
             let after = before.behind(element, rest);
             let step = AssertMove::with_after(assertion, before.digest, after.digest);
-            let next = track.after(&walk.client, &Act::Assert(step));
-            push_elements(walk, next, rest, after, ahead, found)
+            let mut next = *track;
+            next.add(&walk.client, &Act::Assert(step));
+            push_elements(walk, &next, rest, after, ahead, found)
         }
         ClosedElement::Or(branches) => {
             let digests = OrDigests::of(&before, branches, rest);
@@ -189,7 +190,7 @@ fn push_element<'a>(
 #[cycle(block_list)]
 fn push_branches<'a>(
     walk: &Walk<'_>,
-    track: Track,
+    track: &Track,
     branches: &'a ClosedBranches,
     before: BeforeBranches<'a>,
     ahead: &'a Ahead<'a>,
@@ -201,7 +202,7 @@ fn push_branches<'a>(
     requires sight { IsSight walk.now.client.sight.now }
     requires ahead { IsSoundAhead ahead.now }
     requires knows { KnowsBranches before branches.now }
-    ensures { (state : TrackState) (position : ℕ) → IsTrack track state
+    ensures { (state : TrackState) (position : ℕ) → IsTrack track.now state
         → OnOk result (found.new.items ≡ found.old.items
         ++ spec.blocks_of (client_of_lent walk.now.client)
         (spec.blocks_ahead (client_of_lent walk.now.client) walk.now.approvals.now ahead.now)
@@ -226,7 +227,7 @@ fn push_branches<'a>(
 #[cycle(block_list)]
 fn push_approvals<'a>(
     walk: &Walk<'_>,
-    track: Track,
+    track: &Track,
     element: &'a ClosedElement,
     rest: &'a ClosedElements,
     after: Before<'a>,
@@ -240,7 +241,7 @@ fn push_approvals<'a>(
     requires sight { IsSight walk.now.client.sight.now }
     requires ahead { IsSoundAhead ahead.now }
     requires knows { Knows after rest.now }
-    ensures { (state : TrackState) → IsTrack track state
+    ensures { (state : TrackState) → IsTrack track.now state
         → OnOk result (found.new.items ≡ found.old.items
         ++ spec.blocks_of (client_of_lent walk.now.client)
         (spec.blocks_rest (client_of_lent walk.now.client) walk.now.approvals.now walk.now.levels
@@ -251,7 +252,7 @@ fn push_approvals<'a>(
     match outside_approval(element) {
         Some(act) => {
             let next = track.after(&walk.client, &act).outside();
-            push_elements(walk, next, rest, after, ahead, found)
+            push_elements(walk, &next, rest, after, ahead, found)
         }
         None => Ok(()),
     }
@@ -261,7 +262,7 @@ fn push_approvals<'a>(
 #[cycle(block_list)]
 fn push_documents<'a>(
     walk: &Walk<'_>,
-    track: Track,
+    track: &Track,
     element: &'a ClosedElement,
     rest: &'a ClosedElements,
     after: Before<'a>,
@@ -274,7 +275,7 @@ fn push_documents<'a>(
     requires sight { IsSight walk.now.client.sight.now }
     requires ahead { IsSoundAhead ahead.now }
     requires knows { Knows after rest.now }
-    ensures { (state : TrackState) → IsTrack track state
+    ensures { (state : TrackState) → IsTrack track.now state
         → OnOk result (found.new.items ≡ found.old.items
         ++ spec.blocks_of (client_of_lent walk.now.client)
         (spec.blocks_rest (client_of_lent walk.now.client) walk.now.approvals.now walk.now.levels
@@ -311,7 +312,7 @@ fn push_documents<'a>(
 #[cycle(block_list)]
 fn push_ahead<'a>(
     walk: &Walk<'_>,
-    track: Track,
+    track: &Track,
     ahead: &'a Ahead<'a>,
     found: &mut Vec<Option<Block>>,
 ) -> Result<(), NoMemory>
@@ -319,13 +320,13 @@ fn push_ahead<'a>(
         walk.now.approvals.now }
     requires sight { IsSight walk.now.client.sight.now }
     requires ahead { IsSoundAhead ahead.now }
-    ensures { (state : TrackState) → IsTrack track state
+    ensures { (state : TrackState) → IsTrack track.now state
         → OnOk result (found.new.items ≡ found.old.items
         ++ spec.blocks_ahead (client_of_lent walk.now.client) walk.now.approvals.now ahead.now
         state) }
 {
     match ahead {
-        Ahead::Nothing => push_end(walk, &track, found),
+        Ahead::Nothing => push_end(walk, track, found),
         Ahead::After {
             act,
             first,
@@ -334,13 +335,14 @@ fn push_ahead<'a>(
             levels,
             ahead,
         } => {
-            let closed = track.after(&walk.client, act);
-            let next = closed.after_first(&walk.client, first);
+            let mut next = *track;
+            next.add(&walk.client, act);
+            next.add_first(&walk.client, first);
             let outer = Walk {
                 levels: *levels,
                 ..*walk
             };
-            push_elements(&outer, next, rest, *before, ahead, found)
+            push_elements(&outer, &next, rest, *before, ahead, found)
         }
     }
 }

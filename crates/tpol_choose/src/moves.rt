@@ -36,7 +36,7 @@ pub fn check_move(client: &Client<'_>, session: &Standing, act: &Act<'_>) -> Res
     ensures { (state : SessionState) → session.now ≡ standing_of state
         → Breaks result (spec.move_block (client_of_lent client.now) state (move_of act.now)) }
 {
-    match *act {
+    match act {
         Act::Assert(step) => check_assertion(client, session, step.assertion),
         Act::Or(or) => answered(policy_or_rule(session, or.digests)),
         Act::Approve {
@@ -49,8 +49,8 @@ pub fn check_move(client: &Client<'_>, session: &Standing, act: &Act<'_>) -> Res
             session,
             key,
             policy_ref.as_slice(),
-            &approved,
-            &signature,
+            approved,
+            signature,
         ),
         Act::ApproveNv { index, approved: _ } => policy_authorize_nv(client, session, index),
     }

@@ -12,11 +12,10 @@ ghost use Rattle.tpol_choose.specs.Moves.{move_block};
 ghost use Rattle.tpol_name.specs.Setups.{IsSight};
 
 use crate::act::Act;
-use crate::binding::bindings_after;
 use crate::client::{Client, GoalHashes};
 use crate::goal::check_goal;
 use crate::moves::check_move;
-use crate::session::{fresh_session, session_after};
+use crate::session::{add_move, fresh_session};
 use crate::{Block, Why};
 use tpm_rules::Standing;
 use tpol_goal::{Goal, Grants};
@@ -118,8 +117,9 @@ fn make_move(
 {
     let lent = Act::of(act, session.digest);
     at(number, check_move(client, session, &lent))?;
-    let bindings = bindings_after(session, &lent);
-    Ok(session_after(client.sight, session, &lent, bindings))
+    let mut after = *session;
+    add_move(&mut after, client.sight, &lent);
+    Ok(after)
 }
 
 // What stands in the way here.

@@ -50,7 +50,7 @@ pub fn search_policy(walk: &Walk<'_>, policy: &Closed, before: Before<'_>) -> Se
     ensures counted { spec.IsCounted result }
 {
     let track = Track::new(&walk.client);
-    search_elements(walk, track, &policy.elements, before, &Ahead::Nothing, 0)
+    search_elements(walk, &track, &policy.elements, before, &Ahead::Nothing, 0)
 }
 
 // Goes on with a search, from a track that has passed so many ways, through all ways through elements and
@@ -58,7 +58,7 @@ pub fn search_policy(walk: &Walk<'_>, policy: &Closed, before: Before<'_>) -> Se
 #[cycle(searching)]
 fn search_elements<'a>(
     walk: &Walk<'_>,
-    track: Track,
+    track: &Track,
     elements: &'a ClosedElements,
     before: Before<'a>,
     ahead: &'a Ahead<'a>,
@@ -70,7 +70,7 @@ fn search_elements<'a>(
     requires sight { IsSight walk.now.client.sight.now }
     requires ahead { IsSoundAhead ahead.now }
     requires knows { Knows before elements.now }
-    ensures { (state : TrackState) → IsTrack track state
+    ensures { (state : TrackState) → IsTrack track.now state
         → result ≡ spec.search_ways (client_of_lent walk.now.client)
         (spec.search_ahead (client_of_lent walk.now.client) walk.now.approvals.now ahead.now)
         state passed (at.element_list_ways walk.now.approvals.now walk.now.levels elements.now
@@ -91,7 +91,7 @@ fn search_elements<'a>(
 #[cycle(searching)]
 fn search_element<'a>(
     walk: &Walk<'_>,
-    track: Track,
+    track: &Track,
     element: &'a ClosedElement,
     rest: &'a ClosedElements,
     before: Before<'a>,
@@ -105,7 +105,7 @@ fn search_element<'a>(
     requires sight { IsSight walk.now.client.sight.now }
     requires ahead { IsSoundAhead ahead.now }
     requires knows { KnowsFirst before element.now rest.now }
-    ensures { (state : TrackState) → IsTrack track state
+    ensures { (state : TrackState) → IsTrack track.now state
         → result ≡ spec.search_ways (client_of_lent walk.now.client)
         (spec.search_rest (client_of_lent walk.now.client) walk.now.approvals.now walk.now.levels
         rest.now (digest_at_element element.now before.entry.digest) ahead.now)
@@ -116,8 +116,9 @@ fn search_element<'a>(
         ClosedElement::Assert(assertion) => {
             let after = before.behind(element, rest);
             let step = AssertMove::with_after(assertion, before.digest, after.digest);
-            let next = track.after(&walk.client, &Act::Assert(step));
-            search_elements(walk, next, rest, after, ahead, passed)
+            let mut next = *track;
+            next.add(&walk.client, &Act::Assert(step));
+            search_elements(walk, &next, rest, after, ahead, passed)
         }
         ClosedElement::Or(branches) => {
             let digests = OrDigests::of(&before, branches, rest);
@@ -146,7 +147,7 @@ fn search_element<'a>(
 #[cycle(searching)]
 fn search_branches<'a>(
     walk: &Walk<'_>,
-    track: Track,
+    track: &Track,
     branches: &'a ClosedBranches,
     before: BeforeBranches<'a>,
     ahead: &'a Ahead<'a>,
@@ -158,7 +159,7 @@ fn search_branches<'a>(
     requires sight { IsSight walk.now.client.sight.now }
     requires ahead { IsSoundAhead ahead.now }
     requires knows { KnowsBranches before branches.now }
-    ensures { (state : TrackState) (position : ℕ) → IsTrack track state
+    ensures { (state : TrackState) (position : ℕ) → IsTrack track.now state
         → result ≡ spec.search_ways (client_of_lent walk.now.client)
         (spec.search_ahead (client_of_lent walk.now.client) walk.now.approvals.now ahead.now)
         state passed (at.branch_ways walk.now.approvals.now walk.now.levels branches.now position
@@ -186,7 +187,7 @@ fn search_branches<'a>(
 #[cycle(searching)]
 fn search_approvals<'a>(
     walk: &Walk<'_>,
-    track: Track,
+    track: &Track,
     element: &'a ClosedElement,
     rest: &'a ClosedElements,
     after: Before<'a>,
@@ -200,7 +201,7 @@ fn search_approvals<'a>(
     requires sight { IsSight walk.now.client.sight.now }
     requires ahead { IsSoundAhead ahead.now }
     requires knows { Knows after rest.now }
-    ensures { (state : TrackState) → IsTrack track state
+    ensures { (state : TrackState) → IsTrack track.now state
         → result ≡ spec.search_ways (client_of_lent walk.now.client)
         (spec.search_rest (client_of_lent walk.now.client) walk.now.approvals.now walk.now.levels
         rest.now after.entry.digest ahead.now)
@@ -216,7 +217,7 @@ fn search_approvals<'a>(
 #[cycle(searching)]
 fn search_documents<'a>(
     walk: &Walk<'_>,
-    track: Track,
+    track: &Track,
     element: &'a ClosedElement,
     rest: &'a ClosedElements,
     after: Before<'a>,
@@ -229,7 +230,7 @@ fn search_documents<'a>(
     requires sight { IsSight walk.now.client.sight.now }
     requires ahead { IsSoundAhead ahead.now }
     requires knows { Knows after rest.now }
-    ensures { (state : TrackState) → IsTrack track state
+    ensures { (state : TrackState) → IsTrack track.now state
         → result ≡ spec.search_ways (client_of_lent walk.now.client)
         (spec.search_rest (client_of_lent walk.now.client) walk.now.approvals.now walk.now.levels
         rest.now after.entry.digest ahead.now)
@@ -268,17 +269,17 @@ fn search_documents<'a>(
 
 // The same of what comes behind a branch or a document.
 #[cycle(searching)]
-fn search_ahead<'a>(walk: &Walk<'_>, track: Track, ahead: &'a Ahead<'a>, passed: u64) -> Search
+fn search_ahead<'a>(walk: &Walk<'_>, track: &Track, ahead: &'a Ahead<'a>, passed: u64) -> Search
     requires approved { All (λ document. HasFewBranches document.closed.elements)
         walk.now.approvals.now }
     requires sight { IsSight walk.now.client.sight.now }
     requires ahead { IsSoundAhead ahead.now }
-    ensures { (state : TrackState) → IsTrack track state
+    ensures { (state : TrackState) → IsTrack track.now state
         → result ≡ spec.search_ahead
         (client_of_lent walk.now.client) walk.now.approvals.now ahead.now state passed }
 {
     match ahead {
-        Ahead::Nothing => search_end(walk, &track, passed),
+        Ahead::Nothing => search_end(walk, track, passed),
         Ahead::After {
             act,
             first,
@@ -287,13 +288,14 @@ fn search_ahead<'a>(walk: &Walk<'_>, track: Track, ahead: &'a Ahead<'a>, passed:
             levels,
             ahead,
         } => {
-            let closed = track.after(&walk.client, act);
-            let next = closed.after_first(&walk.client, first);
+            let mut next = *track;
+            next.add(&walk.client, act);
+            next.add_first(&walk.client, first);
             let outer = Walk {
                 levels: *levels,
                 ..*walk
             };
-            search_elements(&outer, next, rest, *before, ahead, passed)
+            search_elements(&outer, &next, rest, *before, ahead, passed)
         }
     }
 }

@@ -2,7 +2,6 @@
 
 ghost use Rattle.std.specs.Prelude.{◌≡◌, ◌≤◌, ◌^◌};
 ghost use Rattle.tpm_bindings.specs.Facts as pcr;
-ghost use Rattle.tpm_bindings.specs.Merged.{merged};
 ghost use Rattle.tpm_bindings.specs.State.{SessionState};
 ghost use Rattle.tpm_rules.specs.Standing.{standing_of};
 ghost use Rattle.tpol_choose.specs.Acts.{move_of};
@@ -12,6 +11,7 @@ ghost use Rattle.tpol_name.specs.declared.sight.Sight.{Sight as OneSight};
 
 use crate::act::Act;
 use crate::assert_move::AssertMove;
+use crate::binding::bind_move;
 use crate::entity_at::entity_of_name;
 use tpm_bindings::Bindings;
 use tpm_rules::{Standing, deadline_of};
@@ -33,25 +33,17 @@ pub fn fresh_session(sight: &Sight) -> Standing
     }
 }
 
-// The session with the fact of one more move, where what its facts then bind is known.
-pub fn session_after(
-    sight: &Sight,
-    session: &Standing,
-    act: &Act<'_>,
-    bindings: Bindings,
-) -> Standing
-    ensures start { result.start ≡ session.now.start }
-    ensures after { (state : SessionState) → session.now ≡ standing_of state
-        → bindings ≡ merged (spec.session_after sight.now state (move_of act.now)).facts
-        → result ≡ standing_of (spec.session_after sight.now state (move_of act.now)) }
+// Adds the fact of one more move to the session.
+pub fn add_move(session: &mut Standing, sight: &Sight, act: &Act<'_>)
+    requires start { session.old.start ≤ 2 ^ 63 }
+    ensures start { session.new.start ≡ session.old.start }
+    ensures after { (state : SessionState) → session.old ≡ standing_of state
+        → session.new ≡ standing_of (spec.session_after sight.now state (move_of act.now)) }
 {
-    Standing {
-        start: session.start,
-        nonce: session.nonce,
-        digest: digest_after(sight, session.digest, act),
-        bindings,
-        counter: counter_after(sight.pcr_counter, session.counter, act),
-    }
+    let deadline = deadline_after(session, act);
+    bind_move(&mut session.bindings, act, deadline);
+    session.digest = digest_after(sight, session.digest, act);
+    session.counter = counter_after(sight.pcr_counter, session.counter, act);
 }
 
 // The digest with the fact of one more move.
@@ -59,8 +51,8 @@ fn digest_after(sight: &Sight, before: Digest32, act: &Act<'_>) -> Digest32
     ensures { (state : SessionState)
         → result ≡ digest_after (spec.fact_of_move sight.now state (move_of act.now)).act before }
 {
-    match *act {
-        Act::Assert(step) => digest_after_assertion(sight, before, &step),
+    match act {
+        Act::Assert(step) => digest_after_assertion(sight, before, step),
         Act::Or(or) => or.after,
         Act::Approve {
             key,
@@ -117,7 +109,7 @@ fn counter_after(now: u32, first: Option<u32>, act: &Act<'_>) -> Option<u32>
 fn is_pcr(act: &Act<'_>) -> bool
     ensures { result ≡ pcr.is_pcr (move_of act.now) }
 {
-    match *act {
+    match act {
         Act::Assert(step) => matches!(step.assertion, Assertion::Pcr { .. }),
         _ => false,
     }
@@ -127,7 +119,7 @@ fn is_pcr(act: &Act<'_>) -> bool
 pub fn cp_hash_of(act: &Act<'_>) -> Option<Digest32>
     ensures { result ≡ spec.cp_hash_of (move_of act.now) }
 {
-    match *act {
+    match act {
         Act::Assert(step) => match step.assertion {
             Assertion::Secret { cp_hash, .. } | Assertion::Signed { cp_hash, .. } => *cp_hash,
             _ => None,
@@ -137,11 +129,11 @@ pub fn cp_hash_of(act: &Act<'_>) -> Option<Digest32>
 }
 
 // The deadline of a move's fact.
-pub fn deadline_after(session: &Standing, act: &Act<'_>) -> Option<u64>
+fn deadline_after(session: &Standing, act: &Act<'_>) -> Option<u64>
     requires start { session.now.start ≤ 2 ^ 63 }
     ensures { result ≡ spec.deadline_of_move session.now.start session.now.nonce (move_of act.now) }
 {
-    match *act {
+    match act {
         Act::Assert(step) => match step.assertion {
             Assertion::Secret { expiration, .. } | Assertion::Signed { expiration, .. } => {
                 deadline_of(session.start, &session.nonce.bytes, *expiration)

@@ -9,13 +9,12 @@ ghost use Rattle.tpol_name.specs.Setups.{IsSight};
 use crate::Block;
 use crate::act::Act;
 use crate::assert_move::AssertMove;
-use crate::binding::bindings_after;
 use crate::client::Client;
 use crate::demands::meets;
 use crate::goal::check_goal;
 use crate::moves::check_move;
 use crate::one_path::{at, check_whole};
-use crate::session::{fresh_session, session_after};
+use crate::session::{add_move, fresh_session};
 use tpm_rules::Standing;
 
 // The session that a path makes, the number of its moves, the first thing that stood in their way, and whether
@@ -48,32 +47,39 @@ impl Track {
         }
     }
 
-    // One move further.
-    pub fn after(self, client: &Client<'_>, act: &Act<'_>) -> Track
+    // The same one move further.
+    pub fn after(&self, client: &Client<'_>, act: &Act<'_>) -> Track
         requires sight { IsSight client.now.sight.now }
-        ensures { (track : TrackState) → IsTrack self track
+        ensures { (track : TrackState) → IsTrack self.now track
             → IsTrack result (spec.track_after (client_of_lent client.now) track
             (move_of act.now)) }
     {
+        let mut next = *self;
+        next.add(client, act);
+        next
+    }
+
+    // Goes one move further.
+    pub fn add(&mut self, client: &Client<'_>, act: &Act<'_>)
+        requires sight { IsSight client.now.sight.now }
+        ensures { (track : TrackState) → IsTrack self.old track
+            → IsTrack self.new (spec.track_after (client_of_lent client.now) track
+            (move_of act.now)) }
+    {
         let number = self.done.saturating_add(1);
-        let bindings = bindings_after(&self.session, act);
-        Track {
-            session: session_after(client.sight, &self.session, act, bindings),
-            done: number,
-            block: self.block_with(client, number, act),
-            outside: self.outside,
-        }
+        self.block = self.block_with(client, number, act);
+        self.done = number;
+        add_move(&mut self.session, client.sight, act);
     }
 
     // The same by the assertion that comes next, if one does.
-    pub fn after_first(self, client: &Client<'_>, first: &Option<AssertMove<'_>>) -> Track
+    pub fn add_first(&mut self, client: &Client<'_>, first: &Option<AssertMove<'_>>)
         requires sight { IsSight client.now.sight.now }
-        ensures { (track : TrackState) → IsTrack self track
-            → IsTrack result (spec.after_first (client_of_lent client.now) track first.now) }
+        ensures { (track : TrackState) → IsTrack self.old track
+            → IsTrack self.new (spec.after_first (client_of_lent client.now) track first.now) }
     {
-        match *first {
-            Some(step) => self.after(client, &Act::Assert(step)),
-            None => self,
+        if let Some(step) = first {
+            self.add(client, &Act::Assert(*step));
         }
     }
 

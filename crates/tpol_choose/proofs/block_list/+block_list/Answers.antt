@@ -62,7 +62,7 @@ push_element-returns-in-Assert t c =
     let after = c.behind-after.ensures.digest ∙ ap (λ e. digest_at_element e c.args.before.digest) c.in-Assert.is in
     rw c.in-Assert.is (λ state h. on_ok_weaker c.push_elements.result (λ e. e
     ∙ ap (λ d. blocks ++ blocks_of client (blocks_ahead client documents ahead) (track_after client state act) (element_list_ways documents levels rest d)) after
-    ∙ ap (λ l. blocks ++ l) (sym (blocks_one_move client (blocks_rest client documents levels rest (digest_at_element (closed.Assert c.in-Assert.assertion) c.args.before.digest) ahead) state act))) (c.push_elements.ensures (track_after client state act) (subst (λ a. IsTrack c.after-next.result (track_after client state (Assert a))) c.with_after-step.ensures (c.after-next.ensures state h))))
+    ∙ ap (λ l. blocks ++ l) (sym (blocks_one_move client (blocks_rest client documents levels rest (digest_at_element (closed.Assert c.in-Assert.assertion) c.args.before.digest) ahead) state act))) (c.push_elements.ensures (track_after client state act) (subst (λ a. IsTrack c.add.new.self (track_after client state (Assert a))) c.with_after-step.ensures (c.add.ensures state h))))
 
 pub push_element-returns-in-Or : goal.push_element-returns-in-Or
 push_element-returns-in-Or t c =
@@ -189,7 +189,7 @@ push_ahead-returns-in-After t c =
     let client = client_of_lent c.args.walk.now.client in
     rw c.in-After.is (λ state h.
     let closed = track_after client state (move_of c.in-After.act) in
-    c.push_elements.ensures (after_first client closed c.in-After.first) (c.after_first-next.ensures closed (c.after-closed.ensures state h)))
+    c.push_elements.ensures (after_first client closed c.in-After.first) (c.add_first.ensures closed (c.add.ensures state h)))
 
 -- ---- the end, and what the calls ask for
 
