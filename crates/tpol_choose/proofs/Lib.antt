@@ -10,4 +10,5 @@ pub mod Judging
 pub mod Leads
 pub mod Loads
 pub mod OnWay
+pub mod SameKeys
 pub mod SearchLaws
