@@ -7,6 +7,7 @@ pub mod Found
 pub mod Going
 pub mod Hopeless
 pub mod Judging
+pub mod Kept
 pub mod Leads
 pub mod Loads
 pub mod OnWay

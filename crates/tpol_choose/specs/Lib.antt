@@ -9,6 +9,7 @@ pub mod Few
 pub mod Goals
 pub mod Hopes
 pub mod Judges
+pub mod Kept
 pub mod Keys
 pub mod Leads
 pub mod Lent

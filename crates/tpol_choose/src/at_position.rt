@@ -57,6 +57,7 @@ pub fn block_at<'a>(
             hashes: GoalHashes::of(sight, goal),
         },
         approvals: approvals.as_slice(),
+        memos: None,
         levels: MAX_LEVELS,
     };
     block_at_index(&walk, policy, u64::from(position - 1))

@@ -1,8 +1,10 @@
 // What stands in the way of each way through a policy, on one walk through it, depth first.
 
+ghost use Rattle.std.specs.List.{AllZip};
 ghost use Rattle.std.specs.Prelude.{◌≡◌, ◌++◌, All, IfOk, OnOk, ℕ, length, map};
 ghost use Rattle.tpol_choose.specs.Ahead.{IsSoundAhead};
 ghost use Rattle.tpol_choose.specs.Blocks.{block_on, first_block};
+ghost use Rattle.tpol_choose.specs.Kept.{KnowsApproved};
 ghost use Rattle.tpol_choose.specs.Lent.{client_of_lent};
 ghost use Rattle.tpol_choose.specs.BlockLists as spec;
 ghost use Rattle.tpol_choose.specs.Tracks.{IsTrack, TrackState};
@@ -27,25 +29,28 @@ use crate::track::Track;
 use crate::walk::Walk;
 use std::alloc::Global;
 use tpol_base::NoMemory;
-use tpol_digest::{Before, BeforeBranches, MAX_LEVELS, Memo, zero_digest};
+use tpol_digest::{Before, BeforeBranches, MAX_LEVELS, Memo};
 use tpol_goal::{Goal, Grants};
 use tpol_name::Sight;
 use tpol_tree::{Approvals, Closed, ClosedBranches, ClosedElement, ClosedElements};
 
 /// What stands in the way of each path of a policy, in the order of the paths (see `can`). The policy is
-/// walked once, and no path is made; its digests are kept in `memo` (see `tpol_digest::memo_of`). It fails only
-/// where memory ran out.
+/// walked once, and no path is made; its digests are kept in `memo`, and those of each approved document in `memos`
+/// (see `tpol_digest::memo_of`). It fails only where memory ran out.
 pub fn blocks<'a>(
     alloc: Global,
     policy: &Closed,
     memo: &Memo,
     approvals: &'a Approvals,
+    memos: &'a [Memo],
     sight: &'a Sight,
     grants: &'a Grants,
     goal: &'a Goal,
     locality: u8,
 ) -> Result<Vec<Option<Block>>, NoMemory>
     requires memo { IsMemo policy.now.elements no_digest memo.now }
+    requires memos { AllZip (λ document memo. IsMemo document.closed.elements no_digest memo)
+        approvals.now memos.now }
     requires few { HaveFewBranches policy.now approvals.now }
     requires within { AreWithinLimits (paths_of policy.now approvals.now) }
     requires sight { IsSight sight.now }
@@ -62,6 +67,7 @@ pub fn blocks<'a>(
             hashes: GoalHashes::of(sight, goal),
         },
         approvals: approvals.as_slice(),
+        memos: Some(memos),
         levels: MAX_LEVELS,
     };
     let mut blocks = Vec::new(alloc);
@@ -78,6 +84,7 @@ fn push_policy(
     requires branches { HasFewBranches policy.now.elements }
     requires approved { All (λ document. HasFewBranches document.closed.elements)
         walk.now.approvals.now }
+    requires kept { KnowsApproved walk.now }
     requires sight { IsSight walk.now.client.sight.now }
     requires levels { walk.now.levels ≡ 4 }
     requires memo { IsMemo policy.now.elements no_digest memo.now }
@@ -111,6 +118,7 @@ fn push_elements<'a>(
     requires branches { HasFewBranches elements.now }
     requires approved { All (λ document. HasFewBranches document.closed.elements)
         walk.now.approvals.now }
+    requires kept { KnowsApproved walk.now }
     requires sight { IsSight walk.now.client.sight.now }
     requires ahead { IsSoundAhead ahead.now }
     requires knows { Knows before elements.now }
@@ -144,6 +152,7 @@ fn push_element<'a>(
     requires rest { HasFewBranches rest.now }
     requires approved { All (λ document. HasFewBranches document.closed.elements)
         walk.now.approvals.now }
+    requires kept { KnowsApproved walk.now }
     requires sight { IsSight walk.now.client.sight.now }
     requires ahead { IsSoundAhead ahead.now }
     requires knows { KnowsFirst before element.now rest.now }
@@ -199,6 +208,7 @@ fn push_branches<'a>(
     requires branches { BranchesHaveFewBranches branches.now }
     requires approved { All (λ document. HasFewBranches document.closed.elements)
         walk.now.approvals.now }
+    requires kept { KnowsApproved walk.now }
     requires sight { IsSight walk.now.client.sight.now }
     requires ahead { IsSoundAhead ahead.now }
     requires knows { KnowsBranches before branches.now }
@@ -238,6 +248,7 @@ fn push_approvals<'a>(
     requires rest { HasFewBranches rest.now }
     requires approved { All (λ document. HasFewBranches document.closed.elements)
         walk.now.approvals.now }
+    requires kept { KnowsApproved walk.now }
     requires sight { IsSight walk.now.client.sight.now }
     requires ahead { IsSoundAhead ahead.now }
     requires knows { Knows after rest.now }
@@ -272,6 +283,7 @@ fn push_documents<'a>(
     requires rest { HasFewBranches rest.now }
     requires approved { All (λ document. HasFewBranches document.closed.elements)
         walk.now.approvals.now }
+    requires kept { KnowsApproved walk.now }
     requires sight { IsSight walk.now.client.sight.now }
     requires ahead { IsSoundAhead ahead.now }
     requires knows { Knows after rest.now }
@@ -290,7 +302,7 @@ fn push_documents<'a>(
         levels: walk.levels - 1,
         ..*walk
     };
-    for document in walk.approvals {
+    for (index, document) in walk.approvals.iter().enumerate() {
         if let Some(act) = approval(element, document) {
             let behind = Ahead::After {
                 act,
@@ -301,7 +313,7 @@ fn push_documents<'a>(
                 ahead: &*ahead,
             };
             let elements = &document.closed.elements;
-            let start = Before::without_memo(zero_digest());
+            let start = walk.start_of(index);
             push_elements(&inner, track, &*elements, start, &behind, found)?;
         }
     }
@@ -318,6 +330,7 @@ fn push_ahead<'a>(
 ) -> Result<(), NoMemory>
     requires approved { All (λ document. HasFewBranches document.closed.elements)
         walk.now.approvals.now }
+    requires kept { KnowsApproved walk.now }
     requires sight { IsSight walk.now.client.sight.now }
     requires ahead { IsSoundAhead ahead.now }
     ensures { (state : TrackState) → IsTrack track.now state

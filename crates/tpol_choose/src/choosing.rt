@@ -1,6 +1,7 @@
 // The first path that can be gone.
 
-ghost use Rattle.std.specs.Prelude.{◌≡◌};
+ghost use Rattle.std.specs.List.{AllZip};
+ghost use Rattle.std.specs.Prelude.{◌≡◌, IfSome};
 ghost use Rattle.tpol_choose.specs.Blocks.{chosen_path};
 ghost use Rattle.tpol_digest.specs.Digest.{zero_digest as no_digest};
 ghost use Rattle.tpol_digest.specs.Limits.{AreWithinLimits};
@@ -35,20 +36,26 @@ pub fn choose<'a>(
         (paths_of policy.now approvals.now) sight.now grants.now goal.now locality }
 {
     let before = Before::without_memo(zero_digest());
-    choose_from(policy, before, approvals, sight, grants, goal, locality)
+    choose_from(
+        policy, before, approvals, None, sight, grants, goal, locality,
+    )
 }
 
-/// The same as `choose`, where the digests of the policy are kept in `memo` (see `tpol_digest::memo_of`).
+/// The same as `choose`, where the digests of the policy are kept in `memo`, and those of each approved document in
+/// `memos` (see `tpol_digest::memo_of`).
 pub fn choose_with_memo<'a>(
     policy: &Closed,
     memo: &Memo,
     approvals: &'a Approvals,
+    memos: &'a [Memo],
     sight: &'a Sight,
     grants: &'a Grants,
     goal: &'a Goal,
     locality: u8,
 ) -> Option<u32>
     requires memo { IsMemo policy.now.elements no_digest memo.now }
+    requires memos { AllZip (λ document memo. IsMemo document.closed.elements no_digest memo)
+        approvals.now memos.now }
     requires few { HaveFewBranches policy.now approvals.now }
     requires within { AreWithinLimits (paths_of policy.now approvals.now) }
     requires sight { IsSight sight.now }
@@ -56,14 +63,19 @@ pub fn choose_with_memo<'a>(
         (paths_of policy.now approvals.now) sight.now grants.now goal.now locality }
 {
     let before = Before::start(memo);
-    choose_from(policy, before, approvals, sight, grants, goal, locality)
+    let memos = Some(memos);
+    choose_from(
+        policy, before, approvals, memos, sight, grants, goal, locality,
+    )
 }
 
-// The same, where `before` is the digest before the policy.
+// The same, where `before` is the digest before the policy, with the digests of the approved documents, where they
+// are kept.
 fn choose_from<'a>(
     policy: &Closed,
     before: Before<'_>,
     approvals: &'a Approvals,
+    memos: Option<&'a [Memo]>,
     sight: &'a Sight,
     grants: &'a Grants,
     goal: &'a Goal,
@@ -71,6 +83,9 @@ fn choose_from<'a>(
 ) -> Option<u32>
     requires start { before.digest ≡ no_digest }
     requires knows { Knows before policy.now.elements }
+    requires memos { IfSome memos (λ memos.
+        AllZip (λ document memo. IsMemo document.closed.elements no_digest memo)
+        approvals.now memos.now) }
     requires few { HaveFewBranches policy.now approvals.now }
     requires within { AreWithinLimits (paths_of policy.now approvals.now) }
     requires sight { IsSight sight.now }
@@ -89,6 +104,7 @@ fn choose_from<'a>(
             hashes: GoalHashes::of(sight, goal),
         },
         approvals: approvals.as_slice(),
+        memos,
         levels: MAX_LEVELS,
     };
     match search_policy(&walk, policy, before) {

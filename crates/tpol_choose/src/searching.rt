@@ -2,6 +2,7 @@
 
 ghost use Rattle.std.specs.Prelude.{◌≡◌, ◌*◌, All, ℕ, length};
 ghost use Rattle.tpol_choose.specs.Ahead.{IsSoundAhead, ways_ahead};
+ghost use Rattle.tpol_choose.specs.Kept.{KnowsApproved};
 ghost use Rattle.tpol_choose.specs.Lent.{client_of_lent};
 ghost use Rattle.tpol_choose.specs.Searches as spec;
 ghost use Rattle.tpol_choose.specs.Tracks.{IsTrack, TrackState, fresh_track};
@@ -23,7 +24,7 @@ use crate::or_digests::OrDigests;
 use crate::or_move::OrMove;
 use crate::track::Track;
 use crate::walk::Walk;
-use tpol_digest::{Before, BeforeBranches, count_ways, zero_digest};
+use tpol_digest::{Before, BeforeBranches, count_ways};
 use tpol_tree::{Closed, ClosedBranches, ClosedElement, ClosedElements};
 
 // How far a search is: at the index, from 0, of a way that can be gone; or past so many ways, counted to
@@ -39,6 +40,7 @@ pub fn search_policy(walk: &Walk<'_>, policy: &Closed, before: Before<'_>) -> Se
     requires branches { HasFewBranches policy.now.elements }
     requires approved { All (λ document. HasFewBranches document.closed.elements)
         walk.now.approvals.now }
+    requires kept { KnowsApproved walk.now }
     requires sight { IsSight walk.now.client.sight.now }
     requires levels { walk.now.levels ≡ 4 }
     requires start { before.digest ≡ no_digest }
@@ -67,6 +69,7 @@ fn search_elements<'a>(
     requires branches { HasFewBranches elements.now }
     requires approved { All (λ document. HasFewBranches document.closed.elements)
         walk.now.approvals.now }
+    requires kept { KnowsApproved walk.now }
     requires sight { IsSight walk.now.client.sight.now }
     requires ahead { IsSoundAhead ahead.now }
     requires knows { Knows before elements.now }
@@ -102,6 +105,7 @@ fn search_element<'a>(
     requires rest { HasFewBranches rest.now }
     requires approved { All (λ document. HasFewBranches document.closed.elements)
         walk.now.approvals.now }
+    requires kept { KnowsApproved walk.now }
     requires sight { IsSight walk.now.client.sight.now }
     requires ahead { IsSoundAhead ahead.now }
     requires knows { KnowsFirst before element.now rest.now }
@@ -156,6 +160,7 @@ fn search_branches<'a>(
     requires branches { BranchesHaveFewBranches branches.now }
     requires approved { All (λ document. HasFewBranches document.closed.elements)
         walk.now.approvals.now }
+    requires kept { KnowsApproved walk.now }
     requires sight { IsSight walk.now.client.sight.now }
     requires ahead { IsSoundAhead ahead.now }
     requires knows { KnowsBranches before branches.now }
@@ -198,6 +203,7 @@ fn search_approvals<'a>(
     requires rest { HasFewBranches rest.now }
     requires approved { All (λ document. HasFewBranches document.closed.elements)
         walk.now.approvals.now }
+    requires kept { KnowsApproved walk.now }
     requires sight { IsSight walk.now.client.sight.now }
     requires ahead { IsSoundAhead ahead.now }
     requires knows { Knows after rest.now }
@@ -227,6 +233,7 @@ fn search_documents<'a>(
     requires rest { HasFewBranches rest.now }
     requires approved { All (λ document. HasFewBranches document.closed.elements)
         walk.now.approvals.now }
+    requires kept { KnowsApproved walk.now }
     requires sight { IsSight walk.now.client.sight.now }
     requires ahead { IsSoundAhead ahead.now }
     requires knows { Knows after rest.now }
@@ -246,7 +253,7 @@ fn search_documents<'a>(
         ..*walk
     };
     let mut so_far = passed;
-    for document in walk.approvals {
+    for (index, document) in walk.approvals.iter().enumerate() {
         if let Some(act) = approval(element, document) {
             let behind = Ahead::After {
                 act,
@@ -257,7 +264,7 @@ fn search_documents<'a>(
                 ahead: &*ahead,
             };
             let elements = &document.closed.elements;
-            let start = Before::without_memo(zero_digest());
+            let start = walk.start_of(index);
             match search_elements(&inner, track, &*elements, start, &behind, so_far) {
                 Search::Found(index) => return Search::Found(index),
                 Search::Passed(more) => so_far = more,
@@ -272,6 +279,7 @@ fn search_documents<'a>(
 fn search_ahead<'a>(walk: &Walk<'_>, track: &Track, ahead: &'a Ahead<'a>, passed: u64) -> Search
     requires approved { All (λ document. HasFewBranches document.closed.elements)
         walk.now.approvals.now }
+    requires kept { KnowsApproved walk.now }
     requires sight { IsSight walk.now.client.sight.now }
     requires ahead { IsSoundAhead ahead.now }
     ensures { (state : TrackState) → IsTrack track.now state

@@ -30,6 +30,7 @@ use tpol_steps::{
     Answer, CompiledDocument, FilledDocument, Halt, Verdict, check_limits, digest_line,
     fill_document,
 };
+use tpol_store::CompiledApprovals;
 use tpol_tree::{Approvals, Closed};
 
 /// The command `gen`: a policy of so many ORs, in an order by the bits of a number, its paths and its digest, and a
@@ -228,7 +229,7 @@ fn generated_scenario(alloc: Global, setup: &Setup, closed: Closed) -> Result<Sc
                 directory,
                 entities: Sequence::new(alloc),
                 begun,
-                approvals: Approvals::new(alloc),
+                approvals: CompiledApprovals::new(alloc),
                 clients: Sequence::new(alloc),
             })
         }

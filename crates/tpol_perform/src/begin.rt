@@ -29,7 +29,8 @@ use tpol_lines::{block_line, chosen_line, labels, nobranch_line};
 use tpol_name::Sight;
 use tpol_prepare::{Scenario, Way};
 use tpol_steps::CompiledDocument;
-use tpol_tree::{Approvals, Path};
+use tpol_store::CompiledApprovals;
+use tpol_tree::Path;
 
 impl Performance {
     /// A run of the policy of this name begins, as the runs of the scene are driven. The call fails only where memory
@@ -146,18 +147,20 @@ impl Performance {
         ensures setup { OnOk result (self.new.setup ≡ self.old.setup) }
     {
         let approvals = &scenario.approvals;
+        let documents = approvals.documents();
         let policy = &document.filled().closed;
         match choose_with_memo(
             policy,
             document.memo(),
-            approvals,
+            documents,
+            approvals.memos(),
             sight,
             &run.grants,
             &run.goal,
             run.locality,
         ) {
             Some(position) => {
-                match path_at_with_memo(alloc, policy, document.memo(), approvals, position) {
+                match path_at_with_memo(alloc, policy, document.memo(), documents, position) {
                     Ok(path) => self.begin_along(alloc, scenario, sight, position, path, run),
                     Err(NoMemory) => {
                         drop(run);
@@ -262,7 +265,7 @@ impl Performance {
     fn begin_blocked(
         &mut self,
         alloc: Global,
-        approvals: &Approvals,
+        approvals: &CompiledApprovals,
         sight: &Sight,
         document: &CompiledDocument,
         run: &NewRun,
@@ -295,7 +298,7 @@ impl Performance {
     fn print_blocks(
         &mut self,
         alloc: Global,
-        approvals: &Approvals,
+        approvals: &CompiledApprovals,
         sight: &Sight,
         document: &CompiledDocument,
         run: &NewRun,
@@ -309,17 +312,19 @@ impl Performance {
         ensures setup { OnOk result (self.new.setup ≡ self.old.setup) }
     {
         let policy = &document.filled().closed;
+        let documents = approvals.documents();
         let blocks = blocks(
             alloc,
             policy,
             document.memo(),
-            approvals,
+            documents,
+            approvals.memos(),
             sight,
             &run.grants,
             &run.goal,
             run.locality,
         )?;
-        match labels(alloc, policy, approvals) {
+        match labels(alloc, policy, documents) {
             Ok(labels) => {
                 let printed = self.print_block_list(alloc, labels.as_slice(), &blocks);
                 drop(labels);

@@ -93,7 +93,7 @@ impl Performance {
         ensures setup { OnOk result (self.new.setup ≡ self.old.setup) }
     {
         let policy = &document.filled().closed;
-        let approvals = &scenario.approvals;
+        let approvals = scenario.approvals.documents();
         let opening = opening_with_memo(alloc, policy, document.memo(), approvals, facts)?;
         let told = self.print_lines(alloc, scenario, event, policy, &opening);
         drop(opening);
@@ -117,10 +117,11 @@ impl Performance {
         ensures past { OnOk result (self.new.past ≡ self.old.past) }
         ensures setup { OnOk result (self.new.setup ≡ self.old.setup) }
     {
-        let line = opening_line(alloc, event, policy, &scenario.approvals, opening)?;
+        let approvals = scenario.approvals.documents();
+        let line = opening_line(alloc, event, policy, approvals, opening)?;
         self.print_bytes(line)?;
         if scenario.manner.certifies() {
-            self.print_certificate(alloc, event, policy, &scenario.approvals, opening)
+            self.print_certificate(alloc, event, policy, approvals, opening)
         } else {
             Ok(())
         }

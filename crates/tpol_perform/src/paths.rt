@@ -21,7 +21,7 @@ pub fn paths_named(alloc: Global, scenario: &Scenario, policy: &str) -> Result<P
 {
     match scenario.document(policy) {
         None => Ok(Sequence::new(alloc)),
-        Some(document) => all_paths(alloc, document, &scenario.approvals),
+        Some(document) => all_paths(alloc, document, scenario.approvals.documents()),
     }
 }
 

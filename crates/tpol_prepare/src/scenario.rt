@@ -34,7 +34,7 @@ use tpol_scene::{Clients, Scene, Script};
 use tpol_steps::{
     CompiledDocument, Halt, check_documents, check_limits, check_tried, load_store, scene_of_bytes,
 };
-use tpol_store::Store;
+use tpol_store::{CompiledApprovals, Store};
 use tpol_tree::{Approvals, Closed};
 
 /// What the events of a scene go by: how it is carried out, the seed and the directory of the machine, the
@@ -47,7 +47,7 @@ pub struct Scenario {
     pub directory: Directory,
     pub entities: Sequence<CompiledEntity>,
     pub begun: Sequence<CompiledDocument>,
-    pub approvals: Approvals,
+    pub approvals: CompiledApprovals,
     pub clients: Clients,
 }
 
@@ -122,7 +122,7 @@ fn stage_scene<H: Shelf>(
 }
 
 // The policies of a scene, filled and within the limits, what is approved, and the directory of the machine.
-type ScenePolicies = (PreparedScene, (Approvals, Directory));
+type ScenePolicies = (PreparedScene, (CompiledApprovals, Directory));
 
 // The policies of a scene, looked up on the shelf.
 fn policies_on_shelf<H: Shelf>(
@@ -182,7 +182,7 @@ fn approve_scene(
     way: Way,
     store: &Store,
     prepared: &PreparedScene,
-) -> Result<(Approvals, Directory), Halt>
+) -> Result<(CompiledApprovals, Directory), Halt>
     requires readable { All IsReadable (stored store.now) }
     requires entities { All IsReadyEntity prepared.now.entities }
     requires begun { All IsReadyDocument prepared.now.begun }
@@ -200,8 +200,8 @@ fn approve_scene(
     ensures few { way ≡ Blind
         → IfOk result (λ found. All (HasFewPaths found.0) prepared.now.begun) }
 {
-    let approvals = store.approvals(alloc, Some(&prepared.sight))?;
-    let directory = check_scene(alloc, way, prepared, &approvals)?;
+    let approvals = store.compiled_approvals(alloc, Some(&prepared.sight))?;
+    let directory = check_scene(alloc, way, prepared, approvals.documents())?;
     Ok((approvals, directory))
 }
 

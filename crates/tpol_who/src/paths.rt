@@ -20,13 +20,13 @@ use tpol_lines::{Lines, labels, push_bytes};
 use tpol_name::Sight;
 use tpol_perform::NewRun;
 use tpol_steps::CompiledDocument;
-use tpol_tree::Approvals;
+use tpol_store::CompiledApprovals;
 
 /// Adds a line for each path of a policy, in order, with what the machine shows. It fails only where memory ran out.
 pub fn push_paths(
     alloc: Global,
     document: &CompiledDocument,
-    approvals: &Approvals,
+    approvals: &CompiledApprovals,
     sight: &Sight,
     run: &NewRun,
     lines: &mut Lines,
@@ -38,17 +38,19 @@ pub fn push_paths(
         (paths_of document.now.closed approvals.now)) }
 {
     let policy = &document.filled().closed;
+    let documents = approvals.documents();
     let blocks = blocks(
         alloc,
         policy,
         document.memo(),
-        approvals,
+        documents,
+        approvals.memos(),
         sight,
         &run.grants,
         &run.goal,
         run.locality,
     )?;
-    match labels(alloc, policy, approvals) {
+    match labels(alloc, policy, documents) {
         Ok(labels) => {
             let pushed = push_list(alloc, labels.as_slice(), &blocks, lines);
             drop(labels);

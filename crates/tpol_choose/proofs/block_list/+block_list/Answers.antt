@@ -1,6 +1,7 @@
 use Rattle.std.proofs.Common.{◌≡◌, ◌≢◌, ◌+◌, ◌*◌, ◌<◌, ◌++◌, length, map, subst, sym, ap, ◌∙◌, refl, inl, inr, arith}
 use Rattle.std.proofs.lemmas.List.{append-nil, append_assoc}
 use Rattle.std.proofs.lemmas.Result.{on_ok_weaker}
+use Rattle.std.proofs.lemmas.Option.{slice_get_read}
 use Rattle.tpol_tree.specs.declared.closed.ClosedBranch.{ClosedBranch}
 use Rattle.tpol_tree.specs.declared.closed.ClosedElement.TheVariants as closed
 use Rattle.tpol_tree.specs.declared.path.Move.TheVariants.{Assert, Or}
@@ -166,8 +167,8 @@ push_documents-returns-then-walk-eq0 t c = λ state h.
     let blocks = c.args.found.now.items in
     sym (ap (λ w. blocks ++ blocks_of client behind state w) (ap (λ n. approved_paths (document_paths documents n) documents element) c.if-walk-eq0.true ∙ approved_none documents documents element) ∙ append-nil blocks)
 
-pub push_documents-loop-document-init : goal.push_documents-loop-document-init
-push_documents-loop-document-init t c = λ state h. refl
+pub push_documents-loop-index-init : goal.push_documents-loop-index-init
+push_documents-loop-index-init t c = λ state h. refl
 
 pub push_documents-returns : goal.push_documents-returns
 push_documents-returns t c = λ state h.
@@ -175,9 +176,9 @@ push_documents-returns t c = λ state h.
     let documents = c.args.walk.now.approvals.now in
     let levels = c.args.walk.now.levels in
     let behind = blocks_rest client documents levels c.args.rest.now c.args.after.digest c.args.ahead.now in
-    sym (c.loop-document.invariant state h
-    ∙ ap (λ w. c.loop-document.found.items ++ blocks_of client behind state w) (none_left documents levels c.args.element.now c.loop-document.document-index (omega (arith, c.loop-document-test.false)))
-    ∙ append-nil c.loop-document.found.items)
+    sym (c.loop-index.invariant state h
+    ∙ ap (λ w. c.loop-index.found.items ++ blocks_of client behind state w) (none_left documents levels c.args.element.now c.loop-index.index (omega (arith, c.loop-index-test.false)))
+    ∙ append-nil c.loop-index.found.items)
 
 -- ---- what comes behind
 
@@ -196,7 +197,7 @@ push_ahead-returns-in-After t c =
 pub push_elements-push_ahead-requires : goal.push_elements-push_ahead-requires
 push_elements-push_ahead-requires t c =
     let some = share_some c.args.walk.now.approvals.now c.args.walk.now.levels in
-    (omega (arith, rw c.in-End.is at c.decreases, some), (c.requires.approved, (c.requires.sight, c.requires.ahead)))
+    (omega (arith, rw c.in-End.is at c.decreases, some), (c.requires.approved, (c.requires.kept, (c.requires.sight, c.requires.ahead))))
 
 pub push_elements-push_element-requires : goal.push_elements-push_element-requires
 push_elements-push_element-requires t c =
@@ -211,7 +212,7 @@ push_elements-push_element-requires t c =
         subst ElementHasFewBranches (sym c.deref.ensures) counts.0,
         (
           subst HasFewBranches (sym c.deref-in-More.ensures) counts.1,
-          (c.requires.approved, (c.requires.sight, (c.requires.ahead, knows))),
+          (c.requires.approved, (c.requires.kept, (c.requires.sight, (c.requires.ahead, knows)))),
         ),
       ),
     )
@@ -219,7 +220,7 @@ push_elements-push_element-requires t c =
 pub push_element-push_elements-requires : goal.push_element-push_elements-requires
 push_element-push_elements-requires t c =
     let some = share_some c.args.walk.now.approvals.now c.args.walk.now.levels in
-    (omega (arith, rw c.in-Assert.is at c.decreases, some), (c.requires.rest, (c.requires.approved, (c.requires.sight, (c.requires.ahead, c.behind-after.ensures.knows)))))
+    (omega (arith, rw c.in-Assert.is at c.decreases, some), (c.requires.rest, (c.requires.approved, (c.requires.kept, (c.requires.sight, (c.requires.ahead, c.behind-after.ensures.knows))))))
 
 pub push_element-push_branches-requires : goal.push_element-push_branches-requires
 push_element-push_branches-requires t c =
@@ -228,7 +229,7 @@ push_element-push_branches-requires t c =
     let lead = c.of-lead.result in
     let lighter = lead_lighter (share c.args.walk.now.approvals.now c.args.walk.now.levels) lead.first c.args.rest.now c.behind-after-in-Or.result.digest lead.rest.now lead.before.digest c.of-lead.ensures.lead in
     let few = lead_few lead.first c.args.rest.now c.behind-after-in-Or.result.digest lead.rest.now lead.before.digest c.of-lead.ensures.lead c.requires.rest in
-    (omega (arith, rw c.in-Or.is at c.decreases, some, lighter), (counts.1, (c.requires.approved, (c.requires.sight, ((few, (c.of-lead.ensures.knows, c.requires.ahead)), c.within-inner.ensures.knows)))))
+    (omega (arith, rw c.in-Or.is at c.decreases, some, lighter), (counts.1, (c.requires.approved, (c.requires.kept, (c.requires.sight, ((few, (c.of-lead.ensures.knows, c.requires.ahead)), c.within-inner.ensures.knows))))))
 
 pub push_element-push_approvals-requires : goal.push_element-push_approvals-requires
 push_element-push_approvals-requires t c =
@@ -238,14 +239,14 @@ push_element-push_approvals-requires t c =
         omega (arith, rw p.2 at c.decreases, some),
         (
           subst (λ e. length (outside_paths e) ≡ 1) (sym p.2) refl,
-          (c.requires.rest, (c.requires.approved, (c.requires.sight, (c.requires.ahead, c.behind-after-in-Authorize.ensures.knows)))),
+          (c.requires.rest, (c.requires.approved, (c.requires.kept, (c.requires.sight, (c.requires.ahead, c.behind-after-in-Authorize.ensures.knows))))),
         ),
       )
       | inr q ↦ (
         omega (arith, rw q.1 at c.decreases, some),
         (
           subst (λ e. length (outside_paths e) ≡ 1) (sym q.1) refl,
-          (c.requires.rest, (c.requires.approved, (c.requires.sight, (c.requires.ahead, c.behind-after-in-Authorize.ensures.knows)))),
+          (c.requires.rest, (c.requires.approved, (c.requires.kept, (c.requires.sight, (c.requires.ahead, c.behind-after-in-Authorize.ensures.knows))))),
         ),
       )
     ]
@@ -259,7 +260,7 @@ push_branches-push_elements-requires t c =
       omega (arith, rw c.in-More.is at c.decreases, same, some),
       (
         subst (λ (b : ClosedBranch). HasFewBranches b.policy.elements) (sym c.deref.ensures) counts.0,
-        (c.requires.approved, (c.requires.sight, (c.requires.ahead, c.first-first.ensures.knows))),
+        (c.requires.approved, (c.requires.kept, (c.requires.sight, (c.requires.ahead, c.first-first.ensures.knows)))),
       ),
     )
 
@@ -272,58 +273,58 @@ push_branches-push_branches-requires t c =
       omega (arith, rw c.in-More.is at c.decreases, same, some),
       (
         subst BranchesHaveFewBranches (sym c.deref-rest.ensures) counts.1,
-        (c.requires.approved, (c.requires.sight, (c.requires.ahead, c.behind-others.ensures.knows))),
+        (c.requires.approved, (c.requires.kept, (c.requires.sight, (c.requires.ahead, c.behind-others.ensures.knows)))),
       ),
     )
 
 pub push_approvals-push_documents-requires : goal.push_approvals-push_documents-requires
 push_approvals-push_documents-requires t c =
     let some = share_some c.args.walk.now.approvals.now c.args.walk.now.levels in
-    (omega (arith, c.decreases, some), (c.requires.rest, (c.requires.approved, (c.requires.sight, (c.requires.ahead, c.requires.knows)))))
+    (omega (arith, c.decreases, some), (c.requires.rest, (c.requires.approved, (c.requires.kept, (c.requires.sight, (c.requires.ahead, c.requires.knows))))))
 
 pub push_documents-push_elements-requires : goal.push_documents-push_elements-requires
 push_documents-push_elements-requires t c =
     let documents = c.args.walk.now.approvals.now in
     let levels = c.args.walk.now.levels in
     let document = c.document-item.result in
-    let i = c.loop-document.document-index in
-    let light = weight-lt-greatest documents i document c.loop-document-test.true in
+    let i = c.loop-index.index in
+    let light = weight-lt-greatest documents i document c.loop-index-test.true in
     let lighter : weight document.closed.elements < greatest documents = subst (λ x. weight x.closed.elements < greatest documents) (sym c.document-item.is) light in
     let less = entered_lighter documents levels (weight document.closed.elements) (omega (arith, c.if-walk-eq0.false)) lighter in (
       omega (arith, less, c.decreases),
       (
-        subst (λ x. HasFewBranches x.closed.elements) (sym c.document-item.is) (c.requires.approved i document c.loop-document-test.true),
-        (c.requires.approved, (c.requires.sight, ((c.requires.rest, (c.requires.knows, c.requires.ahead)), c.without_memo-start.ensures.knows document.closed.elements))),
+        subst (λ x. HasFewBranches x.closed.elements) (sym c.document-item.is) (c.requires.approved i document c.loop-index-test.true),
+        (c.requires.approved, (c.requires.kept, (c.requires.sight, ((c.requires.rest, (c.requires.knows, c.requires.ahead)), c.start_of-start.ensures.knows document (slice_get_read documents (length documents) i document refl c.loop-index-test.true c.document-item.is))))),
       ),
     )
 
 pub push_ahead-push_elements-requires : goal.push_ahead-push_elements-requires
 push_ahead-push_elements-requires t c =
     let counts = rw c.in-After.is at c.requires.ahead in
-    (omega (arith, rw c.in-After.is at c.decreases), (counts.0, (c.requires.approved, (c.requires.sight, (counts.1.1, counts.1.0)))))
+    (omega (arith, rw c.in-After.is at c.decreases), (counts.0, (c.requires.approved, (c.requires.kept, (c.requires.sight, (counts.1.1, counts.1.0))))))
 
 pub push_approvals-push_elements-requires : goal.push_approvals-push_elements-requires
 push_approvals-push_elements-requires t c =
     let some = share_some c.args.walk.now.approvals.now c.args.walk.now.levels in
-    (omega (arith, c.decreases, some), (c.requires.rest, (c.requires.approved, (c.requires.sight, (c.requires.ahead, c.requires.knows)))))
+    (omega (arith, c.decreases, some), (c.requires.rest, (c.requires.approved, (c.requires.kept, (c.requires.sight, (c.requires.ahead, c.requires.knows))))))
 
-pub push_documents-loop-document-preserved : goal.push_documents-loop-document-preserved
-push_documents-loop-document-preserved t c =
+pub push_documents-loop-index-preserved : goal.push_documents-loop-index-preserved
+push_documents-loop-index-preserved t c =
     let client = client_of_lent c.args.walk.now.client in
     let documents = c.args.walk.now.approvals.now in
     let levels = c.args.walk.now.levels in
     let element = c.args.element.now in
     let behind = blocks_rest client documents levels c.args.rest.now c.args.after.digest c.args.ahead.now in
     let document = c.document-item.result in
-    let i = c.loop-document.document-index in
-    let blocks = c.loop-document.found.items in
+    let i = c.loop-index.index in
+    let blocks = c.loop-index.found.items in
     let level : levels ≢ 0 = c.if-walk-eq0.false in
-    let next = next_left documents levels element i document c.loop-document-test.true c.document-item.is in
+    let next = next_left documents levels element i document c.loop-index-test.true c.document-item.is in
     elim c.match-approval.branch [
       | push_documents-in-Some+in_ok-push_elements w ↦ λ state h.
           let others = blocks_of client behind state (left documents levels element (i + 1)) in
-          let inner = blocks_entered client behind documents levels element document (move_of w.in-Some.act) w.without_memo-start.result.digest state level w.in-Some.ensures (w.without_memo-start.ensures.digest ∙ w.zero_digest.ensures) in
-          c.loop-document.invariant state h
+          let inner = blocks_entered client behind documents levels element document (move_of w.in-Some.act) w.start_of-start.result.digest state level w.in-Some.ensures w.start_of-start.ensures.digest in
+          c.loop-index.invariant state h
           ∙ ap (λ v. blocks ++ blocks_of client behind state v) next
           ∙ ap (λ l. blocks ++ l) (blocks_append client behind state (part documents levels element document) (left documents levels element (i + 1)))
           ∙ sym (append_assoc blocks (blocks_of client behind state (part documents levels element document)) others)
@@ -331,7 +332,7 @@ push_documents-loop-document-preserved t c =
           ∙ ap (λ v. v.items ++ others) (sym w.found-is)
       | push_documents-in_default w ↦ λ state h.
           let others = blocks_of client behind state (left documents levels element (i + 1)) in
-          c.loop-document.invariant state h
+          c.loop-index.invariant state h
           ∙ ap (λ v. blocks ++ blocks_of client behind state v) next
           ∙ ap (λ o. blocks ++ blocks_of client behind state (paths_by_approval o document (document_paths documents levels document) ++ left documents levels element (i + 1))) (sym w.in_default.ensures)
           ∙ ap (λ v. v.items ++ others) (sym w.found-is)

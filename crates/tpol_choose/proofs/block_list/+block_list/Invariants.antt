@@ -31,10 +31,10 @@ abbrev pub decreases-push_ahead : goal.decreases-push_ahead
 decreases-push_ahead l = load l.walk.now.approvals.now l.ahead.now
 
 -- the blocks of all documents are those so far, and those of the documents that are left
-abbrev pub invariant-push_documents-loop-document : goal.invariant-push_documents-loop-document
-invariant-push_documents-loop-document l =
+abbrev pub invariant-push_documents-loop-index : goal.invariant-push_documents-loop-index
+invariant-push_documents-loop-index l =
     let documents = l.walk.approvals.now in
     let levels = l.walk.levels in
     let client = client_of_lent l.walk.client in
     let behind = blocks_rest client documents levels l.rest l.after.digest l.ahead in
-    (state : TrackState) → IsTrack l.track state → l.initial.found.items ++ blocks_of client behind state (approved_paths (document_paths documents levels) documents l.element) ≡ l.found.items ++ blocks_of client behind state (approved_paths (document_paths documents levels) (drop l.document-index documents) l.element)
+    (state : TrackState) → IsTrack l.track state → l.initial.found.items ++ blocks_of client behind state (approved_paths (document_paths documents levels) documents l.element) ≡ l.found.items ++ blocks_of client behind state (approved_paths (document_paths documents levels) (drop l.index documents) l.element)

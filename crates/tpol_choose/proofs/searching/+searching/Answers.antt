@@ -1,4 +1,5 @@
 use Rattle.std.proofs.Common.{◌≡◌, ◌≢◌, ℕ, ◌+◌, ◌*◌, ◌<◌, ◌++◌, length, map, subst, sym, ap, ◌∙◌, refl, inl, inr, arith}
+use Rattle.std.proofs.lemmas.Option.{slice_get_read}
 use Rattle.tpol_tree.specs.declared.closed.ClosedBranch.{ClosedBranch}
 use Rattle.tpol_tree.specs.declared.closed.ClosedElement.TheVariants as closed
 use Rattle.tpol_tree.specs.declared.path.Move.TheVariants.{Assert, Or}
@@ -192,8 +193,8 @@ search_documents-returns-then-walk-eq0 t c = λ state h.
     let behind = search_rest client documents c.args.walk.now.levels c.args.rest.now c.args.after.digest c.args.ahead.now in
     sym (ap (search_ways client behind state c.args.passed) (ap (λ n. approved_paths (document_paths documents n) documents element) c.if-walk-eq0.true ∙ approved_none documents documents element))
 
-pub search_documents-loop-document-init : goal.search_documents-loop-document-init
-search_documents-loop-document-init t c = λ state h. refl
+pub search_documents-loop-index-init : goal.search_documents-loop-index-init
+search_documents-loop-index-init t c = λ state h. refl
 
 pub search_documents-returns-in-Found : goal.search_documents-returns-in-Found
 search_documents-returns-in-Found t c = λ state h.
@@ -203,35 +204,35 @@ search_documents-returns-in-Found t c = λ state h.
     let element = c.args.element.now in
     let behind = search_rest client documents levels c.args.rest.now c.args.after.digest c.args.ahead.now in
     let document = c.document-item.result in
-    let i = c.loop-document.document-index in
-    let so_far = c.loop-document.so_far in
+    let i = c.loop-index.index in
+    let so_far = c.loop-index.so_far in
     let level : levels ≢ 0 = c.if-walk-eq0.false in
-    let inner = entered client behind documents levels element document (move_of c.in-Some.act) c.without_memo-start.result.digest state so_far c.search_elements.result level c.in-Some.ensures (c.without_memo-start.ensures.digest ∙ c.zero_digest.ensures) (c.search_elements.ensures state h) in
-    sym (c.loop-document.invariant state h
-    ∙ ap (search_ways client behind state so_far) (next_left documents levels element i document c.loop-document-test.true c.document-item.is)
+    let inner = entered client behind documents levels element document (move_of c.in-Some.act) c.start_of-start.result.digest state so_far c.search_elements.result level c.in-Some.ensures c.start_of-start.ensures.digest (c.search_elements.ensures state h) in
+    sym (c.loop-index.invariant state h
+    ∙ ap (search_ways client behind state so_far) (next_left documents levels element i document c.loop-index-test.true c.document-item.is)
     ∙ found_first client behind state so_far c.in-Found.index (part documents levels element document) (left documents levels element (i + 1)) (inner ∙ c.in-Found.is))
 
-pub search_documents-loop-document-preserved : goal.search_documents-loop-document-preserved
-search_documents-loop-document-preserved t c =
+pub search_documents-loop-index-preserved : goal.search_documents-loop-index-preserved
+search_documents-loop-index-preserved t c =
     let client = client_of_lent c.args.walk.now.client in
     let documents = c.args.walk.now.approvals.now in
     let levels = c.args.walk.now.levels in
     let element = c.args.element.now in
     let behind = search_rest client documents levels c.args.rest.now c.args.after.digest c.args.ahead.now in
     let document = c.document-item.result in
-    let i = c.loop-document.document-index in
-    let so_far = c.loop-document.so_far in
+    let i = c.loop-index.index in
+    let so_far = c.loop-index.so_far in
     let level : levels ≢ 0 = c.if-walk-eq0.false in
-    let next = next_left documents levels element i document c.loop-document-test.true c.document-item.is in
+    let next = next_left documents levels element i document c.loop-index-test.true c.document-item.is in
     elim c.match-approval.branch [
       | search_documents-in-Some+in-Passed w ↦ λ state h.
-          let inner = entered client behind documents levels element document (move_of w.in-Some.act) w.without_memo-start.result.digest state so_far w.search_elements.result level w.in-Some.ensures (w.without_memo-start.ensures.digest ∙ w.zero_digest.ensures) (w.search_elements.ensures state h) in
-          c.loop-document.invariant state h
+          let inner = entered client behind documents levels element document (move_of w.in-Some.act) w.start_of-start.result.digest state so_far w.search_elements.result level w.in-Some.ensures w.start_of-start.ensures.digest (w.search_elements.ensures state h) in
+          c.loop-index.invariant state h
           ∙ ap (search_ways client behind state so_far) next
           ∙ passed_first client behind state so_far w.in-Passed.more (part documents levels element document) (left documents levels element (i + 1)) (inner ∙ w.in-Passed.is)
           ∙ ap (λ n. search_ways client behind state n (left documents levels element (i + 1))) (sym w.so_far-is)
       | search_documents-in_default w ↦ λ state h.
-          c.loop-document.invariant state h
+          c.loop-index.invariant state h
           ∙ ap (search_ways client behind state so_far) next
           ∙ ap (λ o. search_ways client behind state so_far (paths_by_approval o document (document_paths documents levels document) ++ left documents levels element (i + 1))) (sym w.in_default.ensures)
           ∙ ap (λ n. search_ways client behind state n (left documents levels element (i + 1))) (sym w.so_far-is)
@@ -243,8 +244,8 @@ search_documents-returns t c = λ state h.
     let documents = c.args.walk.now.approvals.now in
     let levels = c.args.walk.now.levels in
     let behind = search_rest client documents levels c.args.rest.now c.args.after.digest c.args.ahead.now in
-    sym (c.loop-document.invariant state h
-    ∙ ap (search_ways client behind state c.loop-document.so_far) (none_left documents levels c.args.element.now c.loop-document.document-index (omega (arith, c.loop-document-test.false))))
+    sym (c.loop-index.invariant state h
+    ∙ ap (search_ways client behind state c.loop-index.so_far) (none_left documents levels c.args.element.now c.loop-index.index (omega (arith, c.loop-index-test.false))))
 
 -- ---- what comes behind
 
@@ -263,7 +264,7 @@ search_ahead-returns-in-After t c =
 pub search_elements-search_ahead-requires : goal.search_elements-search_ahead-requires
 search_elements-search_ahead-requires t c =
     let some = share_some c.args.walk.now.approvals.now c.args.walk.now.levels in
-    (omega (arith, rw c.in-End.is at c.decreases, some), (c.requires.approved, (c.requires.sight, c.requires.ahead)))
+    (omega (arith, rw c.in-End.is at c.decreases, some), (c.requires.approved, (c.requires.kept, (c.requires.sight, c.requires.ahead))))
 
 pub search_elements-search_element-requires : goal.search_elements-search_element-requires
 search_elements-search_element-requires t c =
@@ -278,7 +279,7 @@ search_elements-search_element-requires t c =
         subst ElementHasFewBranches (sym c.deref.ensures) counts.0,
         (
           subst HasFewBranches (sym c.deref-in-More.ensures) counts.1,
-          (c.requires.approved, (c.requires.sight, (c.requires.ahead, knows))),
+          (c.requires.approved, (c.requires.kept, (c.requires.sight, (c.requires.ahead, knows)))),
         ),
       ),
     )
@@ -286,7 +287,7 @@ search_elements-search_element-requires t c =
 pub search_element-search_elements-requires : goal.search_element-search_elements-requires
 search_element-search_elements-requires t c =
     let some = share_some c.args.walk.now.approvals.now c.args.walk.now.levels in
-    (omega (arith, rw c.in-Assert.is at c.decreases, some), (c.requires.rest, (c.requires.approved, (c.requires.sight, (c.requires.ahead, c.behind-after.ensures.knows)))))
+    (omega (arith, rw c.in-Assert.is at c.decreases, some), (c.requires.rest, (c.requires.approved, (c.requires.kept, (c.requires.sight, (c.requires.ahead, c.behind-after.ensures.knows))))))
 
 pub search_element-search_branches-requires : goal.search_element-search_branches-requires
 search_element-search_branches-requires t c =
@@ -295,7 +296,7 @@ search_element-search_branches-requires t c =
     let lead = c.of-lead.result in
     let lighter = lead_lighter (share c.args.walk.now.approvals.now c.args.walk.now.levels) lead.first c.args.rest.now c.behind-after-in-Or.result.digest lead.rest.now lead.before.digest c.of-lead.ensures.lead in
     let few = lead_few lead.first c.args.rest.now c.behind-after-in-Or.result.digest lead.rest.now lead.before.digest c.of-lead.ensures.lead c.requires.rest in
-    (omega (arith, rw c.in-Or.is at c.decreases, some, lighter), (counts.1, (c.requires.approved, (c.requires.sight, ((few, (c.of-lead.ensures.knows, c.requires.ahead)), c.within-inner.ensures.knows)))))
+    (omega (arith, rw c.in-Or.is at c.decreases, some, lighter), (counts.1, (c.requires.approved, (c.requires.kept, (c.requires.sight, ((few, (c.of-lead.ensures.knows, c.requires.ahead)), c.within-inner.ensures.knows))))))
 
 pub search_element-search_approvals-requires : goal.search_element-search_approvals-requires
 search_element-search_approvals-requires t c =
@@ -305,14 +306,14 @@ search_element-search_approvals-requires t c =
         omega (arith, rw p.2 at c.decreases, some),
         (
           subst (λ e. length (outside_paths e) ≡ 1) (sym p.2) refl,
-          (c.requires.rest, (c.requires.approved, (c.requires.sight, (c.requires.ahead, c.behind-after-in-Authorize.ensures.knows)))),
+          (c.requires.rest, (c.requires.approved, (c.requires.kept, (c.requires.sight, (c.requires.ahead, c.behind-after-in-Authorize.ensures.knows))))),
         ),
       )
       | inr q ↦ (
         omega (arith, rw q.1 at c.decreases, some),
         (
           subst (λ e. length (outside_paths e) ≡ 1) (sym q.1) refl,
-          (c.requires.rest, (c.requires.approved, (c.requires.sight, (c.requires.ahead, c.behind-after-in-Authorize.ensures.knows)))),
+          (c.requires.rest, (c.requires.approved, (c.requires.kept, (c.requires.sight, (c.requires.ahead, c.behind-after-in-Authorize.ensures.knows))))),
         ),
       )
     ]
@@ -326,7 +327,7 @@ search_branches-search_elements-requires t c =
       omega (arith, rw c.in-More.is at c.decreases, same, some),
       (
         subst (λ (b : ClosedBranch). HasFewBranches b.policy.elements) (sym c.deref.ensures) counts.0,
-        (c.requires.approved, (c.requires.sight, (c.requires.ahead, c.first-first.ensures.knows))),
+        (c.requires.approved, (c.requires.kept, (c.requires.sight, (c.requires.ahead, c.first-first.ensures.knows)))),
       ),
     )
 
@@ -339,32 +340,32 @@ search_branches-search_branches-requires t c =
       omega (arith, rw c.in-More.is at c.decreases, same, some),
       (
         subst BranchesHaveFewBranches (sym c.deref-rest.ensures) counts.1,
-        (c.requires.approved, (c.requires.sight, (c.requires.ahead, c.behind-others.ensures.knows))),
+        (c.requires.approved, (c.requires.kept, (c.requires.sight, (c.requires.ahead, c.behind-others.ensures.knows)))),
       ),
     )
 
 pub search_approvals-search_documents-requires : goal.search_approvals-search_documents-requires
 search_approvals-search_documents-requires t c =
     let some = share_some c.args.walk.now.approvals.now c.args.walk.now.levels in
-    (omega (arith, c.decreases, some), (c.requires.rest, (c.requires.approved, (c.requires.sight, (c.requires.ahead, c.requires.knows)))))
+    (omega (arith, c.decreases, some), (c.requires.rest, (c.requires.approved, (c.requires.kept, (c.requires.sight, (c.requires.ahead, c.requires.knows))))))
 
 pub search_documents-search_elements-requires : goal.search_documents-search_elements-requires
 search_documents-search_elements-requires t c =
     let documents = c.args.walk.now.approvals.now in
     let levels = c.args.walk.now.levels in
     let document = c.document-item.result in
-    let i = c.loop-document.document-index in
-    let light = weight-lt-greatest documents i document c.loop-document-test.true in
+    let i = c.loop-index.index in
+    let light = weight-lt-greatest documents i document c.loop-index-test.true in
     let lighter : weight document.closed.elements < greatest documents = subst (λ x. weight x.closed.elements < greatest documents) (sym c.document-item.is) light in
     let less = entered_lighter documents levels (weight document.closed.elements) (omega (arith, c.if-walk-eq0.false)) lighter in (
       omega (arith, less, c.decreases),
       (
-        subst (λ x. HasFewBranches x.closed.elements) (sym c.document-item.is) (c.requires.approved i document c.loop-document-test.true),
-        (c.requires.approved, (c.requires.sight, ((c.requires.rest, (c.requires.knows, c.requires.ahead)), c.without_memo-start.ensures.knows document.closed.elements))),
+        subst (λ x. HasFewBranches x.closed.elements) (sym c.document-item.is) (c.requires.approved i document c.loop-index-test.true),
+        (c.requires.approved, (c.requires.kept, (c.requires.sight, ((c.requires.rest, (c.requires.knows, c.requires.ahead)), c.start_of-start.ensures.knows document (slice_get_read documents (length documents) i document refl c.loop-index-test.true c.document-item.is))))),
       ),
     )
 
 pub search_ahead-search_elements-requires : goal.search_ahead-search_elements-requires
 search_ahead-search_elements-requires t c =
     let counts = rw c.in-After.is at c.requires.ahead in
-    (omega (arith, rw c.in-After.is at c.decreases), (counts.0, (c.requires.approved, (c.requires.sight, (counts.1.1, counts.1.0)))))
+    (omega (arith, rw c.in-After.is at c.decreases), (counts.0, (c.requires.approved, (c.requires.kept, (c.requires.sight, (counts.1.1, counts.1.0))))))

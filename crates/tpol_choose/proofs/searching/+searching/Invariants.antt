@@ -31,10 +31,10 @@ abbrev pub decreases-search_ahead : goal.decreases-search_ahead
 decreases-search_ahead l = load l.walk.now.approvals.now l.ahead.now
 
 -- what is looked for among all documents is looked for among those that are left
-abbrev pub invariant-search_documents-loop-document : goal.invariant-search_documents-loop-document
-invariant-search_documents-loop-document l =
+abbrev pub invariant-search_documents-loop-index : goal.invariant-search_documents-loop-index
+invariant-search_documents-loop-index l =
     let documents = l.walk.approvals.now in
     let levels = l.walk.levels in
     let client = client_of_lent l.walk.client in
     let behind = search_rest client documents levels l.rest l.after.digest l.ahead in
-    (state : TrackState) → IsTrack l.track state → search_ways client behind state l.fn.passed (approved_paths (document_paths documents levels) documents l.element) ≡ search_ways client behind state l.so_far (approved_paths (document_paths documents levels) (drop l.document-index documents) l.element)
+    (state : TrackState) → IsTrack l.track state → search_ways client behind state l.fn.passed (approved_paths (document_paths documents levels) documents l.element) ≡ search_ways client behind state l.so_far (approved_paths (document_paths documents levels) (drop l.index documents) l.element)
