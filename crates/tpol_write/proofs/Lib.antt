@@ -1,3 +1,9 @@
+mod Numbers
+mod Steps
+mod Reading
+mod RowTokens
+mod DocumentTokens
+mod Printed
 mod Depths
 pub mod Floats
 mod ReadBack

@@ -1,5 +1,6 @@
 pub mod Approvals
 pub mod Canonical
+pub mod Drafts
 pub mod Elements
 pub mod Laws
 pub mod Levels

@@ -2,11 +2,12 @@
 //! shelf keeps it, and people review and compare it.
 #![tactic(auto)]
 
+mod draft;
 mod elements;
 mod laws;
 mod lists;
+mod members;
 mod names;
-mod object;
 mod policy;
 mod publics;
 mod rows;

@@ -1,20 +1,20 @@
 //! Policies and their authorizations.
 
 ghost use Rattle.std.specs.Prelude.{◌≡◌, ◌≤◌, Some, IfOk, OnOk, map};
-ghost use Rattle.serde_json.specs.View.{view, members_view};
 ghost use Rattle.tpol_json.specs.Document.{document_of};
 ghost use Rattle.tpol_tree.specs.declared.wishes.ApprovalWish.TheVariants.{ByKey, ByIndex};
 ghost use Rattle.tpol_write.specs.Approvals.{approval_value, approvals_members};
 ghost use Rattle.tpol_write.specs.Canonical.{canonical_text, policy_value};
+ghost use Rattle.tpol_write.specs.Drafts.{Adds, AllMembersRead, members_tokens, Reads, tokens_of};
 ghost use Rattle.tpol_write.specs.Laws.{StandsAlone};
 ghost use Rattle.tpol_write.specs.Levels.{levels_of_elements};
-ghost use Rattle.tpol_write.specs.Objects.{list_of, with_members};
+ghost use Rattle.tpol_write.specs.Objects.{list_of};
 
-use crate::elements::push_elements;
-use crate::object::{Object, put_hex, put_text};
-use crate::rows::typed;
+use crate::draft::Draft;
+use crate::elements::write_elements;
+use crate::members::{put_bytes, put_digest, put_text};
+use crate::rows::end_typed;
 use crate::wishes::{put_index, put_key};
-use serde_json::Value;
 use std::alloc::Global;
 use tpol_base::{Blob, Digest32, NoMemory};
 use tpol_tree::{ApprovalWish, IndexWish, KeyWish, Policy};
@@ -31,86 +31,98 @@ pub fn write_policy(alloc: Global, policy: &Policy) -> Result<Blob, NoMemory>
     // It reads back: it stands for the policy without a note, if any document stands for the policy.
     ensures stands { IfOk result (λ text. StandsAlone text policy.now) }
 {
-    let text = policy_value(alloc, policy)?.to_string(alloc)?;
-    Blob::from_slice(alloc, text.as_str().as_bytes())
+    let mut draft = Draft::new(alloc)?;
+    write_document(&mut draft, alloc, policy)?;
+    Ok(draft.into_blob())
 }
 
 #[tactic(auto, unfolding(crate::specs::Canonical::policy_value))]
-fn policy_value(alloc: Global, policy: &Policy) -> Result<Value, NoMemory>
-    ensures { IfOk result (λ value. view value ≡ policy_value policy.now) }
+fn write_document(draft: &mut Draft, alloc: Global, policy: &Policy) -> Result<(), NoMemory>
+    ensures tokens { OnOk result (Adds draft.old draft.new (tokens_of (policy_value policy.now))) }
+    ensures reads { OnOk result (Reads (policy_value policy.now)) }
 {
-    let mut list = Vec::new(alloc);
-    push_elements(alloc, &policy.elements, &mut list)?;
-    let mut object = Object::new(alloc);
-    put_text(
-        &mut object,
-        alloc,
-        "description",
-        policy.description.as_str(),
-    )?;
-    serde_json::put(&mut object, alloc, "policy", Value::Array(list))?;
-    put_approvals(&mut object, alloc, policy.approvals.as_slice())?;
-    Ok(Value::Object(object))
+    draft.begin_object()?;
+    put_text(draft, "description", &policy.description)?;
+    draft.name("policy")?;
+    draft.begin_list()?;
+    write_elements(draft, alloc, &policy.elements)?;
+    draft.end_list()?;
+    put_approvals(draft, alloc, policy.approvals.as_slice())?;
+    draft.end_object()
 }
 
 fn put_approvals(
-    object: &mut Object,
+    draft: &mut Draft,
     alloc: Global,
     approvals: &[ApprovalWish],
 ) -> Result<(), NoMemory>
-    ensures { OnOk result (members_view object.new.entries
-        ≡ with_members (approvals_members approvals.now) (members_view object.old.entries)) }
+    ensures tokens { OnOk result
+        (Adds draft.old draft.new (members_tokens (approvals_members approvals.now))) }
+    ensures reads { OnOk result (AllMembersRead (approvals_members approvals.now)) }
 {
     if approvals.is_empty() {
         return Ok(());
     }
-    let list = approval_list(alloc, approvals)?;
-    Ok(serde_json::put(object, alloc, "policyAuthorizations", list)?)
+    draft.name("policyAuthorizations")?;
+    write_approvals(draft, alloc, approvals)
 }
 
-fn approval_list(alloc: Global, approvals: &[ApprovalWish]) -> Result<Value, NoMemory>
-    ensures { IfOk result (λ value. view value ≡ list_of (map approval_value approvals.now)) }
+fn write_approvals(
+    draft: &mut Draft,
+    alloc: Global,
+    approvals: &[ApprovalWish],
+) -> Result<(), NoMemory>
+    ensures tokens { OnOk result
+        (Adds draft.old draft.new (tokens_of (list_of (map approval_value approvals.now)))) }
+    ensures reads { OnOk result (Reads (list_of (map approval_value approvals.now))) }
 {
-    let mut list = Vec::new(alloc);
+    draft.begin_list()?;
     for approval in approvals {
-        list.push(approval_value(alloc, approval)?)?;
+        write_approval(draft, alloc, approval)?;
     }
-    Ok(Value::Array(list))
+    draft.end_list()
 }
 
-fn approval_value(alloc: Global, approval: &ApprovalWish) -> Result<Value, NoMemory>
-    ensures { IfOk result (λ value. view value ≡ approval_value approval.now) }
+fn write_approval(draft: &mut Draft, alloc: Global, approval: &ApprovalWish) -> Result<(), NoMemory>
+    ensures tokens { OnOk result
+        (Adds draft.old draft.new (tokens_of (approval_value approval.now))) }
+    ensures reads { OnOk result (Reads (approval_value approval.now)) }
 {
     match approval {
         ApprovalWish::ByKey {
             key,
             policy_ref,
             signature,
-        } => approval_by_key(alloc, key, policy_ref, signature),
-        ApprovalWish::ByIndex { index } => approval_by_index(alloc, index),
+        } => by_key(draft, alloc, key, policy_ref, signature),
+        ApprovalWish::ByIndex { index } => by_index(draft, alloc, index),
     }
 }
 
-fn approval_by_key(
+fn by_key(
+    draft: &mut Draft,
     alloc: Global,
     key: &KeyWish,
     policy_ref: &Blob,
     signature: &Digest32,
-) -> Result<Value, NoMemory>
-    ensures { IfOk result
-        (λ value. view value ≡ approval_value (ByKey key.now policy_ref.now signature.now)) }
+) -> Result<(), NoMemory>
+    ensures tokens { OnOk result (Adds draft.old draft.new
+        (tokens_of (approval_value (ByKey key.now policy_ref.now signature.now)))) }
+    ensures reads { OnOk result
+        (Reads (approval_value (ByKey key.now policy_ref.now signature.now))) }
 {
-    let mut object = typed(alloc, "tpm")?;
-    put_key(&mut object, alloc, key)?;
-    put_hex(&mut object, alloc, "policyRef", policy_ref.as_slice())?;
-    put_hex(&mut object, alloc, "signature", signature.bytes.as_slice())?;
-    Ok(Value::Object(object))
+    draft.begin_object()?;
+    put_key(draft, alloc, key)?;
+    put_bytes(draft, alloc, "policyRef", policy_ref)?;
+    put_digest(draft, alloc, "signature", signature)?;
+    end_typed(draft, "tpm")
 }
 
-fn approval_by_index(alloc: Global, index: &IndexWish) -> Result<Value, NoMemory>
-    ensures { IfOk result (λ value. view value ≡ approval_value (ByIndex index.now)) }
+fn by_index(draft: &mut Draft, alloc: Global, index: &IndexWish) -> Result<(), NoMemory>
+    ensures tokens { OnOk result
+        (Adds draft.old draft.new (tokens_of (approval_value (ByIndex index.now)))) }
+    ensures reads { OnOk result (Reads (approval_value (ByIndex index.now))) }
 {
-    let mut object = typed(alloc, "nv")?;
-    put_index(&mut object, alloc, index)?;
-    Ok(Value::Object(object))
+    draft.begin_object()?;
+    put_index(draft, alloc, index)?;
+    end_typed(draft, "nv")
 }

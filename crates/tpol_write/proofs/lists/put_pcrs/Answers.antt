@@ -1,8 +1,6 @@
-use Rattle.std.proofs.Common.{◌∙◌, ap, codes}
-use Rattle.serde_json.specs.Data.{put}
-use Rattle.serde_json.specs.View.{members_view}
+use Rattle.tpol_write.proofs.Steps.{on_ok, step}
 use Rattle.tpol_write.proofs.lists.put_pcrs.Goals as goal
 
-pub returns-in_ok-put-in-Current : goal.returns-in_ok-put-in-Current
-returns-in_ok-put-in-Current c =
-    rw c.in-Current.is (c.in_ok-put-in-Current.ensures.ok ∙ ap (λ d. put (codes "currentPCRs") d (members_view c.args.object.now.entries)) c.in_ok-list-in-Current.ensures)
+pub returns-in_ok-name-in-Current-clause-tokens : goal.returns-in_ok-name-in-Current-clause-tokens
+returns-in_ok-name-in-Current-clause-tokens c =
+    rw c.in-Current.is (on_ok c.write_mask.result (λ ends. step c.in_ok-name-in-Current.ensures ends) c.write_mask.ensures.tokens)
