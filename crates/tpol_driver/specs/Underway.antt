@@ -1,9 +1,14 @@
 -- Runs on their paths: a move is left, and the numbers of commands stay small, since each move has two at most.
-use Rattle.std.specs.Prelude.{◌≡◌, ◌<◌, ◌≤◌, ℕ, ◌+◌, ◌*◌, length, Option, Some, None}
+use Rattle.std.specs.Prelude.{◌≡◌, ◌<◌, ◌≤◌, ℕ, ◌+◌, ◌*◌, Bool, true, false, length, Option, Some, None}
+use Rattle.tpol_driver.specs.declared.answer.Answer.{Answer}
+use Rattle.tpol_driver.specs.declared.answer.Answer.TheVariants.{Done}
 use Rattle.tpol_driver.specs.declared.plan.Plan.{Plan}
 use Rattle.tpol_driver.specs.declared.step.Heard.{Heard}
 use Rattle.tpol_driver.specs.declared.step.Heard.TheVariants.{Verified}
 use Rattle.tpol_fields.specs.declared.ticket.Ticket.{Ticket}
+use Rattle.tpol_tree.specs.declared.closed.Assertion.TheVariants.{Secret, Signed}
+use Rattle.tpol_tree.specs.declared.path.Move.{Move}
+use Rattle.tpol_tree.specs.declared.path.Move.TheVariants.{Approve, Assert}
 
 -- how many commands of the move were sent, and the start
 abbrev pub sent_with : Option Ticket → ℕ
@@ -24,3 +29,15 @@ IsVerifiedOnce ticket heard = Unit {0}
 abbrev pub most_before : Heard → ℕ
 most_before (Verified ticket) = 1
 most_before heard = 2
+
+-- a move that is neither verified first nor answered with a ticket
+abbrev pub is_plain : Move → Bool
+is_plain (Assert (Secret entity policy_ref cp_hash expiration)) = false
+is_plain (Assert (Signed key policy_ref cp_hash expiration)) = false
+is_plain (Approve key policy_ref approved signature) = false
+is_plain act = true
+
+-- the command was carried out
+abbrev pub is_done : Answer → Bool
+is_done (Done reply auth) = true
+is_done answer = false

@@ -1,10 +1,11 @@
 //! The moves of a path.
 
-ghost use Rattle.std.specs.Prelude.{◌≡◌, ◌<◌, ◌≤◌, ◌+◌, ◌*◌, ◌++◌, Some, length, slice_get, IfOk, IfErr};
+ghost use Rattle.std.specs.Prelude.{◌≡◌, ◌<◌, ◌≤◌, ◌+◌, ◌*◌, ◌++◌, [], Some, true, false, length, slice_get, IfOk, IfErr, OnErr};
 ghost use Rattle.tpol_driver.specs.Answers.{HasWholeTicket, answer_of};
 ghost use Rattle.tpol_driver.specs.Driving.{Moving, code_sent, earned_after, earned_by, goes_on, heard, hears, sends};
 ghost use Rattle.tpol_driver.specs.States.{IsNext, IsSent};
-ghost use Rattle.tpol_driver.specs.Underway.{most_before};
+ghost use Rattle.tpol_driver.specs.Underway.{is_done, is_plain, most_before};
+ghost use Rattle.tpol_driver.specs.declared.next.Next.TheVariants as states;
 ghost use Rattle.tpol_wire.specs.ReplyReading.{reply_reading};
 
 use crate::answer::Answer;
@@ -18,7 +19,7 @@ use crate::tickets::{HeldTicket, Tickets, earn};
 use std::alloc::Global;
 use std::marker::Model;
 use tpol_base::{Blob, NoMemory};
-use tpol_tree::Move;
+use tpol_tree::{Assertion, Move};
 use tpol_wire::{Ticket, write_command};
 
 /// A run on its path, with a move before it.
@@ -97,6 +98,29 @@ impl Asserting {
             Ok(answer) => self.after(answer),
             Err(no_memory) => Err((self, no_memory)),
         }
+    }
+
+    /// Goes on with the reply in place, where it does no more than accept a plain move with another behind it: one that
+    /// is not verified first and earns no ticket. Answers whether it did; else nothing changes, and `take` goes on.
+    pub fn step(&mut self, alloc: Global, reply: &[u8]) -> Result<bool, NoMemory>
+        ensures next { IfOk result (λ stepped. stepped ≡ true
+            → IsNext self.old.plan self.old.earned
+            (hears self.old.plan self.old.standing reply.now) (states.Asserting self.new)) }
+        ensures none { IfOk result (λ stepped. stepped ≡ true
+            → earned_by self.old.plan self.old.standing reply.now ≡ []) }
+        ensures same { IfOk result (λ stepped. stepped ≡ false → self.new ≡ self.old) }
+        ensures err { OnErr result (self.new ≡ self.old) }
+    {
+        if self.done + 1 == self.plan.path.moves.len()
+            || !is_plain(move_at(&self.plan, self.done))
+            || !is_done(self.answer(alloc, reply)?)
+        {
+            return Ok(false);
+        }
+        self.sent += 1;
+        self.ticket = None;
+        self.done += 1;
+        Ok(true)
     }
 
     // What these bytes answer.
@@ -198,6 +222,27 @@ fn accepted(plan: Plan, session: Session, sent: u32, done: usize, earned: Ticket
             done,
             earned,
         })
+    }
+}
+
+// Whether a move is neither verified first nor answered with a ticket.
+fn is_plain(act: &Move) -> bool
+    ensures { result ≡ is_plain act.now }
+{
+    match act {
+        Move::Assert(Assertion::Secret { .. } | Assertion::Signed { .. }) => false,
+        Move::Approve { .. } => false,
+        _ => true,
+    }
+}
+
+// Whether the command was carried out.
+fn is_done(answer: Answer) -> bool
+    ensures { result ≡ is_done answer }
+{
+    match answer {
+        Answer::Done(..) => true,
+        _ => false,
     }
 }
 

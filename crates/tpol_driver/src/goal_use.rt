@@ -1,16 +1,18 @@
 //! The use of the session on the goal: the goal's command with its authorization, and what its reply has to
 //! be.
 
-ghost use Rattle.std.specs.Prelude.{◌≡◌, IfOk, length};
-ghost use Rattle.tpol_driver.specs.GoalUse.{area_of_goal, auth_of_path, bytes_of_reply, goal_command, goal_hmac, goal_secret, is_right_area, mac_key, plan_cp_hash, right_hmac, unless_empty};
+ghost use Rattle.std.specs.Prelude.{◌≡◌, ◌∷◌, ◌++◌, [], IfOk, List, length};
+ghost use Rattle.tpol_driver.specs.GoalUse.{area_of_goal, auth_of_path, bare_fact, bytes_of_reply, goal_command, goal_hmac, goal_secret, is_right_area, mac_key, plan_cp_hash, right_hmac, unless_empty};
 ghost use Rattle.std.specs.Str.{bytes_eq};
 ghost use Rattle.tpm_auth.specs.SessionMacs.{command_mac};
+ghost use Rattle.tpm_bindings.specs.Facts.{last_auth};
 ghost use Rattle.tpol_base.specs.CommandCode.{number_of_code};
 ghost use Rattle.tpol_goal.specs.Goals.{code_of_goal};
 ghost use Rattle.tpol_wire.specs.ReplyReading.{reply_reading};
 ghost use Rattle.tpol_driver.specs.Answers.{answer_of};
 ghost use Rattle.tpol_driver.specs.Driving.{goal_done, goal_heard};
 ghost use Rattle.tpol_driver.specs.Lent.{plan_of};
+ghost use Rattle.tpol_tree.specs.declared.facts.Fact.{Fact};
 
 use crate::answer::{Answer, read_answer};
 use crate::commands::start_auth_session::caller_nonce;
@@ -19,9 +21,9 @@ use crate::path_plan::PathPlan;
 use crate::session::Session;
 use std::alloc::Global;
 use tpm_auth::{command_mac, reply_mac};
-use tpm_bindings::{Bindings, LastAuth};
+use tpm_bindings::LastAuth;
 use tpol_base::{Blob, Digest32, NoMemory};
-use tpol_tree::Move;
+use tpol_tree::{Assertion, Move};
 use tpol_wire::{AuthArea, Command, Reply, ReplyAuth, rp_hash};
 
 /// The session attributes of the use: continueSession is clear, so that the session ends with it.
@@ -31,11 +33,23 @@ const ATTRIBUTES: u8 = 0;
 fn auth_of_path(moves: &[Move]) -> LastAuth
     ensures { result ≡ auth_of_path moves.now }
 {
-    let mut bindings = Bindings::new();
+    let mut auth = LastAuth::Neither;
     for act in moves {
-        bindings.merge(act, None, None);
+        auth = auth_behind(auth, act);
     }
-    bindings.last_auth()
+    auth
+}
+
+// The same behind one more move.
+fn auth_behind(before: LastAuth, act: &Move) -> LastAuth
+    ensures { (facts : List Fact) → before ≡ last_auth facts
+        → result ≡ last_auth (facts ++ bare_fact act.now ∷ []) }
+{
+    match act {
+        Move::Assert(Assertion::AuthValue) => LastAuth::AuthValue,
+        Move::Assert(Assertion::Password) => LastAuth::Password,
+        _ => before,
+    }
 }
 
 // The value that is granted for the goal's entity, empty where none is.
