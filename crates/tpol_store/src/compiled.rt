@@ -9,7 +9,7 @@ use std::alloc::Global;
 use std::marker::Model;
 use tpol_base::NoMemory;
 use tpol_digest::Memo;
-use tpol_tree::{ApprovedDoc, Approvals};
+use tpol_tree::{Approvals, ApprovedDoc};
 
 /// An approved document with its digests. Contracts see the document.
 #[derive(Drop)]
@@ -22,8 +22,12 @@ impl Model for CompiledApproval {
     ghost use Rattle.tpol_tree.specs.declared.path.ApprovedDoc.{ApprovedDoc as OneApproved};
     ghost use Rattle.tpol_digest.specs.Digest.{zero_digest};
     ghost use Rattle.tpol_digest.specs.Memos.{IsMemo};
+    ghost use Rattle.std.specs.Coded.{codes};
+    ghost use Rattle.tpol_tree.specs.contracts.path.ApprovedDoc as document;
 
     ghost Value = { OneApproved };
+
+    ghost coded = { Prim.hlevel (codes, document.the_row.coded) };
 
     ghost view = { λ a. a.approved };
 
@@ -53,12 +57,16 @@ impl Model for CompiledApprovals {
     ghost use Rattle.tpol_tree.specs.declared.path.ApprovedDoc.{ApprovedDoc as OneApproved};
     ghost use Rattle.tpol_digest.specs.Digest.{zero_digest};
     ghost use Rattle.tpol_digest.specs.Memos.{IsMemo};
+    ghost use Rattle.std.specs.Coded.{codes};
+    ghost use Rattle.tpol_tree.specs.contracts.path.ApprovedDoc as document;
 
     ghost Value = { List OneApproved };
 
+    ghost coded = { Prim.hlevel (codes, document.the_row.coded) };
+
     ghost view = { λ a. a.approvals };
 
-    ghost invariant = { λ a. AllZip (λ document memo. IsMemo document.closed.elements zero_digest memo) a.approvals a.memos.items };
+    ghost invariant = { λ a. AllZip (λ d memo. IsMemo d.closed.elements zero_digest memo) a.approvals a.memos.items };
 }
 
 impl CompiledApprovals {
