@@ -16,6 +16,7 @@ mod generated;
 mod hexadecimal;
 mod kinds;
 mod lines;
+mod names;
 mod one_label;
 mod openings;
 mod path_label;

@@ -5,9 +5,9 @@ ghost use Rattle.tpol_lines.specs.Pen.{behind_separator, line_behind, written};
 
 use crate::decimal::push_decimal;
 use crate::lines::Lines;
+use crate::names::push_name;
 use std::alloc::Global;
 use tpol_base::{Blob, NoMemory};
-use tpol_json::push_quoted;
 
 // Room for all of a path's line but its choices and kinds: 27 bytes at most.
 const ROOM_BESIDE_CHOICES: usize = 32;
@@ -54,7 +54,7 @@ impl Pen {
         ensures kinds { self.new.kinds ≡ self.old.kinds }
     {
         self.choices.extend_from_slice(mark.as_bytes())?;
-        push_quoted(alloc, &mut self.choices, name)
+        push_name(alloc, &mut self.choices, name)
     }
 
     // Adds the choice of an approval of a policy that no listed document has.
