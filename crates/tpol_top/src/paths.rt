@@ -14,8 +14,8 @@ ghost use Rattle.tpol_tree.specs.Erased.{erased_policy};
 
 use std::alloc::Global;
 use tpol_base::{NoMemory, Shelf, Text};
-use tpol_digest::{count_paths, digest_of, path_at};
-use tpol_lines::{Lines, dead_line, lint_line, push_line, write_paths};
+use tpol_digest::{count_paths, digest_of};
+use tpol_lines::{Lines, dead_line_at, lint_line, push_line, write_paths};
 use tpol_lint::{Dead, lint};
 use tpol_prepare::opening_of;
 use tpol_scene::Scene;
@@ -183,8 +183,6 @@ fn push_dead_line(
     ensures { OnOk result (lines.new
         ≡ lines.old ++ dead_lines (paths_of closed.now approvals.now) (dead.now ∷ [])) }
 {
-    let path = path_at(alloc, closed, approvals, dead.path)?;
-    let line = dead_line(alloc, dead, path.steps.as_slice());
-    drop(path);
-    push_line(alloc, lines, line?.as_str())
+    let line = dead_line_at(alloc, closed, approvals, dead)?;
+    push_line(alloc, lines, line.as_str())
 }
