@@ -21,7 +21,7 @@ use crate::first_run::perform_run;
 use crate::generated::{generated_policy, generated_run, generated_setup};
 use std::alloc::Global;
 use tpol_base::{Digest32, NoMemory, Sequence, Text};
-use tpol_digest::{count_paths, digest_of};
+use tpol_digest::count_paths;
 use tpol_lines::{Lines, command_count_line, generated_line, path_count_line, push_line};
 use tpol_name::{Setup, directory};
 use tpol_perform::Performance;
@@ -80,28 +80,48 @@ fn generated_answer(alloc: Global, ors: u8, order: u32, closed: Closed) -> Resul
     requires within { AreWithinLimits (paths_of closed []) }
     ensures { IfOk result (λ answer. answer ≡ generated_answer ors order closed) }
 {
-    let mut lines = match generated_head(alloc, ors, order, &closed) {
+    let document = generated_document(alloc, closed)?;
+    let mut lines = match generated_head(alloc, ors, order, &document) {
         Ok(lines) => lines,
         Err(NoMemory) => {
-            drop(closed);
+            drop(document);
             return Err(NoMemory);
         }
     };
-    push_run(alloc, &mut lines, order, closed)?;
+    push_run(alloc, &mut lines, order, document)?;
     let verdict = Verdict::Done;
     Ok(Answer { lines, verdict })
 }
 
-// The lines of the policy: by which numbers it was made, how many paths it has, and its digest.
-fn generated_head(alloc: Global, ors: u8, order: u32, closed: &Closed) -> Result<Lines, NoMemory>
-    requires within { AreWithinLimits (paths_of closed.now []) }
-    ensures { IfOk result (λ lines. lines ≡ generated_head ors order closed.now) }
+// The policy, under its name, with its digests.
+fn generated_document(alloc: Global, closed: Closed) -> Result<CompiledDocument, NoMemory>
+    ensures { IfOk result (λ document. document ≡ record { name = codes "gen"; closed = closed }) }
 {
+    match Text::from_str(alloc, "gen") {
+        Ok(name) => CompiledDocument::new(alloc, FilledDocument { name, closed }),
+        Err(NoMemory) => {
+            drop(closed);
+            Err(NoMemory)
+        }
+    }
+}
+
+// The lines of the policy: by which numbers it was made, how many paths it has, and its digest.
+fn generated_head(
+    alloc: Global,
+    ors: u8,
+    order: u32,
+    document: &CompiledDocument,
+) -> Result<Lines, NoMemory>
+    requires within { AreWithinLimits (paths_of document.now.closed []) }
+    ensures { IfOk result (λ lines. lines ≡ generated_head ors order document.now.closed) }
+{
+    let closed = &document.filled().closed;
     let count = count_paths(closed, &Approvals::new(alloc)) as u32;
     let mut lines = Lines::new(alloc);
     push_made(alloc, &mut lines, ors, order)?;
     push_path_count(alloc, &mut lines, count)?;
-    push_digest(alloc, &mut lines, &digest_of(closed))?;
+    push_digest(alloc, &mut lines, &document.digest())?;
     Ok(lines)
 }
 
@@ -127,13 +147,19 @@ fn push_digest(alloc: Global, lines: &mut Lines, digest: &Digest32) -> Result<()
 }
 
 // The lines of the run of the policy.
-fn push_run(alloc: Global, lines: &mut Lines, order: u32, closed: Closed) -> Result<(), NoMemory>
-    requires form { IsFilledPolicy closed }
-    requires within { AreWithinLimits (paths_of closed []) }
+fn push_run(
+    alloc: Global,
+    lines: &mut Lines,
+    order: u32,
+    document: CompiledDocument,
+) -> Result<(), NoMemory>
+    requires name { document.name ≡ codes "gen" }
+    requires form { IsFilledPolicy document.closed }
+    requires within { AreWithinLimits (paths_of document.closed []) }
     ensures { OnOk result (lines.new
-        ≡ lines.old ++ generated_run_lines (generated_performance order closed)) }
+        ≡ lines.old ++ generated_run_lines (generated_performance order document.closed)) }
 {
-    let performance = generated_performance(alloc, order, closed)?;
+    let performance = generated_performance(alloc, order, document)?;
     let pushed = push_performance(alloc, lines, &performance);
     drop(performance);
     pushed
@@ -163,30 +189,43 @@ fn push_command_count(alloc: Global, lines: &mut Lines, count: u32) -> Result<()
 }
 
 // The run begins, and goes to its end.
-fn generated_performance(alloc: Global, order: u32, closed: Closed) -> Result<Performance, NoMemory>
-    requires form { IsFilledPolicy closed }
-    requires within { AreWithinLimits (paths_of closed []) }
-    ensures told { IfOk result (λ performance. performance ≡ generated_performance order closed) }
+fn generated_performance(
+    alloc: Global,
+    order: u32,
+    document: CompiledDocument,
+) -> Result<Performance, NoMemory>
+    requires name { document.name ≡ codes "gen" }
+    requires form { IsFilledPolicy document.closed }
+    requires within { AreWithinLimits (paths_of document.closed []) }
+    ensures told { IfOk result (λ performance. performance
+        ≡ generated_performance order document.closed) }
     ensures few { IfOk result (λ performance. length performance.past ≤ 65700) }
 {
-    match generated_setup(alloc, order, &digest_of(&closed)) {
-        Ok(setup) => performance_from(alloc, setup, closed),
+    match generated_setup(alloc, order, &document.digest()) {
+        Ok(setup) => performance_from(alloc, setup, document),
         Err(NoMemory) => {
-            drop(closed);
+            drop(document);
             Err(NoMemory)
         }
     }
 }
 
 // The same, on a machine that starts from this setup.
-fn performance_from(alloc: Global, setup: Setup, closed: Closed) -> Result<Performance, NoMemory>
+fn performance_from(
+    alloc: Global,
+    setup: Setup,
+    document: CompiledDocument,
+) -> Result<Performance, NoMemory>
     requires setup { IsSetup setup }
-    requires form { IsFilledPolicy closed }
-    requires within { AreWithinLimits (paths_of closed []) }
-    ensures told { IfOk result (λ performance. performance ≡ performed_run (generated_scenario setup closed) (codes "gen") generated_run (start_of setup)) }
+    requires name { document.name ≡ codes "gen" }
+    requires form { IsFilledPolicy document.closed }
+    requires within { AreWithinLimits (paths_of document.closed []) }
+    ensures told { IfOk result (λ performance. performance
+        ≡ performed_run (generated_scenario setup document.closed) (codes "gen") generated_run
+        (start_of setup)) }
     ensures few { IfOk result (λ performance. length performance.past ≤ 65700) }
 {
-    match generated_scenario(alloc, &setup, closed) {
+    match generated_scenario(alloc, &setup, document) {
         Ok(scenario) => {
             let performance = perform_on(alloc, setup, &scenario);
             drop(scenario);
@@ -217,12 +256,18 @@ fn perform_on(alloc: Global, setup: Setup, scenario: &Scenario) -> Result<Perfor
 
 // What the events of the run go by.
 #[tactic(auto, unfolding(crate::specs::Generate::generated_scenario))]
-fn generated_scenario(alloc: Global, setup: &Setup, closed: Closed) -> Result<Scenario, NoMemory>
-    ensures { IfOk result (λ scenario. scenario ≡ generated_scenario setup.now closed) }
+fn generated_scenario(
+    alloc: Global,
+    setup: &Setup,
+    document: CompiledDocument,
+) -> Result<Scenario, NoMemory>
+    requires name { document.name ≡ codes "gen" }
+    ensures { IfOk result (λ scenario. scenario ≡ generated_scenario setup.now document.closed) }
 {
     match directory(alloc, setup) {
         Ok(directory) => {
-            let begun = generated_documents(alloc, closed)?;
+            let mut begun = Sequence::new(alloc);
+            begun.push(document)?;
             Ok(Scenario {
                 manner: Manner::Run(Way::Sighted),
                 seed: setup.seed,
@@ -234,28 +279,7 @@ fn generated_scenario(alloc: Global, setup: &Setup, closed: Closed) -> Result<Sc
             })
         }
         Err(NoMemory) => {
-            drop(closed);
-            Err(NoMemory)
-        }
-    }
-}
-
-// The policy, under its name, is the one document.
-fn generated_documents(
-    alloc: Global,
-    closed: Closed,
-) -> Result<Sequence<CompiledDocument>, NoMemory>
-    ensures { IfOk result (λ documents. documents ≡ record { name = codes "gen"; closed = closed } ∷ []) }
-{
-    match Text::from_str(alloc, "gen") {
-        Ok(name) => {
-            let mut documents = Sequence::new(alloc);
-            let document = CompiledDocument::new(alloc, FilledDocument { name, closed })?;
-            documents.push(document)?;
-            Ok(documents)
-        }
-        Err(NoMemory) => {
-            drop(closed);
+            drop(document);
             Err(NoMemory)
         }
     }

@@ -7,5 +7,5 @@ use Rattle.tpol_generate.proofs.generate.generated_performance.Goals as goal
 pub returns-in-Ok-clause-told : goal.returns-in-Ok-clause-told
 returns-in-Ok-clause-told c =
     subst (λ (p : PerformanceState). IfOk c.performance_from.result (λ performance. performance ≡ p))
-    (run_on_setup c.args.order c.args.closed c.digest_of.result c.in-Ok.setup c.digest_of.ensures.digest c.in-Ok.ensures.setup)
+    (run_on_setup c.args.order c.args.document.closed c.digest.result c.in-Ok.setup c.digest.ensures c.in-Ok.ensures.setup)
     c.performance_from.ensures.told

@@ -11,7 +11,7 @@ use Rattle.tpol_generate.proofs.generate.performance_from.Goals as goal
 pub perform_on-performance-requires-clause-scenario : goal.perform_on-performance-requires-clause-scenario
 perform_on-performance-requires-clause-scenario c =
     subst (λ (scenario : Scenario). IsScenarioOf c.args.setup scenario) (sym c.in-Ok.ensures)
-    (generated_is_scenario c.args.setup c.args.setup c.args.closed c.requires.form c.requires.within)
+    (generated_is_scenario c.args.setup c.args.setup c.args.document.closed c.requires.form c.requires.within)
 
 pub returns-in-Ok-clause-told : goal.returns-in-Ok-clause-told
 returns-in-Ok-clause-told c =
