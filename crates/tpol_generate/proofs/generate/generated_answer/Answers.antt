@@ -12,7 +12,7 @@ told lines = record { lines = lines; verdict = Done }
 pub returns : goal.returns
 unfolding generated_answer
 returns c =
-    let same = ap (λ (document : FilledDocument). document.closed) c.in_ok-generated_document.ensures in
+    let same = ap (λ (document : FilledDocument). document.closed) c.in_ok-document.ensures in
     ap told (c.in_ok-push_run.ensures
-    ∙ ap (λ (head : List (List ℕ)). head ++ generated_run_lines (generated_performance c.args.order c.in_ok-generated_document.value.closed)) c.in-Ok.ensures
+    ∙ ap (λ (head : List (List ℕ)). head ++ generated_run_lines (generated_performance c.args.order c.in_ok-document.document.closed)) c.in-Ok.ensures
     ∙ ap (λ (closed : Closed). generated_head c.args.ors c.args.order closed ++ generated_run_lines (generated_performance c.args.order closed)) same)
