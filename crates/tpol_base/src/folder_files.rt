@@ -13,6 +13,9 @@ use std::{fs, io};
 /// force.
 const PARTS: u32 = 65_536;
 
+/// How many bytes one read of a document asks for: most documents are no longer.
+const PIECE: usize = 2_048;
+
 /// The first 1,048,577 bytes of this file; `None` where nothing stands there, or what is no regular file.
 pub fn read_document<R: Files + AllocGlobal>(
     rt: &R,
@@ -30,9 +33,20 @@ pub fn read_document<R: Files + AllocGlobal>(
 }
 
 fn front_of<F: Read + Drop>(alloc: Global, file: F) -> io::Result<Blob> {
+    let most = most_handed_out();
+    let mut front = file.take(most as u64);
     let mut bytes = Vec::new(alloc);
-    file.take(most_handed_out() as u64).read_to_end(&mut bytes)?;
-    Ok(Blob::from_vec(bytes))
+    let mut piece = [0; PIECE];
+    // Each read but the last hands out a byte at least, or was interrupted.
+    for _read in 0..most.saturating_mul(2) {
+        match front.read(&mut piece) {
+            Ok(0) => return Ok(Blob::from_vec(bytes)),
+            Ok(count) => bytes.extend_from_slice(&piece[..count])?,
+            Err(error) if error.kind() == ErrorKind::Interrupted => {}
+            Err(error) => return Err(error),
+        }
+    }
+    Err(io::Error::from(ErrorKind::Interrupted))
 }
 
 /// Writes a file of its own beside this one, and puts it in this one's place when all of it is written. Where

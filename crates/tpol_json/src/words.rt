@@ -29,7 +29,8 @@ fn is_joined(text: &[u8], prefix: &[u8], word: &[u8]) -> bool
         return false;
     }
     let (front, back) = text.split_at(prefix.len());
-    front.eq_ignore_ascii_case(prefix) && back.eq_ignore_ascii_case(word)
+    // Texts of another length differ at once.
+    back.eq_ignore_ascii_case(word) && front.eq_ignore_ascii_case(prefix)
 }
 
 /// What the first of these words that the text is, in any case and with or without the prefix, stands for.

@@ -7,15 +7,18 @@ use std::alloc::Global;
 use tpol_base::{Blob, NoMemory};
 use tpol_fields::spelling;
 
+/// How many bytes stand before a body: the tag, the size and the code.
+const HEADER: usize = 10;
+
 /// A command or a reply: its tag, its size, its code and what stands behind them (TPM 2.0 Part 1, "Command
 /// Structure" and "Response Structure").
 pub(crate) fn write(alloc: Global, tag: u16, code: u32, body: &[u8]) -> Result<Blob, NoMemory>
     ensures { IfOk result (λ bytes. bytes ≡ message_bytes tag code body.now) }
 {
-    let mut out = Blob::new(alloc);
+    let mut out = Blob::from_vec(Vec::with_capacity(alloc, HEADER.saturating_add(body.len()))?);
     spelling::number16(&mut out, tag)?;
     // The remainder keeps the sum within a usize; of the sum the last four bytes are written.
-    spelling::length32(&mut out, 10 + body.len() % 0x1_0000_0000)?;
+    spelling::length32(&mut out, HEADER + body.len() % 0x1_0000_0000)?;
     spelling::number32(&mut out, code)?;
     out.extend_from_slice(body)?;
     Ok(out)
