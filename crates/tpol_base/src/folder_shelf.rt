@@ -8,7 +8,6 @@ ghost use Rattle.tpol_base.specs.Causes.{HasLapse, IsQuiet, Rose};
 
 use crate::folder_files::{list_documents, read_document, write_document};
 use crate::{Blob, Lapse, Shelf, Texts};
-use std::alloc::Global;
 use std::io;
 use std::io::ErrorKind;
 use std::rt::Files;

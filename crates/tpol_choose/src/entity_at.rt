@@ -8,7 +8,7 @@ ghost use Rattle.tpol_choose.specs.Lent.{entity_of_lent};
 
 use tpm_rules::Entity;
 use tpol_base::Name;
-use tpol_base::handle::{TPM_RH_ENDORSEMENT, TPM_RH_LOCKOUT, TPM_RH_OWNER};
+use tpol_base::handle::{TPM_RH_ENDORSEMENT, TPM_RH_OWNER};
 use tpol_goal::{hierarchy_of_name, index_in_sight, object_in_sight};
 use tpol_name::{IndexEntry, ObjectEntry, Sight, nv_name, nv_name_once_written, object_name};
 

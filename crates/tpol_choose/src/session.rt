@@ -18,7 +18,7 @@ use tpm_rules::{Standing, deadline_of};
 use tpol_base::{CommandCode, Digest32, Name};
 use tpol_digest::{approve_digest, approve_nv_digest, hash_twice, zero_digest};
 use tpol_name::Sight;
-use tpol_tree::{Assertion, Move};
+use tpol_tree::Assertion;
 
 // The session that a path would begin with.
 pub fn fresh_session(sight: &Sight) -> Standing

@@ -10,22 +10,13 @@ ghost use Rattle.tpol_lines.specs.PathLine.{label};
 ghost use Rattle.tpol_tree.specs.declared.path.PathStep.{PathStep as OneStep};
 
 use crate::one_label::label_at;
-use crate::path_label::label;
 use std::alloc::Global;
 use tpol_base::{NoMemory, Text};
 use tpol_lint::{Dead, DeadRule};
-use tpol_tree::{Approvals, Closed, PathStep};
+use tpol_tree::{Approvals, Closed};
 
-/// The line of a path that can never open: its position from 1, its choices, the rule that its moves break, and
-/// the number of the move, from 1, by which they do. It fails only where memory ran out.
-pub fn dead_line(alloc: Global, dead: &Dead, steps: &[PathStep]) -> Result<Text, NoMemory>
-    ensures line { IfOk result (λ line. line ≡ dead_line dead.now steps.now) }
-{
-    let choices = label(alloc, steps)?;
-    line_with(alloc, dead, choices.as_str())
-}
-
-/// The same of a path of a policy, by its position; the path is not made. It fails only where memory ran out.
+/// The line of a path that can never open, which is not made: its position from 1, its choices, the rule that its
+/// moves break, and the number of the move, from 1, by which they do. It fails only where memory ran out.
 pub fn dead_line_at(
     alloc: Global,
     policy: &Closed,

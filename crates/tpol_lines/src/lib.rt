@@ -27,7 +27,7 @@ mod tried;
 
 pub use blocks::block_line;
 pub use certificates::{certificate_line, certified_line};
-pub use dead_paths::{dead_line, dead_line_at, lint_line};
+pub use dead_paths::{dead_line_at, lint_line};
 pub use events::{command_line, presence_line, reset_line, time_line};
 pub use generated::{command_count_line, generated_line, path_count_line};
 pub use kinds::assertion_kind;

@@ -35,7 +35,7 @@ use tpol_steps::{
     CompiledDocument, Halt, check_documents, check_limits, check_tried, load_store, scene_of_bytes,
 };
 use tpol_store::{CompiledApprovals, Store};
-use tpol_tree::{Approvals, Closed};
+use tpol_tree::Approvals;
 
 /// What the events of a scene go by: how it is carried out, the seed and the directory of the machine, the
 /// entities whose policies are named, the documents that the script begins, what is approved, and what each

@@ -4,7 +4,6 @@ ghost use Rattle.std.specs.Prelude.{◌≡◌, IfOk};
 ghost use Rattle.tpol_driver.specs.Commands.{approval_command, verify_signature};
 
 use crate::commands::{Means, handles};
-use std::alloc::Global;
 use tpol_base::{Blob, Digest32, Name, NoMemory};
 use tpol_hash::Hasher;
 use tpol_name::DirEntry;

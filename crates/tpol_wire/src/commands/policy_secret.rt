@@ -13,7 +13,7 @@ use crate::commands::assertion::{self, Assertion};
 use crate::reply::Reply;
 use std::alloc::Global;
 use tpol_base::constants::TPM_ST_AUTH_SECRET;
-use tpol_base::{Blob, CommandCode, Cursor, Digest32, NoMemory};
+use tpol_base::{Blob, CommandCode, Cursor, NoMemory};
 use tpol_fields::{HandleType, Ticket, WireFault, fields, spelling};
 
 /// Reads the handles, the authorization and the parameters.
