@@ -1,5 +1,5 @@
 -- The runs of a script by their numbers.
-use Rattle.std.specs.Prelude.{ℕ, Bool, ◌==◌, List, [], ◌∷◌, Option, Some, None, find, if◌then◌else◌}
+use Rattle.std.specs.Prelude.{ℕ, Bool, ◌≡◌, ◌==◌, List, [], ◌∷◌, Option, Some, None, IfSome, find, position, if◌then◌else◌}
 use Rattle.tpol_runs.specs.declared.numbered.Numbered.{Numbered}
 use Rattle.tpol_runs.specs.Underway.{Underway}
 
@@ -19,3 +19,7 @@ abbrev pub with_run : List Numbered → ℕ → Option Underway → List Numbere
 with_run [] number run = []
 with_run (entry ∷ rest) number run =
     if has_number number entry then record { number = entry.number; run = run } ∷ rest else entry ∷ with_run rest number run
+
+-- a number, where one is kept, with the place at which its run is found
+abbrev pub IsPlaced : List Numbered → Option (ℕ × ℕ) → Type 0
+IsPlaced runs kept = IfSome kept (λ kept. position (has_number kept.0) runs ≡ Some kept.1)

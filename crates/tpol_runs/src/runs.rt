@@ -1,6 +1,6 @@
 //! The runs of a script.
 
-ghost use Rattle.std.specs.Prelude.{◌≡◌, ◌<◌, ◌≤◌, ◌∷◌, ◌++◌, [], None, Some, length, position, IfOk, IfSome, OnOk, OnErr, ℕ};
+ghost use Rattle.std.specs.Prelude.{◌≡◌, ◌≤◌, ◌∷◌, ◌++◌, [], None, Some, length, position, IfOk, IfSome, OnOk, OnErr, ℕ};
 ghost use Rattle.std.specs.Option.{option_copied};
 ghost use Rattle.tpol_runs.specs.Courses.{begun, begun_blind, end_told, goes_on, heard_by, next_of, run_after};
 ghost use Rattle.tpol_runs.specs.Runs.{has_number, run_at, with_run};
@@ -21,15 +21,20 @@ use tpol_driver::{BlindStart, Plan};
 #[derive(Drop)]
 pub struct Runs {
     runs: Vec<Numbered>,
+    // The number of the run that heard last, and where it stands in the list.
+    heard: Option<(u16, usize)>,
 }
 
 impl Model for Runs {
     ghost use Rattle.std.specs.Prelude.{List};
+    ghost use Rattle.tpol_runs.specs.Runs.{IsPlaced};
     ghost use Rattle.tpol_runs.specs.declared.numbered.Numbered.{Numbered};
 
     ghost Value = { List Numbered };
 
     ghost view = { λ r. r.runs.items };
+
+    ghost invariant = { λ r. IsPlaced r.runs.items r.heard };
 }
 
 impl Runs {
@@ -39,6 +44,7 @@ impl Runs {
     {
         Runs {
             runs: Vec::new(alloc),
+            heard: None,
         }
     }
 
@@ -60,8 +66,7 @@ impl Runs {
         ensures err { OnErr result (self.new ≡ self.old) }
     {
         let run = Some(Run::new(alloc, client, locality, plan));
-        self.runs.push(Numbered { number, run })?;
-        Ok(())
+        self.add(Numbered { number, run })
     }
 
     /// Begins a blind run on the paths of the policy of this name, whose commands this client sends from this
@@ -84,8 +89,7 @@ impl Runs {
         ensures err { OnErr result (self.new ≡ self.old) }
     {
         let run = Some(Run::blind(client, locality, policy, start));
-        self.runs.push(Numbered { number, run })?;
-        Ok(())
+        self.add(Numbered { number, run })
     }
 
     /// Begins a run that has no path to go: it is over at once. After `NoMemory` the runs are as before.
@@ -94,8 +98,7 @@ impl Runs {
             ≡ self.old ++ record { number = number; run = None } ∷ []) }
         ensures err { OnErr result (self.new ≡ self.old) }
     {
-        self.runs.push(Numbered { number, run: None })?;
-        Ok(())
+        self.add(Numbered { number, run: None })
     }
 
     /// The next command of the run of this number; `None` where it is over. It fails only where memory ran out.
@@ -129,12 +132,17 @@ impl Runs {
         let Some(place) = self.place_of(number) else {
             return Ok(None);
         };
-        let Some(run) = self.exchange(place, None) else {
-            return Ok(None);
-        };
-        let (run, told) = hand(run, alloc, reset_count, reply);
-        self.exchange(place, run);
-        told
+        self.heard = Some((number, place));
+        hear(&mut self.runs[place].run, alloc, reset_count, reply)
+    }
+
+    // Puts an entry behind the others. After `NoMemory` the runs are as before.
+    fn add(&mut self, entry: Numbered) -> Result<(), NoMemory>
+        ensures ok { OnOk result (self.new ≡ self.old ++ entry ∷ []) }
+        ensures err { OnErr result (self.new ≡ self.old) }
+    {
+        self.runs.push(entry)?;
+        Ok(())
     }
 
     // The run of this number, unless it is over.
@@ -147,23 +155,35 @@ impl Runs {
         self.runs[place].run.as_ref()
     }
 
-    // Puts another state, or none, in place of that of the run at this place, and hands out what was there.
-    fn exchange(&mut self, place: usize, run: Option<Run>) -> Option<Run>
-        requires within { place < length self.old }
-        ensures before { (number : ℕ) → position (has_number number) self.old ≡ Some place
-            → result ≡ run_at self.old number }
-        ensures after { (number : ℕ) → position (has_number number) self.old ≡ Some place
-            → self.new ≡ with_run self.old number run }
-    {
-        replace(&mut self.runs[place].run, run)
-    }
-
     // Where the run of this number stands in the list.
     fn place_of(&self, number: u16) -> Option<usize>
         ensures { result ≡ position (has_number number) self.now }
     {
-        self.runs.iter().position(|entry| entry.number == number)
+        match self.heard {
+            Some((heard, place)) if heard == number => Some(place),
+            _ => self.runs.iter().position(|entry| entry.number == number),
+        }
     }
+}
+
+// Hands a reply to a run, unless it is over: its end, where it is over now. After `NoMemory` the run is as before.
+fn hear(
+    run: &mut Option<Run>,
+    alloc: Global,
+    reset_count: u32,
+    reply: &[u8],
+) -> Result<Option<Ended>, NoMemory>
+    ensures told { IfOk result (λ told. told
+        ≡ end_told (heard_by run.old reset_count reply.now)) }
+    ensures run { OnOk result (run.new ≡ goes_on (heard_by run.old reset_count reply.now)) }
+    ensures err { OnErr result (run.new ≡ run.old) }
+{
+    let Some(underway) = replace(run, None) else {
+        return Ok(None);
+    };
+    let (after, told) = hand(underway, alloc, reset_count, reply);
+    *run = after;
+    told
 }
 
 // Hands a reply to a run: the run, where it goes on, and its end, where it is over now.
