@@ -1,6 +1,6 @@
 //! The driver of a run.
 
-ghost use Rattle.std.specs.Prelude.{◌≡◌, Some, IfErr, IfOk, option_map};
+ghost use Rattle.std.specs.Prelude.{◌≡◌, Some, false, true, IfErr, IfOk, OnErr, option_map, ℕ};
 ghost use Rattle.tpol_driver.specs.Blind.{BlindStanding};
 ghost use Rattle.tpol_driver.specs.BlindStates.{IsBlindNext};
 ghost use Rattle.tpol_driver.specs.declared.blind_plan.BlindPlan.{BlindPlan as BlindPlanOf};
@@ -9,6 +9,7 @@ ghost use Rattle.tpol_runs.specs.Behind.{IsBehind};
 ghost use Rattle.tpol_runs.specs.PathBehind.{IsPathBehind};
 ghost use Rattle.tpol_runs.specs.Drivers.{driver_of};
 ghost use Rattle.tpol_runs.specs.Underway.{Blind, Driven, Sighted};
+ghost use Rattle.tpol_runs.specs.declared.driver_state.Behind.TheVariants.{Goes};
 ghost use Rattle.tpol_wire.specs.Commands.{spelling};
 
 use crate::blind_state::{BlindState, blind_next, blind_take};
@@ -65,6 +66,20 @@ impl DriverState {
                 Ok(next) => Ok(blind_behind(policy, next)),
                 Err((state, no_memory)) => Err((DriverState::Blind(policy, state), no_memory)),
             },
+        }
+    }
+
+    // Goes on with the reply in place, where the driver is on one path and the reply does no more than accept a plain
+    // move. Answers whether it did; else nothing changes, and `take` goes on.
+    pub fn step(&mut self, alloc: Global, reply: &[u8]) -> Result<bool, NoMemory>
+        ensures goes { IfOk result (λ stepped. stepped ≡ true → (reset_count : ℕ)
+            → IsBehind (heard_of (driver_of self.old) reset_count reply.now) (Goes self.new)) }
+        ensures same { IfOk result (λ stepped. stepped ≡ false → self.new ≡ self.old) }
+        ensures err { OnErr result (self.new ≡ self.old) }
+    {
+        match self {
+            DriverState::Sighted(driver) => driver.step(alloc, reply),
+            DriverState::Blind(..) => Ok(false),
         }
     }
 }

@@ -1,6 +1,6 @@
 //! The driver of a run on one path behind a reply.
 
-ghost use Rattle.std.specs.Prelude.{◌≡◌, ◌≤◌, length, List, IfErr, IfOk};
+ghost use Rattle.std.specs.Prelude.{◌≡◌, ◌≤◌, false, length, true, List, IfErr, IfOk, OnErr, ℕ};
 ghost use Rattle.tpol_driver.specs.Driving.{Standing};
 ghost use Rattle.tpol_driver.specs.States.{IsNext};
 ghost use Rattle.tpol_driver.specs.declared.plan.Plan.{Plan as PlanOf};
@@ -10,6 +10,7 @@ ghost use Rattle.tpol_runs.specs.Courses.{driven_on};
 ghost use Rattle.tpol_runs.specs.Earned.{with_counts};
 ghost use Rattle.tpol_runs.specs.PathBehind.{IsPathBehind};
 ghost use Rattle.tpol_runs.specs.State.{earned_of_next};
+ghost use Rattle.tpol_runs.specs.declared.path_behind.PathBehind.TheVariants as behinds;
 
 use crate::ended::Ended;
 use crate::path_driver::PathDriver;
@@ -47,6 +48,20 @@ impl PathDriver {
                 }
             },
             Err(_) => Err((PathDriver { state, counts }, NoMemory)),
+        }
+    }
+
+    // Goes on with the reply in place, where it does no more than accept a plain move with another behind it. Answers
+    // whether it did; else nothing changes, and `take` goes on.
+    pub fn step(&mut self, alloc: Global, reply: &[u8]) -> Result<bool, NoMemory>
+        ensures goes { IfOk result (λ stepped. stepped ≡ true → (reset_count : ℕ)
+            → IsPathBehind (driven_on self.old reset_count reply.now) (behinds.Goes self.new)) }
+        ensures same { IfOk result (λ stepped. stepped ≡ false → self.new ≡ self.old) }
+        ensures err { OnErr result (self.new ≡ self.old) }
+    {
+        match &mut self.state {
+            State::Asserting(asserting) => asserting.step(alloc, reply),
+            _ => Ok(false),
         }
     }
 }

@@ -1,7 +1,8 @@
 //! A run that is under way.
 
-ghost use Rattle.std.specs.Prelude.{◌≡◌, ◌≤◌, Some, length, IfOk, IfErr};
+ghost use Rattle.std.specs.Prelude.{◌≡◌, ◌≤◌, Some, false, length, true, IfOk, IfErr, OnErr, ℕ};
 ghost use Rattle.tpol_runs.specs.Courses.{begun, begun_blind, run_after, sent_by};
+ghost use Rattle.tpol_runs.specs.declared.after.After.TheVariants.{Goes};
 
 use crate::after::After;
 use crate::blind_state::BlindState;
@@ -104,5 +105,16 @@ impl Run {
                 Err((run, no_memory))
             }
         }
+    }
+
+    // Goes on with the reply in place, where the run is on one path and the reply does no more than accept a plain move.
+    // Answers whether it did; else nothing changes, and `take` goes on.
+    pub(crate) fn step(&mut self, alloc: Global, reply: &[u8]) -> Result<bool, NoMemory>
+        ensures goes { IfOk result (λ stepped. stepped ≡ true → (reset_count : ℕ)
+            → run_after self.old reset_count reply.now ≡ Goes self.new) }
+        ensures same { IfOk result (λ stepped. stepped ≡ false → self.new ≡ self.old) }
+        ensures err { OnErr result (self.new ≡ self.old) }
+    {
+        self.driver.step(alloc, reply)
     }
 }

@@ -1,9 +1,10 @@
 //! The runs of a script.
 
-ghost use Rattle.std.specs.Prelude.{◌≡◌, ◌≤◌, ◌∷◌, ◌++◌, [], None, Some, length, position, IfOk, IfSome, OnOk, OnErr, ℕ};
+ghost use Rattle.std.specs.Prelude.{◌≡◌, ◌≤◌, ◌∷◌, ◌++◌, [], None, Some, false, length, option_map, position, true, IfOk, IfSome, OnOk, OnErr, ℕ};
 ghost use Rattle.std.specs.Option.{option_copied};
 ghost use Rattle.tpol_runs.specs.Courses.{begun, begun_blind, end_told, goes_on, heard_by, next_of, run_after};
 ghost use Rattle.tpol_runs.specs.Runs.{has_number, run_at, with_run};
+ghost use Rattle.tpol_runs.specs.declared.after.After.TheVariants.{Goes};
 
 use crate::after::After;
 use crate::ended::Ended;
@@ -178,12 +179,28 @@ fn hear(
     ensures run { OnOk result (run.new ≡ goes_on (heard_by run.old reset_count reply.now)) }
     ensures err { OnErr result (run.new ≡ run.old) }
 {
+    if step(run, alloc, reply)? {
+        return Ok(None);
+    }
     let Some(underway) = replace(run, None) else {
         return Ok(None);
     };
     let (after, told) = hand(underway, alloc, reset_count, reply);
     *run = after;
     told
+}
+
+// Goes on with the reply in place, where the run can. Answers whether it did; else nothing changes.
+fn step(run: &mut Option<Run>, alloc: Global, reply: &[u8]) -> Result<bool, NoMemory>
+    ensures goes { IfOk result (λ stepped. stepped ≡ true → (reset_count : ℕ)
+        → heard_by run.old reset_count reply.now ≡ option_map Goes run.new) }
+    ensures same { IfOk result (λ stepped. stepped ≡ false → run.new ≡ run.old) }
+    ensures err { OnErr result (run.new ≡ run.old) }
+{
+    match run {
+        Some(run) => run.step(alloc, reply),
+        None => Ok(false),
+    }
 }
 
 // Hands a reply to a run: the run, where it goes on, and its end, where it is over now.
