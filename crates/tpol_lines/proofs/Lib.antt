@@ -1,5 +1,5 @@
-pub mod Digits
 pub mod LabelLaws
 pub mod Loads
+pub mod Numbers
 pub mod PlainNames
 pub mod TextLaws

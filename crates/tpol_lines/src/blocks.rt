@@ -1,14 +1,12 @@
 // The line of a path that cannot be gone.
 
-ghost use Rattle.std.specs.Prelude.{◌≡◌, ◌++◌, codes, decimal, IfOk, List, OnOk};
-ghost use Rattle.tpol_lines.specs.BlockLine.{answer_text, block_line, why_text};
-ghost use Rattle.tpol_lines.specs.Hex.{code_text};
+ghost use Rattle.std.specs.Prelude.{◌≡◌, ◌+◌, ◌++◌, ◌≤◌, codes, decimal, length, IfOk, List};
+ghost use Rattle.tpol_lines.specs.BlockLine.{block_line, why_text};
 ghost use Rattle.tpol_lines.specs.PathLine.{label};
 ghost use Rattle.tpol_tree.specs.declared.path.PathStep.{PathStep};
 
-use crate::decimal::push_decimal;
 use crate::events::check_word;
-use crate::hexadecimal::push_code;
+use crate::piece::Piece;
 use std::alloc::Global;
 use tpol_base::{Blob, NoMemory};
 use tpol_choose::{Block, Why};
@@ -27,66 +25,60 @@ pub fn block_line(
     ensures { (steps : List PathStep) → choices.now ≡ label steps
         → IfOk result (λ line. line ≡ block_line position steps block.now) }
 {
+    let mut front = Piece::new();
+    front.prepend(b" ");
+    front.prepend_decimal(position);
+    front.prepend(b"block ");
+    let mut end = Piece::new();
+    prepend_why(&mut end, block.at, &block.why);
+    end.prepend(b" ");
     let room = choices.len().saturating_add(ROOM_BESIDE_CHOICES);
     let mut line = Vec::with_capacity(alloc, room)?;
-    line.extend_from_slice(b"block ")?;
-    push_decimal(&mut line, u64::from(position))?;
-    line.push(b' ')?;
+    line.extend_from_slice(front.as_slice())?;
     line.extend_from_slice(choices)?;
-    line.push(b' ')?;
-    push_why(&mut line, block.at, &block.why)?;
+    line.extend_from_slice(end.as_slice())?;
     Ok(Blob::from_vec(line))
 }
 
-// Adds what stands in the way, of the move at a place where it is a move's.
-fn push_why(line: &mut Vec<u8>, place: u32, why: &Why) -> Result<(), NoMemory>
-    ensures { OnOk result (line.new.items ≡ line.old.items ++ why_text place why.now) }
+// Sets what stands in the way, of the move at a place where it is a move's, before what is there.
+fn prepend_why(piece: &mut Piece, place: u32, why: &Why)
+    requires { 40 + length piece.old ≤ 112 }
+    ensures why { piece.new ≡ why_text place why.now ++ piece.old }
+    ensures short { length piece.new ≤ 40 + length piece.old }
 {
     match why {
-        Why::Outside => line.extend_from_slice(b"outside")?,
-        Why::NoSession => line.extend_from_slice(b"nosession")?,
+        Why::Outside => piece.prepend(b"outside"),
+        Why::NoSession => piece.prepend(b"nosession"),
         Why::NoEntity => {
-            push_move(line, place)?;
-            line.extend_from_slice(b" noentity")?;
+            piece.prepend(b" noentity");
+            prepend_move(piece, place);
         }
         Why::NoKey => {
-            push_move(line, place)?;
-            line.extend_from_slice(b" nokey")?;
+            piece.prepend(b" nokey");
+            prepend_move(piece, place);
         }
-        Why::Answer(rc) => push_answer(line, place, rc.code)?,
+        Why::Answer(rc) => {
+            piece.prepend_code(rc.code);
+            piece.prepend(b" answer ");
+            prepend_move(piece, place);
+        }
         Why::Deferred(check) => {
-            line.extend_from_slice(b"goal denied ")?;
-            line.extend_from_slice(check_word(check).as_bytes())?;
+            piece.prepend(check_word(check).as_bytes());
+            piece.prepend(b"goal denied ");
         }
-        Why::GoalRule(rc) => push_goal_answer(line, rc.code)?,
+        Why::GoalRule(rc) => {
+            piece.prepend_code(rc.code);
+            piece.prepend(b"goal answer ");
+        }
     }
-    Ok(())
 }
 
-// Adds the code that answers the move at a place.
-fn push_answer(line: &mut Vec<u8>, place: u32, code: u32) -> Result<(), NoMemory>
-    ensures { OnOk result (line.new.items ≡ line.old.items ++ answer_text place code) }
+// Sets the word for the move at a place before what is there.
+fn prepend_move(piece: &mut Piece, place: u32)
+    requires { 15 + length piece.old ≤ 112 }
+    ensures words { piece.new ≡ codes "move " ++ decimal place ++ piece.old }
+    ensures short { length piece.new ≤ 15 + length piece.old }
 {
-    push_move(line, place)?;
-    line.extend_from_slice(b" answer ")?;
-    push_code(line, code)
-}
-
-// Adds the code that answers the goal.
-fn push_goal_answer(line: &mut Vec<u8>, code: u32) -> Result<(), NoMemory>
-    ensures { OnOk result (line.new.items
-        ≡ line.old.items ++ (codes "goal answer " ++ code_text code)) }
-{
-    line.extend_from_slice(b"goal answer ")?;
-    push_code(line, code)?;
-    Ok(())
-}
-
-// Adds the word for the move at a place.
-fn push_move(line: &mut Vec<u8>, place: u32) -> Result<(), NoMemory>
-    ensures { OnOk result (line.new.items
-        ≡ line.old.items ++ (codes "move " ++ decimal place)) }
-{
-    line.extend_from_slice(b"move ")?;
-    push_decimal(line, u64::from(place))
+    piece.prepend_decimal(place);
+    piece.prepend(b"move ");
 }

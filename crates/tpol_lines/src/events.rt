@@ -1,10 +1,10 @@
 // The lines of the events of a machine.
 
-ghost use Rattle.std.specs.Prelude.{◌≡◌, ◌∷◌, ◌++◌, IfOk, OnOk};
-ghost use Rattle.tpol_lines.specs.Events.{answer_text, check_word, class_text, command_line, denial_word, presence_line, reset_line, switch_word, time_line};
+ghost use Rattle.std.specs.Prelude.{◌≡◌, ◌+◌, ◌++◌, ◌≤◌, IfOk, length};
+ghost use Rattle.tpol_lines.specs.Events.{check_word, class_text, command_line, denial_word, presence_line, reset_line, switch_word, time_line};
 
-use crate::decimal::push_decimal;
-use crate::hexadecimal::{push_code_of_buffer, push_hexadecimal};
+use crate::hexadecimal::push_hexadecimal;
+use crate::piece::Piece;
 use std::alloc::Global;
 use tpm_rules::{Denial, Outcome};
 use tpol_base::{Blob, Check, NoMemory, Text};
@@ -29,54 +29,50 @@ pub fn command_line(
     ensures { IfOk result (λ line. line
         ≡ command_line event client locality buffer.now reply.now outcome.now) }
 {
+    let mut piece = Piece::new();
+    piece.prepend(b" reply ");
+    prepend_class(&mut piece, outcome);
+    piece.prepend(b" ");
+    piece.prepend_code_of_buffer(reply);
+    piece.prepend(b" rc ");
+    piece.prepend_code_of_buffer(buffer);
+    piece.prepend(b" code ");
+    piece.prepend_decimal(u32::from(locality));
+    piece.prepend(b" locality ");
+    piece.prepend_decimal(client);
+    piece.prepend(b" client ");
+    piece.prepend_decimal(event);
     let room = reply
         .len()
         .saturating_mul(2)
         .saturating_add(ROOM_BESIDE_REPLY);
     let mut line = Vec::with_capacity(alloc, room)?;
-    push_decimal(&mut line, u64::from(event))?;
-    line.extend_from_slice(b" client ")?;
-    push_decimal(&mut line, u64::from(client))?;
-    line.extend_from_slice(b" locality ")?;
-    push_decimal(&mut line, u64::from(locality))?;
-    line.extend_from_slice(b" code ")?;
-    push_code_of_buffer(&mut line, buffer)?;
-    push_answer(&mut line, reply, outcome)?;
+    line.extend_from_slice(piece.as_slice())?;
+    push_hexadecimal(&mut line, reply)?;
     Ok(Blob::from_vec(line))
 }
 
-// Adds the reply to a command, and what became of it, behind a space.
-fn push_answer(line: &mut Vec<u8>, reply: &[u8], outcome: &Outcome) -> Result<(), NoMemory>
-    ensures { OnOk result (line.new.items
-        ≡ line.old.items ++ 32 ∷ answer_text reply.now outcome.now) }
-{
-    line.extend_from_slice(b" rc ")?;
-    push_code_of_buffer(line, reply)?;
-    line.push(b' ')?;
-    push_class(line, outcome)?;
-    line.extend_from_slice(b" reply ")?;
-    push_hexadecimal(line, reply)
-}
-
-// Adds what became of a command.
-fn push_class(line: &mut Vec<u8>, outcome: &Outcome) -> Result<(), NoMemory>
-    ensures { OnOk result (line.new.items ≡ line.old.items ++ class_text outcome.now) }
+// Sets what became of a command before what is there.
+fn prepend_class(piece: &mut Piece, outcome: &Outcome)
+    requires { 20 + length piece.old ≤ 112 }
+    ensures class { piece.new ≡ class_text outcome.now ++ piece.old }
+    ensures short { length piece.new ≤ 20 + length piece.old }
 {
     match outcome {
-        Outcome::Accepted => line.extend_from_slice(b"accepted")?,
-        Outcome::Served => line.extend_from_slice(b"served")?,
+        Outcome::Accepted => piece.prepend(b"accepted"),
+        Outcome::Served => piece.prepend(b"served"),
         Outcome::Denied(denial) => {
-            line.extend_from_slice(b"denied ")?;
-            line.extend_from_slice(denial_word(denial).as_bytes())?;
+            piece.prepend(denial_word(denial).as_bytes());
+            piece.prepend(b"denied ");
         }
-        Outcome::Refused(_) => line.extend_from_slice(b"refused")?,
+        Outcome::Refused(_) => piece.prepend(b"refused"),
     }
-    Ok(())
 }
 
 // The word for a failed authorization.
 fn denial_word(denial: &Denial) -> &'static str
-    ensures { result.now ≡ denial_word denial.now }
+    ensures word { result.now ≡ denial_word denial.now }
+    ensures short { length result.now ≤ 13 }
 {
     match denial {
         Denial::Unavailable => "Unavailable",
@@ -87,7 +83,8 @@ fn denial_word(denial: &Denial) -> &'static str
 
 // The word for a deferred check.
 pub(crate) fn check_word(check: &Check) -> &'static str
-    ensures { result.now ≡ check_word check.now }
+    ensures word { result.now ≡ check_word check.now }
+    ensures short { length result.now ≤ 13 }
 {
     match check {
         Check::PcrChanged => "PcrChanged",

@@ -22,6 +22,7 @@ mod openings;
 mod path_label;
 mod path_lines;
 mod pen;
+mod piece;
 mod runs;
 mod tried;
 
