@@ -248,7 +248,12 @@ fn run_of(alloc: Global, value: &Value, place: &PlaceRef<'_>) -> Result<u16, Par
 fn is_begun(runs: &[u16], run: u16) -> bool
     ensures { result ≡ is_begun runs.now run }
 {
-    runs.contains(&run)
+    // No early end, so that several numbers are compared at a time.
+    let mut found = false;
+    for begun in runs {
+        found |= *begun == run;
+    }
+    found
 }
 
 // How many commands, without it all to the end of the run.
