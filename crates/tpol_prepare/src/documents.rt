@@ -5,6 +5,7 @@ ghost use Rattle.tpol_prepare.specs.FilledDocuments.{document_step, documents_fr
 ghost use Rattle.tpol_steps.specs.Filled.{IsReadyDocument, erased_filled};
 ghost use Rattle.tpol_steps.specs.Steps.{Answers, IsInside};
 
+use crate::entities::{CompiledEntity, compile_document};
 use crate::references::{Reference, policy_at};
 use std::alloc::Global;
 use tpol_base::Sequence;
@@ -12,7 +13,8 @@ use tpol_name::Sight;
 use tpol_steps::{CompiledDocument, FilledDocument, Halt, fill_document};
 use tpol_store::Store;
 
-/// Fills the documents that are named, each once, in the order of their first references.
+/// Fills the documents that are named, each once, in the order of their first references. The digests of one that is
+/// the policy of an entity are not computed again.
 ///
 /// `Refused` tells what is wrong with the first one that is not filled: the store does not have it, or a place in
 /// it has no value. `NoMemory` comes where memory ran out, and nothing else comes.
@@ -21,6 +23,7 @@ pub fn fill_references(
     alloc: Global,
     store: &Store,
     sight: Option<&Sight>,
+    entities: &[CompiledEntity],
     references: &[Reference],
 ) -> Result<Sequence<CompiledDocument>, Halt>
     ensures answer { Answers (map erased_filled)
@@ -31,7 +34,7 @@ pub fn fill_references(
 {
     let mut documents = Sequence::new(alloc);
     for reference in references {
-        add_reference(alloc, store, sight, &mut documents, reference)?;
+        add_reference(alloc, store, sight, entities, &mut documents, reference)?;
     }
     Ok(documents)
 }
@@ -42,6 +45,7 @@ fn add_reference(
     alloc: Global,
     store: &Store,
     sight: Option<&Sight>,
+    entities: &[CompiledEntity],
     documents: &mut Sequence<CompiledDocument>,
     reference: &Reference,
 ) -> Result<(), Halt>
@@ -55,7 +59,7 @@ fn add_reference(
     if is_filled(documents.as_slice(), reference.name.as_str()) {
         return Ok(());
     }
-    let document = fill_reference(alloc, store, sight, reference)?;
+    let document = fill_reference(alloc, store, sight, entities, reference)?;
     documents.push(document)?;
     Ok(())
 }
@@ -75,6 +79,7 @@ fn fill_reference(
     alloc: Global,
     store: &Store,
     sight: Option<&Sight>,
+    entities: &[CompiledEntity],
     reference: &Reference,
 ) -> Result<CompiledDocument, Halt>
     ensures answer { Answers erased_filled
@@ -85,5 +90,6 @@ fn fill_reference(
     let written = policy_at(alloc, store, &reference.name, &reference.place)?;
     let closed = fill_document(alloc, Some(&reference.name), written, sight)?;
     let name = reference.name.try_clone(alloc)?;
-    Ok(CompiledDocument::new(alloc, FilledDocument { name, closed })?)
+    let filled = FilledDocument { name, closed };
+    Ok(compile_document(alloc, entities, filled)?)
 }

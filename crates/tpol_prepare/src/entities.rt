@@ -1,7 +1,9 @@
-ghost use Rattle.std.specs.Prelude.{◌≡◌, All, IfOk, OnOk, map, take};
+ghost use Rattle.std.specs.Option.{option_copied, option_map};
+ghost use Rattle.std.specs.Prelude.{◌≡◌, All, IfOk, OnOk, find, map, take};
 ghost use Rattle.tpol_name.specs.Setups.{IsSetup};
 ghost use Rattle.tpol_store.specs.Stores.{IsReadable, policies_of, stored};
 ghost use Rattle.tpol_prepare.specs.Entities.{IsReadyEntity, compiled_step, entities_from, entity_step, erased_compiled, index_with_policy, no_entity, object_with_policy, setup_with_policy, sight_before, with_entity};
+ghost use Rattle.tpol_prepare.specs.Scenario.{entity_document, is_document};
 ghost use Rattle.tpol_steps.specs.Filled.{IsReady};
 ghost use Rattle.tpol_steps.specs.Steps.{Answers, IsInside};
 ghost use Rattle.tpol_tree.specs.ClosedErased.{erased};
@@ -146,11 +148,35 @@ fn add_entity(
     ensures setup { IsSetup compiled.old.setup → OnOk result (IsSetup compiled.new.setup) }
 {
     let name = policy.name.try_clone(alloc)?;
-    let document = CompiledDocument::new(alloc, FilledDocument { name, closed })?;
+    let filled = FilledDocument { name, closed };
+    let document = compile_document(alloc, compiled.entities.as_slice(), filled)?;
     let handle = policy.handle;
     set_policy(alloc, &mut compiled.setup, handle, &document.digest())?;
     compiled.entities.push(CompiledEntity { handle, document })?;
     Ok(())
+}
+
+/// Computes the digests of a document, or takes them from an entity's policy of its name, where that is the same.
+pub fn compile_document(
+    alloc: Global,
+    entities: &[CompiledEntity],
+    filled: FilledDocument,
+) -> Result<CompiledDocument, NoMemory>
+    ensures { IfOk result (λ document. document ≡ filled) }
+{
+    let known = document_called(entities, filled.name.as_str());
+    CompiledDocument::new_beside(alloc, filled, known)
+}
+
+// The first entity's policy of this name.
+fn document_called<'a>(entities: &'a [CompiledEntity], name: &str) -> Option<&'a CompiledDocument>
+    ensures { option_copied result
+        ≡ option_map entity_document (find (λ entity. is_document name.now entity.document) entities.now) }
+{
+    let entity = entities
+        .iter()
+        .find(|entity| entity.document.filled().name.as_str() == name)?;
+    Some(&entity.document)
 }
 
 // Gives the entity of this handle an authPolicy.

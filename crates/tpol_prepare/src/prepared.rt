@@ -94,7 +94,8 @@ fn fill_begun(
             return Err(Halt::NoMemory);
         }
     };
-    match fill_references(alloc, store, Some(&sight), references) {
+    let entities = compiled.entities.as_slice();
+    match fill_references(alloc, store, Some(&sight), entities, references) {
         Ok(begun) => {
             let CompiledSetup { setup, entities } = compiled;
             Ok(PreparedScene {

@@ -3,16 +3,20 @@ ghost use Rattle.tpol_digest.specs.Digest.{policy_digest, zero_digest};
 ghost use Rattle.tpol_digest.specs.Memos.{IsMemo};
 
 use crate::filled::FilledDocument;
+use crate::same_policy::is_same_policy;
 use std::alloc::Global;
 use std::marker::Model;
+use std::rc::Rc;
 use tpol_base::{Digest32, NoMemory};
 use tpol_digest::{Memo, memo_of, zero_digest};
+use tpol_tree::Closed;
 
-/// A filled policy document with its digests, each of which was computed once. Contracts see the document.
+/// A filled policy document with its digests, each of which was computed once; documents of the same policy can share
+/// them. Contracts see the document.
 #[derive(Drop)]
 pub struct CompiledDocument {
     filled: FilledDocument,
-    memo: Memo,
+    memo: Rc<Memo>,
 }
 
 impl Model for CompiledDocument {
@@ -28,7 +32,7 @@ impl Model for CompiledDocument {
 
     ghost view = { λ d. d.filled };
 
-    ghost invariant = { λ d. IsMemo d.filled.closed.elements zero_digest d.memo };
+    ghost invariant = { λ d. IsMemo d.filled.closed.elements zero_digest d.memo.value };
 }
 
 impl CompiledDocument {
@@ -36,7 +40,18 @@ impl CompiledDocument {
     pub fn new(alloc: Global, filled: FilledDocument) -> Result<CompiledDocument, NoMemory>
         ensures { IfOk result (λ document. document ≡ filled) }
     {
-        match memo_of(alloc, &filled.closed) {
+        CompiledDocument::new_beside(alloc, filled, None)
+    }
+
+    /// The same, where the digests are those of the other document if that has the same policy, and computed if not.
+    pub fn new_beside(
+        alloc: Global,
+        filled: FilledDocument,
+        other: Option<&CompiledDocument>,
+    ) -> Result<CompiledDocument, NoMemory>
+        ensures { IfOk result (λ document. document ≡ filled) }
+    {
+        match memo_beside(alloc, &filled.closed, other) {
             Ok(memo) => Ok(CompiledDocument { filled, memo }),
             Err(NoMemory) => {
                 drop(filled);
@@ -56,7 +71,7 @@ impl CompiledDocument {
     pub fn memo(&self) -> &Memo
         ensures { IsMemo self.now.closed.elements zero_digest result.now }
     {
-        &self.memo
+        self.memo.as_ref()
     }
 
     /// The digest of its policy.
@@ -64,5 +79,19 @@ impl CompiledDocument {
         ensures { result ≡ policy_digest self.now.closed }
     {
         self.memo.last(zero_digest())
+    }
+}
+
+// The digests of a policy: those of the other document if that has the same policy.
+fn memo_beside(
+    alloc: Global,
+    policy: &Closed,
+    other: Option<&CompiledDocument>,
+) -> Result<Rc<Memo>, NoMemory>
+    ensures { IfOk result (λ memo. IsMemo policy.now.elements zero_digest memo.value) }
+{
+    match other {
+        Some(other) if is_same_policy(policy, &other.filled.closed) => Ok(other.memo.clone()?),
+        _ => Ok(Rc::new(alloc, memo_of(alloc, policy)?)?),
     }
 }

@@ -19,6 +19,7 @@ mod limits;
 mod lines;
 mod read_step;
 mod refusals;
+mod same_policy;
 mod scene_step;
 mod store_step;
 
