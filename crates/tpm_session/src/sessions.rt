@@ -103,7 +103,7 @@ impl Sessions {
         ensures slots { self.new ≡ spec.with_state self.old handle None }
         ensures refused { IsNone result → self.new ≡ self.old }
     {
-        self.table.replace(handle, None)
+        self.table.take(handle)
     }
 
     /// Makes a session live again as it is.
@@ -112,7 +112,7 @@ impl Sessions {
         requires apart { spec.state_at self.old session.handle ≡ None }
         ensures { self.new ≡ spec.with_state self.old session.handle (Some session.state) }
     {
-        self.table.replace(session.handle(), Some(session));
+        self.table.put(session.handle(), session);
     }
 
     /// Drops the facts of a live session; its start and nonce stay. Answers whether the handle is live; where it

@@ -1,4 +1,4 @@
-ghost use Rattle.std.specs.Prelude.{◌≡◌, ℕ, ◌+◌, IfOk, None, is_some, replicate, true};
+ghost use Rattle.std.specs.Prelude.{◌≡◌, ℕ, ◌+◌, IfOk, None, Some, is_some, replicate, true};
 ghost use Rattle.std.specs.Int.{bit_at};
 ghost use Rattle.std.specs.Option.{option_copied};
 ghost use Rattle.tpm_session.specs.Slots as spec;
@@ -68,6 +68,33 @@ impl<T: Drop> Table<T> {
             return None;
         };
         std::mem::replace(slot, content)
+    }
+
+    /// Takes the content of a handle's slot out. For a handle of no slot nothing changes.
+    pub fn take(&mut self, handle: u32) -> Option<T>
+        ensures before { result ≡ spec.content_at self.old handle }
+        ensures slot { is_some result ≡ true → spec.IsSlotHandle handle }
+        ensures after { self.new ≡ spec.with_content self.old handle None }
+    {
+        if handle < FIRST_HANDLE {
+            return None;
+        }
+        let Some(slot) = self.slots.get_mut((handle - FIRST_HANDLE) as usize) else {
+            return None;
+        };
+        slot.take()
+    }
+
+    /// Puts a content into a handle's slot. For a handle of no slot nothing changes.
+    pub fn put(&mut self, handle: u32, content: T)
+        ensures after { self.new ≡ spec.with_content self.old handle (Some content) }
+    {
+        if handle < FIRST_HANDLE {
+            return;
+        }
+        if let Some(slot) = self.slots.get_mut((handle - FIRST_HANDLE) as usize) {
+            *slot = Some(content);
+        }
     }
 
     /// The slots that have something: bit k for slot k.

@@ -40,7 +40,7 @@ mutual
   element-erased (Or branches) d Rest Other alike memo.End = refl
   element-erased (Or branches) d Rest Other alike (memo.Plain' after p rest) = refl
   element-erased (Or branches) d Rest Other alike (memo.Or' after digests p kept q rest) =
-      λ i. ((after ≡ digest_at_element-erased (Or branches) d i) × ((digests ≡ branch_digests-erased branches d i) × branches-erased branches d kept i)) × alike rest i
+      λ i. ((after ≡ digest_at_element-erased (Or branches) d i) × (digests ≡ branch_digests-erased branches d i) × branches-erased branches d kept i) × alike rest i
 
   branches-erased : (branches : ClosedBranches) (d : Digest32) (kept : BranchMemos) → AreMemos (erased_branches branches) d kept ≡ AreMemos branches d kept
   branches-erased EndBranches d kept = refl

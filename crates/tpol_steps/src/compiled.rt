@@ -83,6 +83,7 @@ impl CompiledDocument {
 }
 
 // The digests of a policy: those of the other document if that has the same policy.
+#[tactic(auto, using(crate::proofs::SameMemos::memo_of_same))]
 fn memo_beside(
     alloc: Global,
     policy: &Closed,

@@ -9,7 +9,7 @@ pub invariant_of-self : goal.invariant_of-self
 invariant_of-self c =
     let table = c.self.inside.table in
     let session = c.args.session in
-    let made = c.replace.ensures.after
+    let made = c.put.ensures.after
     ∙ (ap (λ h. with_content table h (Some session)) c.handle.ensures
     ∙ with-numbered session_of state_of_view (λ handle a. refl) table session.handle (Some session.state) c.self.invariant) in
     numbered-is session_of state_of_view (λ handle a. refl) _ (with_content (plain state_of_view table) session.handle (Some session.state)) made
@@ -18,7 +18,7 @@ pub returns : goal.returns
 returns c =
     let table = c.self.inside.table in
     let session = c.args.session in
-    let made = c.replace.ensures.after
+    let made = c.put.ensures.after
     ∙ (ap (λ h. with_content table h (Some session)) c.handle.ensures
     ∙ with-numbered session_of state_of_view (λ handle a. refl) table session.handle (Some session.state) c.self.invariant) in
     numbered-plain session_of state_of_view (λ handle a. refl) _ (with_content (plain state_of_view table) session.handle (Some session.state)) made
