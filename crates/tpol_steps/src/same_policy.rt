@@ -65,6 +65,83 @@ fn is_same_assertion(a: &Assertion, b: &Assertion) -> bool
     ensures { IsTrue result → a.now ≡ b.now }
 {
     match (a, b) {
+        (Assertion::CommandCode(code), Assertion::CommandCode(other)) => code == other,
+        (Assertion::Locality(localities), Assertion::Locality(other)) => localities == other,
+        (Assertion::CpHash(digest), Assertion::CpHash(other))
+        | (Assertion::NameHash(digest), Assertion::NameHash(other)) => {
+            is_same_digest(digest, other)
+        }
+        (Assertion::NvWritten(written), Assertion::NvWritten(other)) => written == other,
+        (Assertion::AuthValue, Assertion::AuthValue)
+        | (Assertion::Password, Assertion::Password)
+        | (Assertion::PhysicalPresence, Assertion::PhysicalPresence) => true,
+        (
+            Assertion::Duplication {
+                object,
+                parent,
+                include,
+            },
+            Assertion::Duplication {
+                object: other_object,
+                parent: other_parent,
+                include: other_include,
+            },
+        ) => {
+            is_same_name(object, other_object)
+                && is_same_name(parent, other_parent)
+                && include == other_include
+        }
+        _ => is_same_authorization(a, b) || is_same_test(a, b),
+    }
+}
+
+// Whether both are PolicySecret, or both PolicySigned, with the same values.
+fn is_same_authorization(a: &Assertion, b: &Assertion) -> bool
+    ensures { IsTrue result → a.now ≡ b.now }
+{
+    match (a, b) {
+        (
+            Assertion::Secret {
+                entity: name,
+                policy_ref,
+                cp_hash,
+                expiration,
+            },
+            Assertion::Secret {
+                entity: other_name,
+                policy_ref: other_ref,
+                cp_hash: other_hash,
+                expiration: other_expiration,
+            },
+        )
+        | (
+            Assertion::Signed {
+                key: name,
+                policy_ref,
+                cp_hash,
+                expiration,
+            },
+            Assertion::Signed {
+                key: other_name,
+                policy_ref: other_ref,
+                cp_hash: other_hash,
+                expiration: other_expiration,
+            },
+        ) => {
+            is_same_name(name, other_name)
+                && are_same_bytes(policy_ref, other_ref)
+                && is_same_cp_hash(cp_hash, other_hash)
+                && expiration == other_expiration
+        }
+        _ => false,
+    }
+}
+
+// Whether both test the same values: of PCRs, of an index, or of the counters and the time.
+fn is_same_test(a: &Assertion, b: &Assertion) -> bool
+    ensures { IsTrue result → a.now ≡ b.now }
+{
+    match (a, b) {
         (
             Assertion::Pcr {
                 mask,
@@ -101,39 +178,6 @@ fn is_same_assertion(a: &Assertion, b: &Assertion) -> bool
                 && is_same_comparison(*operation, *other_operation)
         }
         (
-            Assertion::Secret {
-                entity: name,
-                policy_ref,
-                cp_hash,
-                expiration,
-            },
-            Assertion::Secret {
-                entity: other_name,
-                policy_ref: other_ref,
-                cp_hash: other_hash,
-                expiration: other_expiration,
-            },
-        )
-        | (
-            Assertion::Signed {
-                key: name,
-                policy_ref,
-                cp_hash,
-                expiration,
-            },
-            Assertion::Signed {
-                key: other_name,
-                policy_ref: other_ref,
-                cp_hash: other_hash,
-                expiration: other_expiration,
-            },
-        ) => {
-            is_same_name(name, other_name)
-                && are_same_bytes(policy_ref, other_ref)
-                && is_same_cp_hash(cp_hash, other_hash)
-                && expiration == other_expiration
-        }
-        (
             Assertion::CounterTimer {
                 operand,
                 offset,
@@ -148,32 +192,6 @@ fn is_same_assertion(a: &Assertion, b: &Assertion) -> bool
             are_same_bytes(operand, other_operand)
                 && offset == other_offset
                 && is_same_comparison(*operation, *other_operation)
-        }
-        (Assertion::CommandCode(code), Assertion::CommandCode(other)) => code == other,
-        (Assertion::Locality(localities), Assertion::Locality(other)) => localities == other,
-        (Assertion::CpHash(digest), Assertion::CpHash(other))
-        | (Assertion::NameHash(digest), Assertion::NameHash(other)) => {
-            is_same_digest(digest, other)
-        }
-        (Assertion::NvWritten(written), Assertion::NvWritten(other)) => written == other,
-        (Assertion::AuthValue, Assertion::AuthValue)
-        | (Assertion::Password, Assertion::Password)
-        | (Assertion::PhysicalPresence, Assertion::PhysicalPresence) => true,
-        (
-            Assertion::Duplication {
-                object,
-                parent,
-                include,
-            },
-            Assertion::Duplication {
-                object: other_object,
-                parent: other_parent,
-                include: other_include,
-            },
-        ) => {
-            is_same_name(object, other_object)
-                && is_same_name(parent, other_parent)
-                && include == other_include
         }
         _ => false,
     }
