@@ -6,9 +6,10 @@ use Rattle.tpol_tree.specs.declared.path.Move.{Move}
 use Rattle.tpol_tree.specs.declared.path.Move.TheVariants.{Assert, Or, Approve, ApproveNv}
 use Rattle.tpol_tree.specs.Bounds.{AssertionHasBounds, HasClosedBounds, NameHasBounds, ReferenceHasBounds}
 use Rattle.tpol_tree.specs.ClosedErased.{erased, erased_document}
-use Rattle.tpol_digest.specs.Digest.{policy_digest}
+use Rattle.tpol_digest.specs.Digest.{digest_of_moves, policy_digest}
 use Rattle.tpol_digest.specs.Inputs.{inputs_of_policy}
 use Rattle.tpol_digest.specs.Paths.{paths_of}
+use Rattle.tpol_digest.specs.Sound.{IsSound}
 use Rattle.tpol_digest.specs.WellFormed.{HasPcrDigest, HaveBranchCounts, IsWellFormed}
 
 -- ---- whichever memory a policy and its approved documents lie in
@@ -31,6 +32,18 @@ WellFormedIgnoresBoxes =
 abbrev pub BranchCountsIgnoreBoxes : Type 0
 BranchCountsIgnoreBoxes =
     (policy : Closed) (documents : List ApprovedDoc) → HaveBranchCounts (erased policy) (map erased_document documents) ↔ HaveBranchCounts policy documents
+
+-- ---- all branches meet
+
+-- each path leads a session to the policy's digest
+abbrev pub PathsGiveTheDigest : Type 0
+PathsGiveTheDigest =
+    (policy : Closed) (documents : List ApprovedDoc) → All (λ path. digest_of_moves path.moves ≡ policy_digest policy) (paths_of policy documents)
+
+-- each OR and each approval on a path meets the digest before it
+abbrev pub PathsAreSound : Type 0
+PathsAreSound =
+    (policy : Closed) (documents : List ApprovedDoc) → IsWellFormed policy documents → All (λ path. IsSound path.moves) (paths_of policy documents)
 
 -- ---- what holds of each policy command on a path
 

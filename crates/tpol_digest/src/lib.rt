@@ -26,7 +26,7 @@ pub use approval::{accepts, is_by_index, signature_of_key};
 pub use assertion::extend;
 pub use at_position::{has_or, path_at, path_at_with_memo};
 pub use inputs::{inputs_of, inputs_of_facts};
-pub use laws::{boxes_are_ignored, paths_have_bounds, paths_have_pcr_digests};
+pub use laws::{all_paths_meet, boxes_are_ignored, paths_have_bounds, paths_have_pcr_digests};
 pub use limits::{MAX_LEVELS, PathLimit, check_paths, count_element_ways, count_paths, count_ways};
 pub use memo::{Before, BeforeBranches, BranchMemos, Memo, memo_of};
 pub use moves::{digest_after_move, run_facts, run_path};

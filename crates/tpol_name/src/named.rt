@@ -7,9 +7,9 @@ ghost use Rattle.tpol_base.specs.declared.name.Name.{Name as EntityName};
 ghost use Rattle.tpol_name.specs.Areas.{index_name, object_name, with_written};
 
 use crate::{IndexEntry, ObjectEntry, nv_name_once_written, object_name};
-use std::alloc::{AllocError, Global};
+use std::alloc::Global;
 use std::marker::Model;
-use tpol_base::{ExactClone, Name, NoMemory, Sequence};
+use tpol_base::{Name, NoMemory, Sequence};
 
 /// An entity with the Name by which a directory lists it.
 pub trait HasName: Drop {
@@ -75,21 +75,6 @@ impl<T: HasName> Model for Named<T> {
     ghost view = { λ n. n.entries };
 
     ghost invariant = { λ n. n.names ≡ map T.name_of n.entries };
-}
-
-impl<T: HasName + ExactClone> Clone for Named<T> {
-    ghost is_clone = { λ named copy. copy ≡ named };
-
-    fn clone(&self) -> Result<Named<T>, AllocError> {
-        Ok(Named {
-            entries: self.entries.clone()?,
-            names: self.names.clone()?,
-        })
-    }
-}
-
-impl<T: HasName + ExactClone> ExactClone for Named<T> {
-    ghost same = { λ _ _ same. same };
 }
 
 impl<T: HasName> Named<T> {

@@ -4,8 +4,8 @@ ghost use Rattle.std.specs.Prelude.{◌≡◌, IfOk};
 ghost use Rattle.tpol_name.specs.Setups.{IsSetup, IsSight, first_sight};
 
 use crate::{NamedIndices, NamedObjects, Setup};
-use std::alloc::{AllocError, Global};
-use tpol_base::{Blob, Digests, ExactClone, NoMemory};
+use std::alloc::Global;
+use tpol_base::{Blob, Digests, NoMemory};
 
 /// The number of sessions that a machine can keep alive.
 const SESSIONS: u32 = 64;
@@ -27,32 +27,6 @@ pub struct Sight {
     pub safe: bool,
     pub presence: bool,
     pub free_sessions: u32,
-}
-
-impl Clone for Sight {
-    ghost is_clone = { λ sight copy. copy ≡ sight };
-
-    fn clone(&self) -> Result<Sight, AllocError> {
-        Ok(Sight {
-            objects: self.objects.clone()?,
-            indices: self.indices.clone()?,
-            owner: self.owner.clone()?,
-            endorsement: self.endorsement.clone()?,
-            lockout: self.lockout.clone()?,
-            pcrs: self.pcrs.clone()?,
-            pcr_counter: self.pcr_counter,
-            time: self.time,
-            reset_count: self.reset_count,
-            restart_count: self.restart_count,
-            safe: self.safe,
-            presence: self.presence,
-            free_sessions: self.free_sessions,
-        })
-    }
-}
-
-impl ExactClone for Sight {
-    ghost same = { λ _ _ same. same };
 }
 
 /// What a machine shows that just started from this setup.
