@@ -27,10 +27,10 @@ pub fn check_ticket(proof: &Digest32, digest: &Digest32, key: &Name, given: &[u8
     given == verified_ticket(proof, digest, key).bytes.as_slice()
 }
 
-/// The ticket of PolicySecret (tag 8023) and PolicySigned (tag 8025), which PolicyTicket takes in their
-/// place: the HMAC over the tag, the deadline in milliseconds, the machine's reset count, cpHashA, policyRef
-/// and the entity's Name, each of the last three behind its length. The order is this project's own
-/// (compare TPM 2.0 Part 2, TPMT_TK_AUTH).
+/// The ticket of PolicySecret (TPM_ST_AUTH_SECRET, 0x8023) and PolicySigned (TPM_ST_AUTH_SIGNED, 0x8025), which
+/// PolicyTicket takes in their place: the HMAC over the tag, the deadline in milliseconds, the machine's reset
+/// count, cpHashA, policyRef and the entity's Name, each of the last three behind its length. The order is this
+/// project's own (compare TPM 2.0 Part 2, TPMT_TK_AUTH).
 pub fn auth_ticket(
     proof: &Digest32,
     tag: u16,

@@ -95,7 +95,7 @@ impl Saved {
         self.table.clear();
     }
 
-    /// The slots of saved sessions: bit k for the handle 03000000 + k.
+    /// The slots of saved sessions: bit k for the handle 0x0300_0000 + k.
     pub fn slots(&self) -> u64
         ensures value { result ≡ slots.bits_of self.now }
         ensures bits { (slot : ℕ)

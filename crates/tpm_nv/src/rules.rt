@@ -14,7 +14,8 @@ use tpol_base::response_code::{
 use tpol_name::{IndexEntry, written};
 
 /// Whether bytes of this index can be read (TPM 2.0 Part 3, TPM2_NV_Read). Refuses with the first that
-/// holds: it was never written, 14a; the offset is past its end, 2c4; the bytes are, 146.
+/// holds: it was never written, TPM_RC_NV_UNINITIALIZED (0x14a); the offset is past its end, TPM_RC_VALUE,
+/// parameter 2 (0x2c4); the bytes are, TPM_RC_NV_RANGE (0x146).
 pub fn check_read(entry: &IndexEntry, offset: u16, size: u16) -> Result<(), Rc>
     ensures ok { OnOk result (read_rule entry.now offset size ≡ None) }
     ensures refused { IfErr result (λ rc. read_rule entry.now offset size ≡ Some rc.code) }
@@ -37,8 +38,9 @@ pub fn check_read(entry: &IndexEntry, offset: u16, size: u16) -> Result<(), Rc>
 }
 
 /// Whether so many bytes can be written to this index (TPM 2.0 Part 3, TPM2_NV_Write). Refuses with the
-/// first that holds: it is not of the type ordinary, 282; the offset is past its end, 2c4; the bytes are, or
-/// the index takes only a whole content and they are fewer, 146.
+/// first that holds: it is not of the type ordinary, TPM_RC_ATTRIBUTES, handle 2 (0x282); the offset is past its
+/// end, TPM_RC_VALUE, parameter 2 (0x2c4); the bytes are, or the index takes only a whole content and they are
+/// fewer, TPM_RC_NV_RANGE (0x146).
 pub fn check_write(entry: &IndexEntry, offset: u16, count: usize) -> Result<(), Rc>
     ensures ok { OnOk result (write_rule entry.now offset count ≡ None) }
     ensures refused { IfErr result (λ rc. write_rule entry.now offset count ≡ Some rc.code) }
@@ -76,8 +78,8 @@ pub fn written_count(entry: &IndexEntry) -> Option<u64>
 }
 
 /// The count after an increment of this index, where `greatest` is the greatest count of all written
-/// counters (TPM 2.0 Part 3, TPM2_NV_Increment). Refuses with the first that holds: it is no counter, 282;
-/// the count before is the last one, 146.
+/// counters (TPM 2.0 Part 3, TPM2_NV_Increment). Refuses with the first that holds: it is no counter,
+/// TPM_RC_ATTRIBUTES, handle 2 (0x282); the count before is the last one, TPM_RC_NV_RANGE (0x146).
 pub fn next_count(entry: &IndexEntry, greatest: u64) -> Result<u64, Rc>
     requires content { HasContent entry.now }
     ensures next { IfOk result (λ next. next ≡ count_before greatest entry.now + 1) }

@@ -14,10 +14,11 @@ use tpol_base::constants::TPM_ST_AUTH_SECRET;
 use tpol_base::{Blob, Digest32, Name, Rc};
 use tpol_tree::{Assertion, Fact, Move};
 
-/// Takes a ticket in the place of the PolicySecret (tag 8023) or PolicySigned (tag 8025) that answered it; times
-/// are in milliseconds. Answers TPM_RC_EXPIRED, parameter 1, where the deadline has passed, TPM_RC_CPHASH where
-/// the slot does not take the cpHashA, and TPM_RC_TICKET, parameter 5, where the ticket is not the one that the
-/// machine made under its proof for these values since the last TPM Reset.
+/// Takes a ticket in the place of the PolicySecret (TPM_ST_AUTH_SECRET, 0x8023) or PolicySigned
+/// (TPM_ST_AUTH_SIGNED, 0x8025) that answered it; times are in milliseconds. Answers TPM_RC_EXPIRED, parameter 1,
+/// where the deadline has passed, TPM_RC_CPHASH where the slot does not take the cpHashA, and TPM_RC_TICKET,
+/// parameter 5, where the ticket is not the one that the machine made under its proof for these values since the
+/// last TPM Reset.
 pub fn assert_ticket(
     session: &mut Session,
     event: u32,

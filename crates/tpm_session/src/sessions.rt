@@ -11,7 +11,7 @@ use tpol_base::{Digest32, NoMemory};
 use tpol_tree::Facts;
 
 /// The policy sessions of a TPM; contracts see its 64 slots in order, each with the state of a live session
-/// or none. The session in slot k has the handle 03000000 + k. Only `new` takes memory.
+/// or none. The session in slot k has the handle 0x0300_0000 + k. Only `new` takes memory.
 #[derive(Drop)]
 pub struct Sessions {
     table: Table<Session>,

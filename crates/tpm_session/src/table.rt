@@ -13,7 +13,7 @@ pub const FIRST_HANDLE: u32 = 0x0300_0000;
 /// The number of slots: of policy sessions that can be live at one time.
 pub const SLOT_COUNT: u32 = 64;
 
-/// A table of the 64 slots of policy sessions, found by handle: slot k is that of the handle 03000000 + k.
+/// A table of the 64 slots of policy sessions, found by handle: slot k is that of the handle 0x0300_0000 + k.
 /// Contracts see the list of what each slot has, if anything. Only `new` takes memory.
 #[derive(Drop)]
 pub struct Table<T> {

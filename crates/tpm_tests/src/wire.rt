@@ -6,7 +6,7 @@ use tpol_wire::{
     read_reply, write_command, write_reply,
 };
 
-/// PolicyAuthValue of the session 03000000.
+/// PolicyAuthValue of the session 0x0300_0000.
 const AUTH_VALUE: [u8; 14] = [0x80, 0x01, 0, 0, 0, 14, 0, 0, 0x01, 0x6b, 0x03, 0, 0, 0];
 
 /// NV_Read of 1,024 bytes at offset 16.

@@ -48,8 +48,8 @@ impl World {
     }
 }
 
-/// The nonce that a session gets that is started or used at this event: the hash of the seed, `4e4f4e43` and
-/// the event's number.
+/// The nonce that a session gets that is started or used at this event: the hash of the seed, 0x4e4f4e43
+/// (`NONC`) and the event's number.
 #[tactic(auto, unfolding(crate::specs::Hashes::nonce_of_event))]
 pub fn nonce_of_event(seed: &Digest32, event: u32) -> Digest32
     ensures nonce { result ≡ spec.nonce_of_event seed.now event }
@@ -62,7 +62,7 @@ pub fn nonce_of_event(seed: &Digest32, event: u32) -> Digest32
 }
 
 /// The proof of a machine with this seed, which is the key of all its tickets: the hash of the seed and
-/// `50524f46`.
+/// 0x50524f46 (`PROF`).
 #[tactic(auto, unfolding(crate::specs::Hashes::proof_of))]
 pub fn proof_of(seed: &Digest32) -> Digest32
     ensures proof { result ≡ spec.proof_of seed.now }
@@ -73,8 +73,8 @@ pub fn proof_of(seed: &Digest32) -> Digest32
     hasher.done()
 }
 
-/// The HMAC by which a machine with this proof knows the context of a saved session again: over `43545853`,
-/// the sequence and the session's handle.
+/// The HMAC by which a machine with this proof knows the context of a saved session again: over 0x43545853
+/// (`CTXS`), the sequence and the session's handle.
 #[tactic(auto, unfolding(crate::specs::Hashes::context_mac))]
 pub fn context_mac(proof: &Digest32, sequence: u64, handle: u32) -> Digest32
     ensures mac { result ≡ spec.context_mac proof.now sequence handle }

@@ -21,15 +21,15 @@ pub const TPM_RH_ENDORSEMENT: u32 = 0x4000_000b;
 /// What a handle stands for, as its first byte tells (TPM 2.0 Part 2, TPM_HT).
 #[derive(Clone, Copy, Debug, PartialEq, Eq)]
 pub enum HandleKind {
-    /// A PCR: 0 to 23.
+    /// A PCR: 0 to 23 (TPM_HT_PCR, 0x00 in front).
     Pcr,
-    /// An NV index: 01 in front.
+    /// An NV index: 0x01 in front (TPM_HT_NV_INDEX).
     Index,
-    /// A policy session: 03 in front.
+    /// A policy session: 0x03 in front (TPM_HT_POLICY_SESSION).
     PolicySession,
-    /// A hierarchy, or another handle that is always there: 40 in front.
+    /// A hierarchy, or another handle that is always there: 0x40 in front (TPM_HT_PERMANENT).
     Permanent,
-    /// A loaded object: 80 in front.
+    /// A loaded object: 0x80 in front (TPM_HT_TRANSIENT).
     Object,
 }
 

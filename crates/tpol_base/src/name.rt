@@ -10,7 +10,7 @@ use std::alloc::Global;
 use std::marker::Model;
 
 /// The Name of an entity (TPM 2.0 Part 1, "Names"). Its bytes are nothing, the four bytes of a handle
-/// (hierarchies, PCRs, sessions), or the two bytes `000b` of SHA-256 and a digest (objects and indices).
+/// (hierarchies, PCRs, sessions), or the two bytes of TPM_ALG_SHA256 (0x000b) and a digest (objects and indices).
 #[derive(Clone, Copy, PartialEq, Eq)]
 pub enum Name {
     /// No Name, where an entity has none.

@@ -14,7 +14,7 @@ use tpol_goal::{Goal, Grants, Secrets};
 use tpol_name::{DirEntry, Directory};
 use tpol_tree::{Assertion, Move, Moves, Path, PathSteps, Paths};
 
-/// The reply to StartAuthSession: the session 03000000.
+/// The reply to StartAuthSession: the session 0x0300_0000.
 const STARTED: &[u8] =
     b"\x80\x01\x00\x00\x00\x30\x00\x00\x00\x00\x03\x00\x00\x00\x00\x20\x6c\x61\x82\x7e\
       \x1e\x31\xe4\x67\xf7\xf1\xb9\xa2\xac\x88\x71\x17\x89\x03\xd6\xd7\xc8\x07\x6f\x46\
@@ -29,7 +29,7 @@ const PCRS: &[u8] =
 /// Its digest.
 const OF_PCRS: Digest32 = Digest32 { bytes: [0x0b; 32] };
 
-/// PolicyPCR refused: 000001c4.
+/// PolicyPCR refused: 0x1c4 (TPM_RC_VALUE, parameter 1).
 const NOT_THE_PCRS: &[u8] = b"\x80\x01\x00\x00\x00\x0a\x00\x00\x01\xc4";
 
 /// PolicyRestart.
@@ -78,7 +78,7 @@ const UNSEALED: &[u8] =
 /// FlushContext.
 const FLUSH: &[u8] = b"\x80\x01\x00\x00\x00\x0e\x00\x00\x01\x65\x03\x00\x00\x00";
 
-/// PolicyRestart refused: 00000910.
+/// PolicyRestart refused: 0x910 (TPM_RC_REFERENCE_H0).
 const NO_RESTART: &[u8] = b"\x80\x01\x00\x00\x00\x0a\x00\x00\x09\x10";
 
 /// What Unseal gives.

@@ -19,7 +19,7 @@ pub const START: &[u8] =
 /// The reply without fields.
 pub const OK: &[u8] = b"\x80\x01\x00\x00\x00\x0a\x00\x00\x00\x00";
 
-/// Unseal refused: 000009a3.
+/// Unseal refused: 0x9a3 (TPM_RC_EXPIRED, session 1).
 pub const DENIED: &[u8] = b"\x80\x01\x00\x00\x00\x0a\x00\x00\x09\xa3";
 
 /// The nonce seed of the run.

@@ -174,7 +174,7 @@ pub fn signed(cursor: &mut Cursor, n: u8) -> Result<i32, Rc>
     Ok(number.cast_signed())
 }
 
-/// The byte 00 or 01.
+/// The byte 0x00 or 0x01 (TPMI_YES_NO).
 pub fn truth(cursor: &mut Cursor, n: u8) -> Result<bool, Rc>
     ensures { ReadsInPlace result (read (of_parameter n) Truth cursor.old) cursor.new }
 {

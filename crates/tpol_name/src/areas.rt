@@ -51,7 +51,8 @@ impl ExactClone for NvPublic {
     ghost same = { Prim.search rules };
 }
 
-/// The Name of an object: `000b` and the SHA-256 of its public area (TPM 2.0 Part 1, "Names").
+/// The Name of an object: TPM_ALG_SHA256 (0x000b) and the SHA-256 of its public area (TPM 2.0 Part 1,
+/// "Names").
 pub fn object_name(public: &ObjectPublic) -> Name
     ensures name { result ≡ object_name public.now }
 {
@@ -93,7 +94,8 @@ pub fn object_name_of_parts(
     Name::Hash(hasher.done())
 }
 
-/// The Name of an NV index: `000b` and the SHA-256 of its public area (TPM 2.0 Part 1, "Names").
+/// The Name of an NV index: TPM_ALG_SHA256 (0x000b) and the SHA-256 of its public area (TPM 2.0 Part 1,
+/// "Names").
 pub fn nv_name(public: &NvPublic) -> Name
     ensures name { result ≡ index_name public.now }
 {

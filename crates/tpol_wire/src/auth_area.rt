@@ -3,7 +3,7 @@ use tpol_base::Blob;
 /// A command's authorization (TPM 2.0 Part 2, TPMS_AUTH_COMMAND).
 #[derive(Drop)]
 pub struct AuthArea {
-    /// The password's handle 40000009, or a policy session.
+    /// TPM_RS_PW (0x4000_0009) for a password, or a policy session.
     pub session: u32,
     /// The caller's nonce, at most 32 bytes; empty with a password.
     pub nonce: Blob,

@@ -132,10 +132,10 @@ fn whole(alloc: Global, bytes: &[u8]) -> Result<Command, WireFault>
 /// "Command Processing"). The rules in order:
 ///
 /// 1. the buffer has 10 to 4,096 bytes, and its size field says how many;
-/// 2. the tag is 8001 or 8002;
+/// 2. the tag is TPM_ST_NO_SESSIONS (0x8001) or TPM_ST_SESSIONS (0x8002);
 /// 3. the code is one of the table;
 /// 4. each handle is there and of its kind;
-/// 5. the tag is 8002 exactly where the row has an authorization;
+/// 5. the tag is TPM_ST_SESSIONS exactly where the row has an authorization;
 /// 6. the authorization is one well-formed area within its bounds;
 /// 7. each parameter is there and within its bounds;
 /// 8. no bytes are left over.
