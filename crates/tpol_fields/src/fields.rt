@@ -1,5 +1,12 @@
 //! Readers of single fields from the front of what a cursor has left. Each refuses with the code of the
 //! field and its position (TPM 2.0 Part 2, "Response Code Formats").
+//!
+//! `n` is the position: the number of the handle for `handle`, and of the parameter for all others, from 1. The parts
+//! of a field are read in order, and the first that is wrong gives the code: TPM_RC_INSUFFICIENT where the bytes end
+//! too early; TPM_RC_SIZE for a length or a count that the field may not have, and for the bytes of no Name;
+//! TPM_RC_HASH for an algorithm that is not taken for a hash; TPM_RC_VALUE for any other number out of its range, and
+//! for a ticket that does not go with its deadline. Bytes behind a field are left to the next one. A reader that
+//! copies answers `NoMemory` too, where memory ran out; one that answers `Rc` copies nothing.
 #![tactic(auto, unfolding(crate::specs::Kinds::read, crate::specs::Kinds::sized_at, crate::specs::Kinds::listed_digest, crate::specs::Kinds::ticket_at, crate::specs::Kinds::timeout_at))]
 
 ghost use Rattle.std.specs.Prelude.{◌≡◌, ◌+◌, ◌*◌, ◌<◌, ◌==◌, nat_le, length, IfOk};

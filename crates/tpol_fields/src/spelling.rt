@@ -1,4 +1,4 @@
-//! Writers of single fields, at the end of bytes.
+//! Writers of single fields, at the end of bytes (TPM 2.0 Part 2). They fail only where memory ran out.
 #![tactic(auto, unfolding(crate::specs::Kinds::spell))]
 
 ghost use Rattle.std.specs.Prelude.{◌++◌, length};

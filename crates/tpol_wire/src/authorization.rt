@@ -75,7 +75,9 @@ fn sized_parts<'a>(cursor: &mut Cursor<'a>) -> Option<(u32, Tail<'a>)>
     parts(area)
 }
 
-/// The first rule that an area breaks.
+/// The first rule that an area breaks, with the position of session 1: TPM_RC_SIZE for a nonce of more than 32 bytes
+/// or an hmac of more than 64; TPM_RC_VALUE for a handle that is neither TPM_RS_PW nor one of a policy session;
+/// TPM_RC_ATTRIBUTES for an attribute beside continueSession; TPM_RC_NONCE for a nonce with a password.
 fn judge(session: u32, tail: &Tail) -> Result<(), WireFault>
     ensures { let area = area_with session tail.now.nonce.now tail.now.attributes tail.now.hmac.now
         in
@@ -96,7 +98,9 @@ fn judge(session: u32, tail: &Tail) -> Result<(), WireFault>
     Ok(())
 }
 
-/// The authorization of a command that takes one; `tagged` says whether the tag announces it.
+/// The authorization of a command that takes one; `tagged` says whether the tag announces it: else
+/// TPM_RC_AUTH_MISSING. TPM_RC_AUTHSIZE comes where the bytes are not one area of the size that stands before it, and
+/// then the code of the first rule that the area breaks.
 pub(crate) fn read(alloc: Global, tagged: bool, cursor: &mut Cursor) -> Result<AuthArea, WireFault>
     ensures { Reads result (area_at tagged cursor.old) cursor.new }
 {
@@ -115,7 +119,7 @@ pub(crate) fn read(alloc: Global, tagged: bool, cursor: &mut Cursor) -> Result<A
     })
 }
 
-/// A command that takes no authorization: the tag announces none.
+/// A command that takes no authorization: the tag announces none, else TPM_RC_AUTH_CONTEXT.
 pub(crate) fn none(tagged: bool) -> Result<(), WireFault>
     ensures { Gives result (no_area tagged) }
 {

@@ -28,7 +28,8 @@ use tpol_fields::fields::refused;
 /// The longest command.
 const MOST: usize = 4096;
 
-/// The command's code, and whether the tag announces an authorization.
+/// The command's code, and whether the tag announces an authorization. The first fault is TPM_RC_COMMAND_SIZE,
+/// TPM_RC_BAD_TAG or TPM_RC_COMMAND_CODE, in this order.
 #[tactic(auto, unfolding(crate::specs::Reading::header_of))]
 fn header(cursor: &mut Cursor) -> Result<(CommandCode, bool), WireFault>
     ensures head { Gives result (header_of cursor.old) }

@@ -1,4 +1,4 @@
-//! Replies as bytes.
+//! Replies as bytes (TPM 2.0 Part 1, "Response Structure"). Writing fails only where memory ran out.
 
 ghost use Rattle.std.specs.Prelude.{◌≡◌, ℕ, IfOk, option_copied};
 ghost use Rattle.tpol_wire.specs.Replies.{FitsReply, PartsAnswer, SpellsReply, answered_by, parts_of, reply_body, reply_fields_of, spell_reply};

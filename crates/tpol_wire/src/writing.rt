@@ -1,4 +1,4 @@
-//! Commands as bytes.
+//! Commands as bytes (TPM 2.0 Part 1, "Command Structure"). Writing fails only where memory ran out.
 
 ghost use Rattle.std.specs.Prelude.{◌≡◌, IfOk, false};
 ghost use Rattle.tpol_base.specs.CommandCode.{number_of_code};

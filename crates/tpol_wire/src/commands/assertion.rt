@@ -24,7 +24,8 @@ pub(crate) struct Assertion {
     pub(crate) expiration: i32,
 }
 
-/// Reads the common parameters.
+/// Reads the common parameters, 1 to 4: a nonce of at most 32 bytes, a cpHashA of 0 or 32, a policyRef of at most
+/// 64, and the expiration.
 pub(crate) fn read(alloc: Global, cursor: &mut Cursor) -> Result<Assertion, WireFault>
     ensures secret { ReadsAs (λ found.
         (found.nonce, (found.cp_hash, (found.policy_ref, (found.expiration, tt))))) result

@@ -12,7 +12,7 @@ use std::alloc::Global;
 use tpol_base::{Blob, Compare, Cursor, NoMemory};
 use tpol_fields::{WireFault, fields, spelling};
 
-/// Reads the operand, the offset and the operation.
+/// Reads them as the parameters 1 to 3: an operand of at most 64 bytes, the offset, and an operation (TPM_EO).
 pub(crate) fn read(alloc: Global, cursor: &mut Cursor) -> Result<(Blob, u16, Compare), WireFault>
     ensures { ReadsAs (λ found. (found.0, (found.1, (found.2, tt)))) result
         (values_at (of_parameter 1) comparison cursor.old) cursor.new }

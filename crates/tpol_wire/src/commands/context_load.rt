@@ -12,7 +12,7 @@ use crate::reply::Reply;
 use tpol_base::{Blob, CommandCode, Cursor, Digest32, NoMemory};
 use tpol_fields::{HandleType, WireFault, fields, spelling};
 
-/// Reads the parameter.
+/// Reads the parameter: the context of a policy session.
 pub(crate) fn read(tagged: bool, cursor: &mut Cursor) -> Result<Command, WireFault>
     ensures { Reads result (body_at CommandCode.ContextLoad tagged cursor.old) cursor.new }
 {

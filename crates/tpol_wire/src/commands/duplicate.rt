@@ -15,7 +15,8 @@ use tpol_base::response_code::VALUE;
 use tpol_base::{Blob, CommandCode, Cursor, NoMemory};
 use tpol_fields::{HandleType, WireFault, fields, spelling};
 
-/// Reads the handles, the authorization and the parameters.
+/// Reads the handles, the authorization and the parameters: encryptionKeyIn, which is empty (TPM_RC_SIZE), and
+/// symmetricAlg, which is TPM_ALG_NULL (TPM_RC_VALUE).
 pub(crate) fn read(alloc: Global, tagged: bool, cursor: &mut Cursor) -> Result<Command, WireFault>
     ensures { Reads result (body_at CommandCode.Duplicate tagged cursor.old) cursor.new }
 {
@@ -40,7 +41,7 @@ pub(crate) fn write(out: &mut Blob) -> Result<(), NoMemory>
     spelling::number16(out, TPM_ALG_NULL)
 }
 
-/// Reads the fields of the reply.
+/// Reads the fields of the reply: no encryptionKeyOut, a duplicate of at most 1,024 bytes, and no outSymSeed.
 pub(crate) fn read_reply(alloc: Global, cursor: &mut Cursor) -> Result<Reply, WireFault>
     ensures { Reads result (reply_at CommandCode.Duplicate cursor.old) cursor.new }
 {

@@ -11,7 +11,7 @@ use crate::command::Command;
 use tpol_base::{Blob, CommandCode, Cursor, NoMemory};
 use tpol_fields::{HandleType, WireFault, fields, spelling};
 
-/// Reads the parameter.
+/// Reads the parameter: a policy session, which is no handle here (TPM_RC_VALUE, parameter 1).
 pub(crate) fn read(tagged: bool, cursor: &mut Cursor) -> Result<Command, WireFault>
     ensures { Reads result (body_at CommandCode.FlushContext tagged cursor.old) cursor.new }
 {

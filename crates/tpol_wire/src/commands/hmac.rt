@@ -13,7 +13,7 @@ use std::alloc::Global;
 use tpol_base::{Blob, CommandCode, Cursor, Digest32, NoMemory};
 use tpol_fields::{HandleType, WireFault, fields, spelling};
 
-/// Reads the handle, the authorization and the parameters.
+/// Reads the handle, the authorization and the parameters: a buffer of at most 1,024 bytes, and hashAlg.
 pub(crate) fn read(alloc: Global, tagged: bool, cursor: &mut Cursor) -> Result<Command, WireFault>
     ensures { Reads result (body_at CommandCode.Hmac tagged cursor.old) cursor.new }
 {

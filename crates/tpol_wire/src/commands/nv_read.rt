@@ -13,7 +13,7 @@ use std::alloc::Global;
 use tpol_base::{Blob, CommandCode, Cursor, NoMemory};
 use tpol_fields::{HandleType, WireFault, fields, spelling};
 
-/// Reads the handles, the authorization and the parameters.
+/// Reads the handles, the authorization and the parameters: a size of at most 1,024 (TPM_RC_VALUE), and the offset.
 pub(crate) fn read(alloc: Global, tagged: bool, cursor: &mut Cursor) -> Result<Command, WireFault>
     ensures { Reads result (body_at CommandCode.NvRead tagged cursor.old) cursor.new }
 {

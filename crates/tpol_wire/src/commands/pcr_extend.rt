@@ -12,7 +12,7 @@ use std::alloc::Global;
 use tpol_base::{Blob, CommandCode, Cursor, Digest32, NoMemory};
 use tpol_fields::{HandleType, WireFault, fields, spelling};
 
-/// Reads the handle, the authorization and the parameter.
+/// Reads the handle, the authorization and the parameter: one digest, of SHA-256.
 pub(crate) fn read(alloc: Global, tagged: bool, cursor: &mut Cursor) -> Result<Command, WireFault>
     ensures { Reads result (body_at CommandCode.PcrExtend tagged cursor.old) cursor.new }
 {

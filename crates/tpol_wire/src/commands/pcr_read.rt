@@ -13,7 +13,7 @@ use std::alloc::Global;
 use tpol_base::{Blob, CommandCode, Cursor, Digests, NoMemory};
 use tpol_fields::{WireFault, fields, spelling};
 
-/// Reads the parameter.
+/// Reads the parameter: one selection, of SHA-256.
 pub(crate) fn read(tagged: bool, cursor: &mut Cursor) -> Result<Command, WireFault>
     ensures { Reads result (body_at CommandCode.PcrRead tagged cursor.old) cursor.new }
 {
@@ -30,7 +30,7 @@ pub(crate) fn write(out: &mut Blob, mask: u32) -> Result<(), NoMemory>
     spelling::selection(out, mask)
 }
 
-/// Reads the fields of the reply.
+/// Reads the fields of the reply: the update counter, one selection, and at most 8 digests.
 pub(crate) fn read_reply(alloc: Global, cursor: &mut Cursor) -> Result<Reply, WireFault>
     ensures { Reads result (reply_at CommandCode.PcrRead cursor.old) cursor.new }
 {

@@ -10,7 +10,7 @@ use std::alloc::Global;
 use tpol_base::{CommandCode, Cursor};
 use tpol_fields::WireFault;
 
-/// Reads the handle and the parameters.
+/// Reads the handle and the parameters, those of `comparison`.
 pub(crate) fn read(alloc: Global, tagged: bool, cursor: &mut Cursor) -> Result<Command, WireFault>
     ensures { Reads result (body_at CommandCode.PolicyCounterTimer tagged cursor.old) cursor.new }
 {

@@ -11,7 +11,7 @@ use crate::commands::session;
 use tpol_base::{Blob, CommandCode, Cursor, Digest32, NoMemory};
 use tpol_fields::{WireFault, fields, spelling};
 
-/// Reads the handle and the parameter.
+/// Reads the handle and the parameter: a cpHashA of 32 bytes.
 pub(crate) fn read(tagged: bool, cursor: &mut Cursor) -> Result<Command, WireFault>
     ensures { Reads result (body_at CommandCode.PolicyCpHash tagged cursor.old) cursor.new }
 {

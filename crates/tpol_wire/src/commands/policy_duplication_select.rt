@@ -11,7 +11,7 @@ use crate::commands::session;
 use tpol_base::{Blob, CommandCode, Cursor, Name, NoMemory};
 use tpol_fields::{WireFault, fields, spelling};
 
-/// Reads the handle and the parameters.
+/// Reads the handle and the parameters: objectName, newParentName and includeObject.
 pub(crate) fn read(tagged: bool, cursor: &mut Cursor) -> Result<Command, WireFault>
     ensures { Reads result (body_at CommandCode.PolicyDuplicationSelect tagged cursor.old)
         cursor.new }

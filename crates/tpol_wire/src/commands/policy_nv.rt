@@ -11,7 +11,7 @@ use std::alloc::Global;
 use tpol_base::{CommandCode, Cursor};
 use tpol_fields::{HandleType, WireFault, fields};
 
-/// Reads the handles, the authorization and the parameters.
+/// Reads the handles, the authorization and the parameters, those of `comparison`.
 pub(crate) fn read(alloc: Global, tagged: bool, cursor: &mut Cursor) -> Result<Command, WireFault>
     ensures { Reads result (body_at CommandCode.PolicyNv tagged cursor.old) cursor.new }
 {

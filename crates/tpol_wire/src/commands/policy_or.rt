@@ -12,7 +12,7 @@ use std::alloc::Global;
 use tpol_base::{Blob, CommandCode, Cursor, Digests, NoMemory};
 use tpol_fields::{WireFault, fields, spelling};
 
-/// Reads the handle and the parameter.
+/// Reads the handle and the parameter: 2 to 8 digests of 32 bytes, another count being TPM_RC_SIZE.
 pub(crate) fn read(alloc: Global, tagged: bool, cursor: &mut Cursor) -> Result<Command, WireFault>
     ensures { Reads result (body_at CommandCode.PolicyOr tagged cursor.old) cursor.new }
 {

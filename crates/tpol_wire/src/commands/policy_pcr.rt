@@ -11,7 +11,7 @@ use crate::commands::session;
 use tpol_base::{Blob, CommandCode, Cursor, Digest32, NoMemory};
 use tpol_fields::{WireFault, fields, spelling};
 
-/// Reads the handle and the parameters.
+/// Reads the handle and the parameters: a pcrDigest of 0 or 32 bytes, and one selection, of SHA-256.
 pub(crate) fn read(tagged: bool, cursor: &mut Cursor) -> Result<Command, WireFault>
     ensures { Reads result (body_at CommandCode.PolicyPcr tagged cursor.old) cursor.new }
 {

@@ -16,7 +16,7 @@ use tpol_base::constants::TPM_ST_AUTH_SECRET;
 use tpol_base::{Blob, CommandCode, Cursor, NoMemory};
 use tpol_fields::{HandleType, Ticket, WireFault, fields, spelling};
 
-/// Reads the handles, the authorization and the parameters.
+/// Reads the handles, the authorization and the parameters, those of `assertion`.
 pub(crate) fn read(alloc: Global, tagged: bool, cursor: &mut Cursor) -> Result<Command, WireFault>
     ensures { Reads result (body_at CommandCode.PolicySecret tagged cursor.old) cursor.new }
 {
@@ -40,7 +40,7 @@ pub(crate) fn read(alloc: Global, tagged: bool, cursor: &mut Cursor) -> Result<C
     })
 }
 
-/// Reads the fields of the reply.
+/// Reads the fields of the reply: a deadline or none, and the ticket that goes with it.
 pub(crate) fn read_reply(alloc: Global, cursor: &mut Cursor) -> Result<Reply, WireFault>
     ensures { Reads result (reply_at CommandCode.PolicySecret cursor.old) cursor.new }
 {

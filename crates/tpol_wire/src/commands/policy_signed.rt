@@ -15,7 +15,7 @@ use tpol_base::constants::TPM_ST_AUTH_SIGNED;
 use tpol_base::{Blob, CommandCode, Cursor, Digest32, NoMemory};
 use tpol_fields::{HandleType, Ticket, WireFault, fields, spelling};
 
-/// Reads the handles and the parameters.
+/// Reads the handles and the parameters: those of `assertion`, and a signature by an HMAC with SHA-256.
 pub(crate) fn read(alloc: Global, tagged: bool, cursor: &mut Cursor) -> Result<Command, WireFault>
     ensures { Reads result (body_at CommandCode.PolicySigned tagged cursor.old) cursor.new }
 {
@@ -57,7 +57,7 @@ pub(crate) fn write(
     spelling::signature(out, signature)
 }
 
-/// Reads the fields of the reply.
+/// Reads the fields of the reply: a deadline or none, and the ticket that goes with it.
 pub(crate) fn read_reply(alloc: Global, cursor: &mut Cursor) -> Result<Reply, WireFault>
     ensures { Reads result (reply_at CommandCode.PolicySigned cursor.old) cursor.new }
 {

@@ -12,7 +12,7 @@ use std::alloc::Global;
 use tpol_base::{Blob, CommandCode, Cursor, Digest32, Name, NoMemory};
 use tpol_fields::{Ticket, WireFault, fields, spelling};
 
-/// Reads the handle and the parameters.
+/// Reads the handle and the parameters: a timeout of 8 bytes, a cpHashA of 0 or 32, and those of `ticketed`.
 pub(crate) fn read(alloc: Global, tagged: bool, cursor: &mut Cursor) -> Result<Command, WireFault>
     ensures { Reads result (body_at CommandCode.PolicyTicket tagged cursor.old) cursor.new }
 {

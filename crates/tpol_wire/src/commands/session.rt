@@ -9,7 +9,8 @@ use crate::authorization;
 use tpol_base::Cursor;
 use tpol_fields::{HandleType, WireFault, fields};
 
-/// Reads the policy session; `tagged` says whether the tag announces an authorization, which there is not to be.
+/// Reads the policy session; `tagged` says whether the tag announces an authorization, which there is not to be
+/// (TPM_RC_AUTH_CONTEXT).
 pub(crate) fn read(tagged: bool, cursor: &mut Cursor) -> Result<u32, WireFault>
     ensures { ReadsAs (λ session. ((session, tt), tt)) result
         (front_at (handle_type HandleType.PolicySession ∷ []) false tagged cursor.old) cursor.new }

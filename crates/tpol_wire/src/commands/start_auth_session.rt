@@ -14,7 +14,8 @@ use tpol_base::response_code::{HASH, VALUE};
 use tpol_base::{Blob, CommandCode, Cursor, Digest32, NoMemory};
 use tpol_fields::{HandleType, WireFault, fields, spelling};
 
-/// Reads the handles and the parameters.
+/// Reads the handles, both TPM_RH_NULL, and the parameters: a nonceCaller of 32 bytes, no encryptedSalt, and what is
+/// fixed: TPM_SE_POLICY and TPM_ALG_NULL (else TPM_RC_VALUE), and TPM_ALG_SHA256 (else TPM_RC_HASH).
 pub(crate) fn read(tagged: bool, cursor: &mut Cursor) -> Result<Command, WireFault>
     ensures { Reads result (body_at CommandCode.StartAuthSession tagged cursor.old) cursor.new }
 {

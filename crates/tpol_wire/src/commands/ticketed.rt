@@ -13,7 +13,7 @@ use std::alloc::Global;
 use tpol_base::{Blob, Cursor, Name, NoMemory};
 use tpol_fields::{Ticket, WireFault, fields, spelling};
 
-/// Reads them as the parameters `n`, `n + 1` and `n + 2`.
+/// Reads them as the parameters `n`, `n + 1` and `n + 2`; the policyRef has at most 64 bytes.
 pub(crate) fn read(
     alloc: Global,
     cursor: &mut Cursor,

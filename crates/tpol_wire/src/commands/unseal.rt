@@ -22,7 +22,7 @@ pub(crate) fn read(alloc: Global, tagged: bool, cursor: &mut Cursor) -> Result<C
     Ok(Command::Unseal { object, auth })
 }
 
-/// Reads the fields of the reply.
+/// Reads the fields of the reply: at most 1,024 bytes of data.
 pub(crate) fn read_reply(alloc: Global, cursor: &mut Cursor) -> Result<Reply, WireFault>
     ensures { Reads result (reply_at CommandCode.Unseal cursor.old) cursor.new }
 {

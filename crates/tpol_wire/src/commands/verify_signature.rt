@@ -13,7 +13,7 @@ use std::alloc::Global;
 use tpol_base::{Blob, CommandCode, Cursor, Digest32, NoMemory};
 use tpol_fields::{HandleType, Ticket, WireFault, fields, spelling};
 
-/// Reads the handle and the parameters.
+/// Reads the handle and the parameters: a digest of 32 bytes, and a signature by an HMAC with SHA-256.
 pub(crate) fn read(tagged: bool, cursor: &mut Cursor) -> Result<Command, WireFault>
     ensures { Reads result (body_at CommandCode.VerifySignature tagged cursor.old) cursor.new }
 {
