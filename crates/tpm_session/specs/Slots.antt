@@ -1,5 +1,5 @@
 -- Slots of policy sessions: a list of what each slot has, if anything. Slot k is that of the handle
--- 03000000 + k (TPM 2.0 Part 2, TPM_HT_POLICY_SESSION).
+-- 0x0300_0000 + k (TPM 2.0 Part 2, TPM_HT_POLICY_SESSION).
 use Rattle.std.specs.Prelude.{ℕ, zero, suc, ◌+◌, ◌-◌, ◌*◌, ◌<◌, ◌≤◌, ◌==◌, ◌&&◌, Bool, not, List, [], ◌∷◌, Option, Some, None, is_some, nat_le, slice_index_or, slice_set, if◌then◌else◌}
 use Rattle.std.specs.Int.{bit_at}
 use Rattle.std.specs.Option.{option_map, option_or}

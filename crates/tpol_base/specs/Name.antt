@@ -5,7 +5,7 @@ use Rattle.tpol_base.specs.declared.name.Name.{Name}
 use Rattle.tpol_base.specs.Digest.{digest_of_bytes, is_same_digest}
 use Rattle.tpol_base.specs.declared.name.Name.TheVariants.{Empty, Handle, Hash}
 
--- nothing, the handle's four bytes, or the algorithm's number 000b and the digest
+-- nothing, the handle's four bytes, or TPM_ALG_SHA256 (0x000b) and the digest
 abbrev pub name_bytes : Name → List ℕ
 name_bytes Empty = []
 name_bytes (Handle handle) = to_be_bytes w32 handle

@@ -25,7 +25,7 @@ pub data Kind : Type 0 where
   Number : Width → (ℕ → Bool) → ℕ → Kind
   -- a signed number of 32 bits
   Signed : Kind
-  -- one byte, 00 or 01
+  -- one byte, 0x00 or 0x01 (TPMI_YES_NO)
   Truth : Kind
   -- the number of a comparison, in two bytes
   Operation : Kind

@@ -1,5 +1,5 @@
 -- Public areas and the Names made of them (TPM 2.0 Part 1, "Names"; Part 2, TPMT_PUBLIC and
--- TPMS_NV_PUBLIC). Numbers are big-endian, and the name algorithm is SHA-256, 000b.
+-- TPMS_NV_PUBLIC). Numbers are big-endian, and the name algorithm is TPM_ALG_SHA256, 0x000b.
 use Rattle.std.specs.Prelude.{ℕ, Bool, true, false, ◌&&◌, List, ◌++◌, bit_or}
 use Rattle.std.specs.Int.{to_be_bytes, w16, w32}
 use Rattle.tpol_base.specs.Attributes.{has_attribute, nv_written, object_sign}

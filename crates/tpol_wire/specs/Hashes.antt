@@ -27,6 +27,6 @@ cp_hash naming command =
 unfoldable pub name_hash : (ℕ → Name) → Command → Digest32
 name_hash naming command = sha256_digest (joined_names naming (handles_of command))
 
--- rpHash: H(00000000 || code || fields of the reply)
+-- rpHash: H(TPM_RC_SUCCESS || code || fields of the reply), the codes in four bytes each
 unfoldable pub rp_hash : ℕ → Reply → Digest32
 rp_hash code reply = sha256_digest (to_be_bytes w32 0 ++ to_be_bytes w32 code ++ reply_fields_of reply)
