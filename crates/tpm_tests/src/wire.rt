@@ -1,3 +1,6 @@
+//! Commands and replies by hand after the layouts of TPM 2.0 Part 3 (of commands: docs/commands-by-hand.md), and
+//! refusals, of which it is said there where their codes come from.
+
 use std::alloc::Global;
 use std::test::Fail;
 use tpol_base::Blob;

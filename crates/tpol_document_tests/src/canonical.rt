@@ -1,4 +1,5 @@
-//! One document with every element type, every authorization and every spelling, and its canonical text.
+//! One document with every element type, every authorization and every spelling, and its canonical text: by hand after
+//! docs/policy-documents.md, Canonical text.
 
 use std::alloc::{AllocError, Global};
 use tpol_read::read_policy;

@@ -1,3 +1,6 @@
+//! Policy documents and what reading them answers: notes, or the kind and place of the first fault, by hand after
+//! docs/policy-documents.md. The numbers of the kinds are this project's own.
+
 use std::alloc::Global;
 use std::process::Abort;
 use tpol_base::{NoMemory, Text};

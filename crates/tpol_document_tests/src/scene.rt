@@ -1,4 +1,5 @@
-//! Scenes in several spellings, and the first fault of others.
+//! Scenes in several spellings, and the first fault of others: what they hold, and kind and place, by hand after
+//! docs/scenes.md.
 
 use std::alloc::Global;
 use std::test::Fail;
