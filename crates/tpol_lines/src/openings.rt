@@ -51,7 +51,8 @@ pub fn opening_line(
     }
 }
 
-pub(crate) fn branch_line(
+// The line of an opening by a path: its position, its choices, and the events of the facts.
+fn branch_line(
     alloc: Global,
     event: u32,
     position: u32,
@@ -93,12 +94,8 @@ fn push_events(line: &mut Vec<u8>, events: &[u32]) -> Result<(), NoMemory>
     Ok(())
 }
 
-pub(crate) fn clash_line(
-    alloc: Global,
-    event: u32,
-    first: &[u8],
-    second: &[u8],
-) -> Result<Blob, NoMemory>
+// The line of two strings of one digest.
+fn clash_line(alloc: Global, event: u32, first: &[u8], second: &[u8]) -> Result<Blob, NoMemory>
     ensures { IfOk result (λ line. line ≡ clash_line event first.now second.now) }
 {
     let mut line = Vec::new(alloc);
@@ -111,7 +108,8 @@ pub(crate) fn clash_line(
     Ok(Blob::from_vec(line))
 }
 
-pub(crate) fn zero_line(alloc: Global, event: u32, input: &[u8]) -> Result<Blob, NoMemory>
+// The line of a string whose digest is zero.
+fn zero_line(alloc: Global, event: u32, input: &[u8]) -> Result<Blob, NoMemory>
     ensures { IfOk result (λ line. line ≡ zero_line event input.now) }
 {
     let mut line = Vec::new(alloc);

@@ -283,7 +283,7 @@ impl Performance {
     }
 
     // The run begins on no path: it is over at once.
-    pub fn begin_nowhere(&mut self, alloc: Global, number: u16) -> Result<(), NoMemory>
+    fn begin_nowhere(&mut self, alloc: Global, number: u16) -> Result<(), NoMemory>
         ensures told { OnOk result (self.new
             ≡ with_line (nobranch_line number) (with_new_run number None self.old)) }
         ensures past { OnOk result (self.new.past ≡ self.old.past) }

@@ -31,9 +31,9 @@ impl Performance {
         self.print_tries(alloc, paths, tries)
     }
 
-    /// The lines of what became of each of these paths, from the first on. The call fails only where memory ran out.
+    // The lines of what became of each of these paths, from the first on.
     #[tactic(auto, using(crate::proofs::TryLines::tries_over))]
-    pub fn print_tries(
+    fn print_tries(
         &mut self,
         alloc: Global,
         paths: &[Path],
@@ -50,6 +50,7 @@ impl Performance {
         Ok(())
     }
 
+    // The line of what became of the path at this position.
     fn print_tried(
         &mut self,
         alloc: Global,
