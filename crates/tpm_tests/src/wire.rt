@@ -1,5 +1,5 @@
-//! Commands and replies by hand after the layouts of TPM 2.0 Part 3 (of commands: docs/commands-by-hand.md), and
-//! refusals, of which it is said there where their codes come from.
+//! Commands and replies, by hand after the layouts of TPM 2.0 Part 3 (those of commands: docs/commands-by-hand.md). Where
+//! the codes of refusals come from stands over them.
 
 use std::alloc::Global;
 use std::test::Fail;

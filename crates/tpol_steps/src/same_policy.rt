@@ -1,4 +1,5 @@
-//! Whether two filled policies are the same, wherever they lie in memory.
+//! Filled policies that are seen to be the same, wherever they lie in memory. An answer is true only where they are; a
+//! false says nothing, and costs no more than that digests are computed once more.
 
 ghost use Rattle.std.specs.Prelude.{◌≡◌, IsTrue};
 ghost use Rattle.tpol_tree.specs.ClosedErased.{erased, erased_branches, erased_element, erased_elements};
@@ -6,7 +7,7 @@ ghost use Rattle.tpol_tree.specs.ClosedErased.{erased, erased_branches, erased_e
 use tpol_base::{Blob, Compare, Digest32, Digests, Name, Text};
 use tpol_tree::{Assertion, Closed, ClosedBranches, ClosedElement, ClosedElements};
 
-// Whether two policies are the same.
+// Whether two policies are seen to be the same: true only where they are.
 pub fn is_same_policy(a: &Closed, b: &Closed) -> bool
     ensures { IsTrue result → erased a.now ≡ erased b.now }
 {
