@@ -5,9 +5,9 @@
 //! answers `Refused` with the code of the first fault: of a handle; TPM_RC_AUTH_MISSING or TPM_RC_AUTH_CONTEXT where
 //! `tagged` does not fit the command; of the authorization; of a parameter. Which code a handle or a parameter has,
 //! and its number in the code, `tpol_fields::fields` says. `read_reply` reads the fields of a reply, which count as
-//! parameters; to its caller each refusal is a reply that is malformed. Bytes that are left over the callers refuse.
-//! `write` and `write_reply` put the parameters, and the fields of the reply, behind what is there. All of these
-//! answer `NoMemory` where memory ran out, and the writers no other error.
+//! parameters; to its caller each refusal is a reply that is malformed. Bytes that are left over the callers refuse,
+//! behind a command with TPM_RC_SIZE. `write` and `write_reply` put the parameters, and the fields of the reply,
+//! behind what is there. Where memory runs out the answer is `NoMemory`; the writers have no other error.
 #![tactic(auto, unfolding(crate::specs::Reading::body_at, crate::specs::Reading::front_at, crate::specs::Reading::reply_at, crate::specs::Reading::values_at, crate::specs::Commands::spell_values, tpol_fields::specs::Kinds::spell))]
 
 mod assertion;
