@@ -5,7 +5,7 @@ ghost use Rattle.tpol_choose.specs.Ahead as spec;
 
 use crate::act::Act;
 use crate::assert_move::AssertMove;
-use tpol_digest::{Before, count_ways};
+use tpol_digest::{Before, count_ways_with_memo};
 use tpol_tree::{ApprovedDoc, ClosedElements};
 
 // One more than the greatest number of ways that are walked; no count goes past it.
@@ -29,17 +29,19 @@ pub enum Ahead<'a> {
 
 // The number of ways through what comes behind.
 pub fn count_ahead(approvals: &[ApprovedDoc], ahead: &Ahead<'_>) -> u64
+    requires ahead { spec.IsSoundAhead ahead.now }
     ensures { result ≡ min (spec.ways_ahead approvals.now ahead.now) 65537 }
 {
     match ahead {
         Ahead::Nothing => 1,
         Ahead::After {
             rest,
+            before,
             levels,
             ahead,
             ..
         } => {
-            let first = count_ways(approvals, *levels, rest);
+            let first = count_ways_with_memo(approvals, *levels, rest, before);
             let others = count_ahead(approvals, ahead);
             first.saturating_mul(others).min(COUNTED)
         }

@@ -24,7 +24,7 @@ use crate::or_digests::OrDigests;
 use crate::or_move::OrMove;
 use crate::track::Track;
 use crate::walk::Walk;
-use tpol_digest::{Before, BeforeBranches, count_ways};
+use tpol_digest::{Before, BeforeBranches, count_ways_with_memo};
 use tpol_tree::{Closed, ClosedBranches, ClosedElement, ClosedElements};
 
 // How far a search is: at the index, from 0, of a way that can be gone; or past so many ways, counted to
@@ -80,7 +80,7 @@ fn search_elements<'a>(
         before.entry.digest) }
 {
     if track.is_hopeless(&walk.client) {
-        return pass_over(walk, elements, ahead, passed);
+        return pass_over(walk, elements, &before, ahead, passed);
     }
     match elements {
         ClosedElements::End => search_ahead(walk, track, ahead, passed),
@@ -215,7 +215,7 @@ fn search_approvals<'a>(
 {
     match search_documents(walk, track, element, rest, after, ahead, passed) {
         Search::Found(index) => Search::Found(index),
-        Search::Passed(more) => pass_over(walk, rest, ahead, more),
+        Search::Passed(more) => pass_over(walk, rest, &after, ahead, more),
     }
 }
 
@@ -321,14 +321,22 @@ fn search_end(walk: &Walk<'_>, track: &Track, passed: u64) -> Search
     }
 }
 
-// Passes over all ways through elements and what comes behind them.
-fn pass_over(walk: &Walk<'_>, elements: &ClosedElements, ahead: &Ahead<'_>, passed: u64) -> Search
+// Passes over all ways through elements, before which stands the digest `before`, and what comes behind them.
+fn pass_over(
+    walk: &Walk<'_>,
+    elements: &ClosedElements,
+    before: &Before<'_>,
+    ahead: &Ahead<'_>,
+    passed: u64,
+) -> Search
+    requires knows { Knows before.now elements.now }
+    requires ahead { IsSoundAhead ahead.now }
     ensures { result ≡ found.Passed (spec.passed_more passed
         ((extent_at (document_extent walk.now.approvals.now walk.now.levels) walk.now.approvals.now
         elements.now).paths
         * ways_ahead walk.now.approvals.now ahead.now)) }
 {
-    let first = count_ways(walk.approvals, walk.levels, elements);
+    let first = count_ways_with_memo(walk.approvals, walk.levels, elements, before);
     let behind = count_ahead(walk.approvals, ahead);
     let ways = first.saturating_mul(behind);
     if ways == 0 {

@@ -79,3 +79,16 @@ document_extent documents (suc levels) =
 pub record IsCapped (extent : Extent) (full : FullExtent) : Type 0 where
   pub paths : extent.paths ≡ min full.paths 65537
   pub moves : full.paths ≤ 65536 → extent.moves ≡ min full.moves 513
+
+-- the extent of elements, of one element and of branches that ask for no approval: whatever documents are approved
+abbrev pub IsOwnExtent : ClosedElements → Extent → Type 0
+IsOwnExtent elements extent =
+    (within : Option (ApprovedDoc → FullExtent)) (documents : List ApprovedDoc) → IsCapped extent (extent_at within documents elements)
+
+abbrev pub IsOwnExtentOfElement : ClosedElement → Extent → Type 0
+IsOwnExtentOfElement element extent =
+    (within : Option (ApprovedDoc → FullExtent)) (documents : List ApprovedDoc) → IsCapped extent (extent_at_element within documents element)
+
+abbrev pub IsOwnExtentOfBranches : ClosedBranches → Extent → Type 0
+IsOwnExtentOfBranches branches extent =
+    (within : Option (ApprovedDoc → FullExtent)) (documents : List ApprovedDoc) → IsCapped extent (extent_at_branches within documents branches)

@@ -1,7 +1,9 @@
--- The digests of a policy that are kept beside it.
-use Rattle.std.specs.Prelude.{◌≡◌, List, IfSome, ⊤}
+-- The digests of a policy that are kept beside it, and the extents of its ORs.
+use Rattle.std.specs.Prelude.{◌≡◌, List, Option, IfSome, ⊤}
 use Rattle.tpol_base.specs.declared.digest.Digest32.{Digest32}
 use Rattle.tpol_digest.specs.Digest.{branch_digests, digest_at_element}
+use Rattle.tpol_digest.specs.Extent.{IsOwnExtentOfBranches}
+use Rattle.tpol_digest.specs.declared.extent.Extent.{Extent}
 use Rattle.tpol_digest.specs.declared.memo.Before.{Before}
 use Rattle.tpol_digest.specs.declared.memo.BeforeBranches.{BeforeBranches}
 use Rattle.tpol_digest.specs.declared.memo.BranchMemos.{BranchMemos}
@@ -20,17 +22,17 @@ use Rattle.tpol_tree.specs.declared.closed.ClosedBranches.TheVariants.{More' as 
 abbrev pub IsEnd : Memo → Type 0
 IsEnd memo.End = ⊤
 IsEnd (memo.Plain' after p rest) = ⊥
-IsEnd (memo.Or' after digests p branches q rest) = ⊥
+IsEnd (memo.Or' after digests extent p branches q rest) = ⊥
 
 abbrev pub IfPlain : Memo → (Digest32 → Type 0) → (Memo → Type 0) → Type 0
 IfPlain memo.End First Rest = ⊥
 IfPlain (memo.Plain' after p rest) First Rest = First after × Rest rest
-IfPlain (memo.Or' after digests p branches q rest) First Rest = ⊥
+IfPlain (memo.Or' after digests extent p branches q rest) First Rest = ⊥
 
-abbrev pub IfOr : Memo → (Digest32 → List Digest32 → BranchMemos → Type 0) → (Memo → Type 0) → Type 0
+abbrev pub IfOr : Memo → (Digest32 → List Digest32 → Option Extent → BranchMemos → Type 0) → (Memo → Type 0) → Type 0
 IfOr memo.End First Rest = ⊥
 IfOr (memo.Plain' after p rest) First Rest = ⊥
-IfOr (memo.Or' after digests p branches q rest) First Rest = First after digests branches × Rest rest
+IfOr (memo.Or' after digests extent p branches q rest) First Rest = First after digests extent branches × Rest rest
 
 abbrev pub IfMore : BranchMemos → (Memo → Type 0) → (BranchMemos → Type 0) → Type 0
 IfMore memos.End First Rest = ⊥
@@ -45,7 +47,7 @@ abbrev mutual
 
   pub IsMemoOf : ClosedElement → Digest32 → Memo → (Memo → Type 0) → Type 0
   IsMemoOf (Or branches) d memo Rest =
-      IfOr memo (λ after digests memos. (after ≡ digest_at_element (Or branches) d) × (digests ≡ branch_digests branches d) × AreMemos branches d memos) Rest
+      IfOr memo (λ after digests extent memos. (after ≡ digest_at_element (Or branches) d) × (digests ≡ branch_digests branches d) × IfSome extent (IsOwnExtentOfBranches branches) × AreMemos branches d memos) Rest
   IsMemoOf element d memo Rest = IfPlain memo (λ after. after ≡ digest_at_element element d) Rest
 
   pub AreMemos : ClosedBranches → Digest32 → BranchMemos → Type 0

@@ -17,6 +17,7 @@ mod laws;
 mod limits;
 mod memo;
 mod moves;
+mod own_extent;
 mod pieces;
 mod policy;
 mod update;
@@ -27,7 +28,10 @@ pub use assertion::extend;
 pub use at_position::{has_or, path_at, path_at_with_memo};
 pub use inputs::{inputs_of, inputs_of_facts};
 pub use laws::{all_paths_meet, boxes_are_ignored, paths_have_bounds, paths_have_pcr_digests};
-pub use limits::{MAX_LEVELS, PathLimit, check_paths, count_element_ways, count_paths, count_ways};
+pub use limits::{
+    MAX_LEVELS, PathLimit, check_paths, count_element_ways, count_paths, count_ways,
+    count_ways_with_memo,
+};
 pub use memo::{Before, BeforeBranches, BranchMemos, Memo, memo_of};
 pub use moves::{digest_after_move, run_facts, run_path};
 pub use policy::{

@@ -1,11 +1,13 @@
 ghost use Rattle.tpol_base.specs.declared.digest.Digest32.{Digest32 as OneDigest};
 ghost use Rattle.std.specs.Prelude.{◌≡◌, ◌<◌, ◌≤◌, ◌↔◌, Any, IfOk, IsErrOf, length, min};
 ghost use Rattle.tpol_digest.specs.Limits.{AreWithinLimits};
+ghost use Rattle.tpol_digest.specs.Memos.{Knows};
 ghost use Rattle.tpol_digest.specs.Paths.{paths_of};
 ghost use Rattle.tpol_digest.specs.Positions.{element_list_ways, element_ways};
 
 use crate::counting::{extent_of_element, extent_of_elements};
 use crate::extent::{MAX_MOVES, MAX_PATHS};
+use crate::memo::Before;
 use thiserror::Error;
 use tpol_tree::{Approvals, ApprovedDoc, Closed, ClosedElement, ClosedElements};
 
@@ -61,6 +63,21 @@ pub fn count_ways(approvals: &[ApprovedDoc], levels: u8, elements: &ClosedElemen
         → result ≡ min (length (element_list_ways approvals.now levels elements.now before)) 65537 }
 {
     extent_of_elements(approvals, levels, elements).paths
+}
+
+/// The same number, of elements whose digests are kept: the ways through an OR without approvals are kept too, and
+/// not counted again.
+pub fn count_ways_with_memo(
+    approvals: &[ApprovedDoc],
+    levels: u8,
+    elements: &ClosedElements,
+    before: &Before<'_>,
+) -> u64
+    requires knows { Knows before.now elements.now }
+    ensures ways { (digest : OneDigest)
+        → result ≡ min (length (element_list_ways approvals.now levels elements.now digest)) 65537 }
+{
+    before.extent(approvals, levels, elements).paths
 }
 
 /// The number of ways through one element, or 65,537 where there are more than 65,536. The number of ways through

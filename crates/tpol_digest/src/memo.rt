@@ -1,18 +1,23 @@
-//! The digests of a policy, kept beside it, so that none is computed twice.
+//! The digests of a policy, kept beside it, so that none is computed twice, and how many ways its ORs have.
 
 ghost use Rattle.std.specs.Prelude.{◌≡◌, ◌++◌, IfOk, IfSome, OnOk};
 ghost use Rattle.tpol_digest.specs.Digest as spec;
+ghost use Rattle.tpol_digest.specs.Extent.{IsCapped, document_extent, extent_at, extent_at_element};
 ghost use Rattle.tpol_digest.specs.Memos.{AreMemos, IsMemo, IsMemoOf, Knows, KnowsBranch, KnowsBranches, KnowsFirst};
 ghost use Rattle.tpol_tree.specs.declared.closed.ClosedElement.TheVariants.{Or as OneOr};
 ghost use Rattle.tpol_tree.specs.declared.closed.ClosedElements.{ClosedElements as AnyElements};
 
+use crate::counting::{extent_of_element, extent_of_elements};
+use crate::extent::Extent;
+use crate::own_extent::own_extent_of_branches;
 use crate::policy::{digest_after_element, or_digest, zero_digest};
 use std::alloc::Global;
 use tpol_base::{Digest32, Digests, NoMemory};
-use tpol_tree::{Closed, ClosedBranches, ClosedElement, ClosedElements};
+use tpol_tree::{ApprovedDoc, Closed, ClosedBranches, ClosedElement, ClosedElements};
 
 /// The digests of a list of elements, in order: the digest after each element, and at an OR those of its
-/// branches, as PolicyOR takes them, with the digests within each branch.
+/// branches, as PolicyOR takes them, with the digests within each branch, and the extent of its ways where no
+/// approval is asked for within it.
 #[derive(Drop)]
 #[cycle(memo)]
 pub enum Memo {
@@ -24,6 +29,7 @@ pub enum Memo {
     Or {
         after: Digest32,
         digests: Digests,
+        extent: Option<Extent>,
         branches: Box<BranchMemos>,
         rest: Box<Memo>,
     },
@@ -58,6 +64,7 @@ pub fn memo_of_elements(
         ClosedElements::More(element, rest) => match &**element {
             ClosedElement::Or(branches) => {
                 let mut digests = Digests::new(alloc);
+                let extent = own_extent_of_branches(branches);
                 let branches = memos_of_branches(alloc, &mut digests, branches, before)?;
                 let after = or_digest(digests.as_slice());
                 let rest = memo_of_elements(alloc, rest, after)?;
@@ -66,6 +73,7 @@ pub fn memo_of_elements(
                 Ok(Memo::Or {
                     after,
                     digests,
+                    extent,
                     branches,
                     rest,
                 })
@@ -168,6 +176,50 @@ impl<'a> Before<'a> {
                 digest: digest_after_element(element, self.digest),
                 memo: None,
             },
+        }
+    }
+
+    /// The extent of the paths of elements. No OR is counted whose extent is kept.
+    pub(crate) fn extent(
+        &self,
+        approvals: &[ApprovedDoc],
+        levels: u8,
+        elements: &ClosedElements,
+    ) -> Extent
+        requires knows { Knows self.now elements.now }
+        ensures { IsCapped result
+            (extent_at (document_extent approvals.now levels) approvals.now elements.now) }
+    {
+        if self.memo.is_none() {
+            return extent_of_elements(approvals, levels, elements);
+        }
+        match elements {
+            ClosedElements::End => Extent::one_path(0),
+            ClosedElements::More(element, rest) => {
+                let first = self.first_extent(approvals, levels, element, rest);
+                first.then(self.behind(element, rest).extent(approvals, levels, rest))
+            }
+        }
+    }
+
+    /// The extent of the paths of the element that comes first.
+    pub(crate) fn first_extent(
+        &self,
+        approvals: &[ApprovedDoc],
+        levels: u8,
+        element: &ClosedElement,
+        rest: &ClosedElements,
+    ) -> Extent
+        requires knows { KnowsFirst self.now element.now rest.now }
+        ensures { IsCapped result (extent_at_element
+            (document_extent approvals.now levels) approvals.now element.now) }
+    {
+        match self.memo {
+            Some(Memo::Or {
+                extent: Some(extent),
+                ..
+            }) => *extent,
+            _ => extent_of_element(approvals, levels, element),
         }
     }
 
