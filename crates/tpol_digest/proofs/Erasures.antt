@@ -1,4 +1,4 @@
--- What digests, paths, strings and well-formedness say of a policy, they say of it wherever its boxes lie.
+-- What digests, paths, extents, strings and well-formedness say of a policy, they say of it wherever its boxes lie.
 use Rattle.std.proofs.Common.{◌≡◌, ℕ, zero, suc, ◌+◌, Bool, true, false, List, [], ◌∷◌, ◌++◌, map, Option, Some, None, refl, sym, ap, ◌∙◌, subst}
 use Rattle.std.specs.List.{flat_map, AllByRecursion}
 use Rattle.std.proofs.lemmas.List.Elements.{All-from_recursion, recursion_from_All}
@@ -19,6 +19,7 @@ use Rattle.tpol_tree.specs.declared.path.PathStep.TheVariants.{Branch}
 use Rattle.tpol_tree.specs.Closed.{ApprovalsLead, ApprovalsLeadBranches, ApprovalsLeadElement, BranchesHaveBranchCounts, EachAssertion, EachAssertionOfBranches, EachAssertionOfElement, ElementHasBranchCounts, HasBranchCounts, IsBranchCount, branch_count}
 use Rattle.tpol_tree.specs.ClosedErased.{erased, erased_branches, erased_document, erased_element, erased_elements}
 use Rattle.tpol_digest.specs.Digest.{zero_digest, digest_at, digest_at_element, branch_digests, or_digest, policy_digest}
+use Rattle.tpol_digest.specs.Extent.{FullExtent, both, either, extent_at, extent_at_branches, extent_at_element, longer}
 use Rattle.tpol_digest.specs.Inputs.{inputs_at, inputs_at_element, inputs_at_branches, strings_of}
 use Rattle.tpol_digest.specs.Laws.{DigestsIgnoreBoxes, InputsIgnoreBoxes, PathsIgnoreBoxes, WellFormedIgnoresBoxes, BranchCountsIgnoreBoxes}
 use Rattle.tpol_digest.specs.Paths.{approval_of, approved_paths, between, document_paths, outside_paths, paths_at, paths_at_branches, paths_at_element, paths_by_approval, paths_of, product}
@@ -51,6 +52,28 @@ policy_digest-erased policy = digest_at-erased policy.elements zero_digest
 
 pub digests_ignore_boxes : DigestsIgnoreBoxes
 digests_ignore_boxes policy = policy_digest-erased policy
+
+-- ---- extents
+
+module _ (within : Option (ApprovedDoc → FullExtent)) (documents : List ApprovedDoc) where
+  mutual
+    extent_at-erased : (elements : ClosedElements) → extent_at within documents (erased_elements elements) ≡ extent_at within documents elements
+    extent_at-erased End = refl
+    extent_at-erased (More' p element q rest) =
+        ap (λ first. both first (extent_at within documents (erased_elements rest))) (extent_at_element-erased element)
+        ∙ ap (both (extent_at_element within documents element)) (extent_at-erased rest)
+
+    extent_at_element-erased : (element : ClosedElement) → extent_at_element within documents (erased_element element) ≡ extent_at_element within documents element
+    extent_at_element-erased (Assert assertion) = refl
+    extent_at_element-erased (Or branches) = extent_at_branches-erased branches
+    extent_at_element-erased (Authorize key policy_ref) = refl
+    extent_at_element-erased (AuthorizeNv index) = refl
+
+    pub extent_at_branches-erased : (branches : ClosedBranches) → extent_at_branches within documents (erased_branches branches) ≡ extent_at_branches within documents branches
+    extent_at_branches-erased EndBranches = refl
+    extent_at_branches-erased (MoreBranches' p name elements q rest) =
+        ap (λ first. either (longer first) (extent_at_branches within documents (erased_branches rest))) (extent_at-erased elements)
+        ∙ ap (either (longer (extent_at within documents elements))) (extent_at_branches-erased rest)
 
 -- ---- paths, where two lists of documents are entered alike
 

@@ -122,10 +122,11 @@ fn path_from(
         approvals: approvals.as_slice(),
         levels: MAX_LEVELS,
     };
-    let count = extent_of_elements(walk.approvals, walk.levels, &policy.elements).paths;
+    let elements = &policy.elements;
+    let count = before.extent(walk.approvals, walk.levels, elements).paths;
     let mut path = empty_path(alloc);
     let index = u64::from(position - 1);
-    push_from_zero(&walk, &mut path, &policy.elements, before, index, count)?;
+    push_from_zero(&walk, &mut path, elements, before, index, count)?;
     Ok(path)
 }
 
@@ -272,7 +273,9 @@ fn push_elements(
     match elements {
         ClosedElements::End => Ok(()),
         ClosedElements::More(element, rest) => {
-            let choices = extent_of_element(walk.approvals, walk.levels, element).paths;
+            let choices = before
+                .first_extent(walk.approvals, walk.levels, element, rest)
+                .paths;
             let behind = count / choices;
             push_element(walk, path, element, rest, before, index / behind)?;
             let after = before.behind(element, rest);
@@ -362,11 +365,11 @@ fn push_branch(
         ClosedBranches::End => Ok(()),
         ClosedBranches::More(branch, rest) => {
             let elements = &branch.policy.elements;
-            let count = extent_of_elements(walk.approvals, walk.levels, elements).paths;
+            let first = before.first(elements, rest);
+            let count = first.extent(walk.approvals, walk.levels, elements).paths;
             if index < count {
                 let name = branch.name.try_clone(walk.alloc)?;
                 path.steps.push(PathStep::Branch { position, name })?;
-                let first = before.first(elements, rest);
                 push_elements(walk, path, elements, &first, index, count)
             } else {
                 let next = next_position(position)?;

@@ -215,10 +215,12 @@ impl<'a> Before<'a> {
             (document_extent approvals.now levels) approvals.now element.now) }
     {
         match self.memo {
-            Some(Memo::Or {
-                extent: Some(extent),
-                ..
-            }) => *extent,
+            Some(
+                Memo::Or {
+                    extent: Some(extent),
+                    ..
+                },
+            ) => *extent,
             _ => extent_of_element(approvals, levels, element),
         }
     }

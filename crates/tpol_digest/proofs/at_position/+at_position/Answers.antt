@@ -116,39 +116,39 @@ push_elements-nonzero_div-behind t c =
     let documents = c.args.walk.now.approvals.now in
     let levels = c.args.walk.now.levels in
     let counted = rw c.in-More.is at c.requires.counted in
-    let capped = subst (λ e. IsCapped c.extent_of_element-choices.result (extent_at_element (document_extent documents levels) documents e)) c.deref.ensures c.extent_of_element-choices.ensures in
-    (parted_ways documents levels c.extent_of_element-choices.result c.in-More.element.value c.in-More.rest.value c.args.before.now.digest c.args.count c.args.index counted c.requires.few c.requires.inside capped).divides
+    let capped = subst (λ e. IsCapped c.first_extent-choices.result (extent_at_element (document_extent documents levels) documents e)) c.deref.ensures c.first_extent-choices.ensures in
+    (parted_ways documents levels c.first_extent-choices.result c.in-More.element.value c.in-More.rest.value c.args.before.now.digest c.args.count c.args.index counted c.requires.few c.requires.inside capped).divides
 
 pub push_elements-nonzero_div-index : goal.push_elements-nonzero_div-index
 push_elements-nonzero_div-index t c =
     let documents = c.args.walk.now.approvals.now in
     let levels = c.args.walk.now.levels in
     let counted = rw c.in-More.is at c.requires.counted in
-    let capped = subst (λ e. IsCapped c.extent_of_element-choices.result (extent_at_element (document_extent documents levels) documents e)) c.deref.ensures c.extent_of_element-choices.ensures in
-    (parted_ways documents levels c.extent_of_element-choices.result c.in-More.element.value c.in-More.rest.value c.args.before.now.digest c.args.count c.args.index counted c.requires.few c.requires.inside capped).behind_divides
+    let capped = subst (λ e. IsCapped c.first_extent-choices.result (extent_at_element (document_extent documents levels) documents e)) c.deref.ensures c.first_extent-choices.ensures in
+    (parted_ways documents levels c.first_extent-choices.result c.in-More.element.value c.in-More.rest.value c.args.before.now.digest c.args.count c.args.index counted c.requires.few c.requires.inside capped).behind_divides
 
 pub push_elements-nonzero_rem-index : goal.push_elements-nonzero_rem-index
 push_elements-nonzero_rem-index t c =
     let documents = c.args.walk.now.approvals.now in
     let levels = c.args.walk.now.levels in
     let counted = rw c.in-More.is at c.requires.counted in
-    let capped = subst (λ e. IsCapped c.extent_of_element-choices.result (extent_at_element (document_extent documents levels) documents e)) c.deref.ensures c.extent_of_element-choices.ensures in
-    (parted_ways documents levels c.extent_of_element-choices.result c.in-More.element.value c.in-More.rest.value c.args.before.now.digest c.args.count c.args.index counted c.requires.few c.requires.inside capped).behind_divides
+    let capped = subst (λ e. IsCapped c.first_extent-choices.result (extent_at_element (document_extent documents levels) documents e)) c.deref.ensures c.first_extent-choices.ensures in
+    (parted_ways documents levels c.first_extent-choices.result c.in-More.element.value c.in-More.rest.value c.args.before.now.digest c.args.count c.args.index counted c.requires.few c.requires.inside capped).behind_divides
 
 pub push_elements-push_element-requires : goal.push_elements-push_element-requires
 push_elements-push_element-requires t c =
     let documents = c.args.walk.now.approvals.now in
     let levels = c.args.walk.now.levels in
     let counted = rw c.in-More.is at c.requires.counted in
-    let capped = subst (λ e. IsCapped c.extent_of_element-choices.result (extent_at_element (document_extent documents levels) documents e)) c.deref.ensures c.extent_of_element-choices.ensures in
-    let p = parted_ways documents levels c.extent_of_element-choices.result c.in-More.element.value c.in-More.rest.value c.args.before.now.digest c.args.count c.args.index counted c.requires.few c.requires.inside capped in
+    let capped = subst (λ e. IsCapped c.first_extent-choices.result (extent_at_element (document_extent documents levels) documents e)) c.deref.ensures c.first_extent-choices.ensures in
+    let p = parted_ways documents levels c.first_extent-choices.result c.in-More.element.value c.in-More.rest.value c.args.before.now.digest c.args.count c.args.index counted c.requires.few c.requires.inside capped in
     let known = rw c.in-More.is at c.requires.knows in (
-      omega (arith, rw c.in-More.is at c.decreases, ap weight_of_element c.deref-in-More.ensures),
+      omega (arith, rw c.in-More.is at c.decreases, ap weight_of_element c.deref-in-More-2.ensures),
       (
-        subst (λ r. KnowsFirst c.args.before.now c.deref-in-More.result.now r) (sym c.deref-in-More-2.ensures) (subst (λ e. KnowsFirst c.args.before.now e c.in-More.rest.value) (sym c.deref-in-More.ensures) known),
+        subst (λ r. KnowsFirst c.args.before.now c.deref-in-More-2.result.now r) (sym c.deref-in-More-3.ensures) (subst (λ e. KnowsFirst c.args.before.now e c.in-More.rest.value) (sym c.deref-in-More-2.ensures) known),
         (
-          subst (λ e. length (element_ways documents levels e c.args.before.now.digest) ≤ 65536) (sym c.deref-in-More.ensures) p.first_few,
-          subst (λ e. c.args.index / (c.args.count / c.extent_of_element-choices.result.paths) < length (element_ways documents levels e c.args.before.now.digest)) (sym c.deref-in-More.ensures) p.first_inside,
+          subst (λ e. length (element_ways documents levels e c.args.before.now.digest) ≤ 65536) (sym c.deref-in-More-2.ensures) p.first_few,
+          subst (λ e. c.args.index / (c.args.count / c.first_extent-choices.result.paths) < length (element_ways documents levels e c.args.before.now.digest)) (sym c.deref-in-More-2.ensures) p.first_inside,
         ),
       ),
     )
@@ -158,14 +158,14 @@ push_elements-push_elements-requires t c =
     let documents = c.args.walk.now.approvals.now in
     let levels = c.args.walk.now.levels in
     let counted = rw c.in-More.is at c.requires.counted in
-    let capped = subst (λ e. IsCapped c.extent_of_element-choices.result (extent_at_element (document_extent documents levels) documents e)) c.deref.ensures c.extent_of_element-choices.ensures in
-    let p = parted_ways documents levels c.extent_of_element-choices.result c.in-More.element.value c.in-More.rest.value c.args.before.now.digest c.args.count c.args.index counted c.requires.few c.requires.inside capped in
-    let after_is = c.behind-after.ensures.digest ∙ ap (λ e. digest_at_element e c.args.before.now.digest) c.deref-in-More-3.ensures in (
-      omega (arith, rw c.in-More.is at c.decreases, ap weight c.deref-in-More-5.ensures),
+    let capped = subst (λ e. IsCapped c.first_extent-choices.result (extent_at_element (document_extent documents levels) documents e)) c.deref.ensures c.first_extent-choices.ensures in
+    let p = parted_ways documents levels c.first_extent-choices.result c.in-More.element.value c.in-More.rest.value c.args.before.now.digest c.args.count c.args.index counted c.requires.few c.requires.inside capped in
+    let after_is = c.behind-after.ensures.digest ∙ ap (λ e. digest_at_element e c.args.before.now.digest) c.deref-in-More-4.ensures in (
+      omega (arith, rw c.in-More.is at c.decreases, ap weight c.deref-in-More-6.ensures),
       (
-        subst (Knows c.behind-after.result) (c.deref-in-More-4.ensures ∙ sym c.deref-in-More-5.ensures) c.behind-after.ensures.knows,
+        subst (Knows c.behind-after.result) (c.deref-in-More-5.ensures ∙ sym c.deref-in-More-6.ensures) c.behind-after.ensures.knows,
         (
-          p.behind ∙ ap (λ d. length (element_list_ways documents levels c.in-More.rest.value d)) (sym after_is) ∙ ap (λ e. length (element_list_ways documents levels e c.behind-after.result.digest)) (sym c.deref-in-More-5.ensures),
+          p.behind ∙ ap (λ d. length (element_list_ways documents levels c.in-More.rest.value d)) (sym after_is) ∙ ap (λ e. length (element_list_ways documents levels e c.behind-after.result.digest)) (sym c.deref-in-More-6.ensures),
           (p.rest_few, p.rest_inside),
         ),
       ),
@@ -184,13 +184,13 @@ push_elements-returns-in_ok-push_element-in-More t c =
     let element = c.in-More.element.value in
     let rest = c.in-More.rest.value in
     let counted = rw c.in-More.is at c.requires.counted in
-    let capped = subst (λ e. IsCapped c.extent_of_element-choices.result (extent_at_element (document_extent documents levels) documents e)) c.deref.ensures c.extent_of_element-choices.ensures in
-    let p = parted_ways documents levels c.extent_of_element-choices.result element rest d c.args.count c.args.index counted c.requires.few c.requires.inside capped in
-    let behind = c.args.count / c.extent_of_element-choices.result.paths in
+    let capped = subst (λ e. IsCapped c.first_extent-choices.result (extent_at_element (document_extent documents levels) documents e)) c.deref.ensures c.first_extent-choices.ensures in
+    let p = parted_ways documents levels c.first_extent-choices.result element rest d c.args.count c.args.index counted c.requires.few c.requires.inside capped in
+    let behind = c.args.count / c.first_extent-choices.result.paths in
     let middle = c.push_element.new.path in
-    let first = subst (λ e. GoesOn c.args.path.now (element_ways documents levels e d) (c.args.index / behind) middle) c.deref-in-More.ensures c.in_ok-push_element-in-More.ensures in
-    let after_is = c.behind-after.ensures.digest ∙ ap (λ e. digest_at_element e d) c.deref-in-More-3.ensures in
-    let same = ap (λ e. element_list_ways documents levels e c.behind-after.result.digest) c.deref-in-More-5.ensures ∙ ap (element_list_ways documents levels rest) after_is in
+    let first = subst (λ e. GoesOn c.args.path.now (element_ways documents levels e d) (c.args.index / behind) middle) c.deref-in-More-2.ensures c.in_ok-push_element-in-More.ensures in
+    let after_is = c.behind-after.ensures.digest ∙ ap (λ e. digest_at_element e d) c.deref-in-More-4.ensures in
+    let same = ap (λ e. element_list_ways documents levels e c.behind-after.result.digest) c.deref-in-More-6.ensures ∙ ap (element_list_ways documents levels rest) after_is in
     rw c.in-More.is (on_ok_weaker c.push_elements.result (λ g. goes_through c.args.path.now middle c.push_elements.new.path (element_ways documents levels element d) (element_list_ways documents levels rest (digest_at_element element d)) (c.args.index / behind) (c.args.index % behind) c.args.index first (subst (λ l. GoesOn middle l (c.args.index % behind) c.push_elements.new.path) same g) p.whole) c.push_elements.ensures)
 
 pub push_element-push_branch-requires : goal.push_element-push_branch-requires
@@ -233,8 +233,8 @@ push_branch-push_elements-requires t c =
     let d = c.args.before.now.digest in
     let others = branch_ways documents levels rest (c.args.position + 1) d in
     let step = followed_by (path_of_step (Branch c.args.position branch.name)) in
-    let capped = subst (λ (b : ClosedBranch). IsCapped c.extent_of_elements-count.result (extent_at (document_extent documents levels) documents b.policy.elements)) c.deref.ensures c.extent_of_elements-count.ensures in
-    let counted = counted_first documents levels c.extent_of_elements-count.result branch.policy.elements d step others (rw c.in-More.is at c.requires.few) capped in
+    let capped = subst (λ (b : ClosedBranch). IsCapped c.extent-count.result (extent_at (document_extent documents levels) documents b.policy.elements)) c.deref.ensures c.extent-count.ensures in
+    let counted = counted_first documents levels c.extent-count.result branch.policy.elements d step others (rw c.in-More.is at c.requires.few) capped in
     let ways = ap (λ (b : ClosedBranch). length (element_list_ways documents levels b.policy.elements d)) (sym c.deref.ensures) ∙ ap (λ x. length (element_list_ways documents levels c.deref.result.now.policy.elements x)) (sym c.first-first.ensures.digest) in (
       omega (arith, rw c.in-More.is at c.decreases, ap (λ (b : ClosedBranch). weight b.policy.elements) c.deref.ensures),
       (
@@ -255,8 +255,8 @@ push_branch-push_branch-requires t c =
     let d = c.args.before.now.digest in
     let others = branch_ways documents levels rest (c.args.position + 1) d in
     let step = followed_by (path_of_step (Branch c.args.position branch.name)) in
-    let capped = subst (λ (b : ClosedBranch). IsCapped c.extent_of_elements-count.result (extent_at (document_extent documents levels) documents b.policy.elements)) c.deref.ensures c.extent_of_elements-count.ensures in
-    let counted = counted_first documents levels c.extent_of_elements-count.result branch.policy.elements d step others (rw c.in-More.is at c.requires.few) capped in
+    let capped = subst (λ (b : ClosedBranch). IsCapped c.extent-count.result (extent_at (document_extent documents levels) documents b.policy.elements)) c.deref.ensures c.extent-count.ensures in
+    let counted = counted_first documents levels c.extent-count.result branch.policy.elements d step others (rw c.in-More.is at c.requires.few) capped in
     let next = ap (λ n. length (branch_ways documents levels c.deref-else-index-count-2.result.now n c.behind-behind.result.digest)) c.in_ok-next-in-More.ensures in
     let behind = ap (λ x. length (branch_ways documents levels c.deref-else-index-count-2.result.now (c.args.position + 1) x)) c.behind-behind.ensures.digest in
     let ways = next ∙ behind ∙ ap (λ r. length (branch_ways documents levels r (c.args.position + 1) d)) c.deref-else-index-count-2.ensures in (
@@ -297,10 +297,10 @@ push_branch-returns-in_ok-next-in-More t c =
     let others = branch_ways documents levels rest (c.args.position + 1) d in
     let step = followed_by (path_of_step (Branch c.args.position branch.name)) in
     let firsts = map step (element_list_ways documents levels branch.policy.elements d) in
-    let capped = subst (λ (b : ClosedBranch). IsCapped c.extent_of_elements-count.result (extent_at (document_extent documents levels) documents b.policy.elements)) c.deref.ensures c.extent_of_elements-count.ensures in
-    let counted = counted_first documents levels c.extent_of_elements-count.result branch.policy.elements d step others (rw c.in-More.is at c.requires.few) capped in
-    let split : c.args.index ≡ length firsts + (c.args.index - c.extent_of_elements-count.result.paths) = omega (arith, counted.0, counted.1, c.if-index-count.false, length-map (element_list_ways documents levels branch.policy.elements d) step) in
-    let left = c.args.index - c.extent_of_elements-count.result.paths in
+    let capped = subst (λ (b : ClosedBranch). IsCapped c.extent-count.result (extent_at (document_extent documents levels) documents b.policy.elements)) c.deref.ensures c.extent-count.ensures in
+    let counted = counted_first documents levels c.extent-count.result branch.policy.elements d step others (rw c.in-More.is at c.requires.few) capped in
+    let split : c.args.index ≡ length firsts + (c.args.index - c.extent-count.result.paths) = omega (arith, counted.0, counted.1, c.if-index-count.false, length-map (element_list_ways documents levels branch.policy.elements d) step) in
+    let left = c.args.index - c.extent-count.result.paths in
     let same = ap (λ n. branch_ways documents levels c.deref-else-index-count-2.result.now n c.behind-behind.result.digest) c.in_ok-next-in-More.ensures ∙ ap (branch_ways documents levels c.deref-else-index-count-2.result.now (c.args.position + 1)) c.behind-behind.ensures.digest ∙ ap (λ r. branch_ways documents levels r (c.args.position + 1) d) c.deref-else-index-count-2.ensures in
     rw c.in-More.is (on_ok_weaker c.push_branch.result (λ g. goes_later c.args.path.now c.push_branch.new.path firsts others left c.args.index split (subst (λ l. GoesOn c.args.path.now l left c.push_branch.new.path) same g)) c.push_branch.ensures)
 

@@ -17,18 +17,18 @@ pub push_from_zero-requires-clause-counted : goal.push_from_zero-requires-clause
 push_from_zero-requires-clause-counted c =
     let policy = c.args.policy.now in
     let approvals = c.args.approvals.now in
-    let counted = counted_paths policy approvals c.as_slice.result.now c.as_slice.ensures c.extent_of_elements-count.result c.extent_of_elements-count.ensures in
+    let counted = counted_paths policy approvals c.as_slice.result.now c.as_slice.ensures c.extent-count.result c.extent-count.ensures in
     let same = ap (λ l. length (element_list_ways l 4 policy.elements zero_digest)) c.as_slice.ensures in
     omega (arith, counted, c.requires.within.few, same)
 
 pub push_from_zero-requires-clause-few : goal.push_from_zero-requires-clause-few
 push_from_zero-requires-clause-few c =
-    let counted = counted_paths c.args.policy.now c.args.approvals.now c.as_slice.result.now c.as_slice.ensures c.extent_of_elements-count.result c.extent_of_elements-count.ensures in
+    let counted = counted_paths c.args.policy.now c.args.approvals.now c.as_slice.result.now c.as_slice.ensures c.extent-count.result c.extent-count.ensures in
     omega (arith, counted, c.requires.within.few)
 
 pub push_from_zero-requires-clause-inside : goal.push_from_zero-requires-clause-inside
 push_from_zero-requires-clause-inside c =
-    let counted = counted_paths c.args.policy.now c.args.approvals.now c.as_slice.result.now c.as_slice.ensures c.extent_of_elements-count.result c.extent_of_elements-count.ensures in
+    let counted = counted_paths c.args.policy.now c.args.approvals.now c.as_slice.result.now c.as_slice.ensures c.extent-count.result c.extent-count.ensures in
     omega (arith, counted, c.requires.within.few, c.requires.positions.0, c.requires.positions.1, c.from-index.ensures)
 
 pub returns-clause-path : goal.returns-clause-path
