@@ -3,7 +3,7 @@ use Rattle.std.proofs.Common.{◌≡◌, List, Option, refl, sym, ap, ◌∙◌,
 use Rattle.std.specs.Prelude.{IfSome}
 use Rattle.tpol_base.specs.declared.digest.Digest32.{Digest32}
 use Rattle.tpol_digest.proofs.Erasures.{branch_digests-erased, digest_at_element-erased, extent_at_branches-erased}
-use Rattle.tpol_digest.specs.Digest.{branch_digests, digest_at_element, zero_digest}
+use Rattle.tpol_digest.specs.Digest.{digest_at_element, zero_digest}
 use Rattle.tpol_digest.specs.Extent.{FullExtent, IsCapped, IsOwnExtentOfBranches}
 use Rattle.tpol_digest.specs.Memos.{AreMemos, IfPlain, IsMemo, IsMemoOf}
 use Rattle.tpol_digest.specs.declared.extent.Extent.{Extent}

@@ -11,5 +11,5 @@ returns-in-After t c =
     let levels = c.in-After.levels in
     let rest = c.in-After.rest.now in
     let ahead = c.in-After.ahead.now in
-    let both = min_mul (extent_at (document_extent documents levels) documents rest).paths (ways_ahead documents ahead) c.count_ways-first.result c.count_ahead-others.result (counted documents levels rest c.count_ways-first.result c.count_ways-first.ensures.ways) c.count_ahead-others.ensures in
+    let both = min_mul (extent_at (document_extent documents levels) documents rest).paths (ways_ahead documents ahead) c.count_ways_with_memo-first.result c.count_ahead-others.result (counted documents levels rest c.count_ways_with_memo-first.result c.count_ways_with_memo-first.ensures.ways) c.count_ahead-others.ensures in
     rw c.in-After.is (omega (arith, both, c.saturating_mul.ensures, c.min.ensures))
