@@ -17,4 +17,5 @@ pub mod Moves
 pub mod OrDigests
 pub mod Outside
 pub mod Searches
+pub mod Selections
 pub mod Tracks

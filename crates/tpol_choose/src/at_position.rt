@@ -55,6 +55,7 @@ pub fn block_at<'a>(
             goal,
             locality,
             hashes: GoalHashes::of(sight, goal),
+            selected: None,
         },
         approvals: approvals.as_slice(),
         memos: None,

@@ -65,6 +65,7 @@ pub fn blocks<'a>(
             goal,
             locality,
             hashes: GoalHashes::of(sight, goal),
+            selected: None,
         },
         approvals: approvals.as_slice(),
         memos: Some(memos),

@@ -102,6 +102,7 @@ fn choose_from<'a>(
             goal,
             locality,
             hashes: GoalHashes::of(sight, goal),
+            selected: None,
         },
         approvals: approvals.as_slice(),
         memos,

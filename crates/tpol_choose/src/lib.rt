@@ -34,6 +34,7 @@ mod one_path;
 mod or_digests;
 mod or_move;
 mod searching;
+mod selection;
 mod session;
 mod track;
 mod walk;

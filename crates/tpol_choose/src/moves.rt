@@ -18,7 +18,7 @@ use crate::commands::policy_authorize_nv::policy_authorize_nv;
 use crate::commands::policy_nv::policy_nv;
 use crate::commands::policy_secret::policy_secret;
 use crate::commands::policy_signed::policy_signed;
-use tpm_pcr::{Clock, digest_of_selection};
+use tpm_pcr::Clock;
 use tpm_rules::{
     Standing, policy_command_code_rule, policy_counter_timer_rule, policy_cp_hash_rule,
     policy_duplication_select_rule, policy_locality_rule, policy_name_hash_rule,
@@ -71,7 +71,7 @@ fn check_assertion(
             mask,
             pcr_digest,
             ..
-        } => policy_pcr(client.sight, session, *mask, pcr_digest),
+        } => policy_pcr(client, session, *mask, pcr_digest),
         Assertion::Nv {
             index,
             operand,
@@ -125,18 +125,18 @@ fn check_plain(session: &Standing, assertion: &Assertion) -> Result<(), Why>
 
 // PolicyPCR with the digest that the policy has (TPM 2.0 Part 3, TPM2_PolicyPCR).
 fn policy_pcr(
-    sight: &Sight,
+    client: &Client<'_>,
     session: &Standing,
     mask: u32,
     pcr_digest: &Digest32,
 ) -> Result<(), Why>
-    requires sight { IsSight sight.now }
+    requires sight { IsSight client.now.sight.now }
     ensures { (state : SessionState) → session.now ≡ standing_of state
-        → Breaks result (spec.pcr_block sight.now state mask pcr_digest.now) }
+        → Breaks result (spec.pcr_block client.now.sight.now state mask pcr_digest.now) }
 {
-    let selected = digest_of_selection(sight.pcrs.as_slice(), mask);
-    let rule = policy_pcr_rule(session, sight.pcr_counter, &selected, Some(*pcr_digest));
-    answered(rule)
+    let selected = client.digest_of_selection(mask);
+    let counter = client.sight.pcr_counter;
+    answered(policy_pcr_rule(session, counter, &selected, Some(*pcr_digest)))
 }
 
 // PolicyCounterTimer (TPM 2.0 Part 3, TPM2_PolicyCounterTimer).

@@ -53,6 +53,7 @@ pub fn can(
         goal,
         locality,
         hashes: GoalHashes::of(sight, goal),
+        selected: None,
     };
     check_path(&client, path)
 }

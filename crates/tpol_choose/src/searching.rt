@@ -22,6 +22,7 @@ use crate::assert_move::AssertMove;
 use crate::lead::Lead;
 use crate::or_digests::OrDigests;
 use crate::or_move::OrMove;
+use crate::selection::{first_of_branches, first_of_documents};
 use crate::track::Track;
 use crate::walk::Walk;
 use tpol_digest::{Before, BeforeBranches, count_ways_with_memo};
@@ -138,7 +139,11 @@ fn search_element<'a>(
                 levels: walk.levels,
                 ahead: &*ahead,
             };
-            search_branches(walk, track, &*branches, inner, &behind, passed)
+            let among = Walk {
+                client: walk.client.selecting(first_of_branches(branches)),
+                ..*walk
+            };
+            search_branches(&among, track, &*branches, inner, &behind, passed)
         }
         ClosedElement::Authorize { .. } | ClosedElement::AuthorizeNv { .. } => {
             let after = before.behind(element, rest);
@@ -248,7 +253,9 @@ fn search_documents<'a>(
     if walk.levels == 0 {
         return Search::Passed(passed);
     }
+    let selection = first_of_documents(element, walk.approvals);
     let inner = Walk {
+        client: walk.client.selecting(selection),
         levels: walk.levels - 1,
         ..*walk
     };

@@ -1,4 +1,4 @@
-use Rattle.std.proofs.Common.{◌≡◌, ◌≢◌, ℕ, ◌+◌, ◌*◌, ◌<◌, ◌++◌, length, map, subst, sym, ap, ◌∙◌, refl, inl, inr, arith}
+use Rattle.std.proofs.Common.{◌≡◌, ◌≢◌, ℕ, ◌+◌, ◌-◌, ◌*◌, ◌<◌, ◌++◌, length, map, subst, sym, ap, ◌∙◌, refl, inl, inr, arith}
 use Rattle.std.proofs.lemmas.Option.{slice_get_read}
 use Rattle.tpol_tree.specs.declared.closed.ClosedBranch.{ClosedBranch}
 use Rattle.tpol_tree.specs.declared.closed.ClosedElement.TheVariants as closed
@@ -15,9 +15,11 @@ use Rattle.tpol_digest.proofs.Positions.{branches_closed, part}
 use Rattle.tpol_digest.proofs.Weights.{weight, weight_of_element, weight_of_branches, greatest, weight-lt-greatest}
 use Rattle.tpol_choose.specs.Acts.{move_of}
 use Rattle.tpol_choose.specs.Ahead.{ways_ahead}
+use Rattle.tpol_choose.specs.Clients.{Client}
 use Rattle.tpol_choose.specs.Lent.{client_of_lent}
 use Rattle.tpol_choose.specs.Searches.{search_ahead, search_rest, search_ways}
 use Rattle.tpol_choose.specs.Tracks.{IsTrack, TrackState, after_first, track_after}
+use Rattle.tpol_name.specs.Setups.{IsSight}
 use Rattle.tpol_choose.proofs.Going.{along_nothing}
 use Rattle.tpol_choose.proofs.Leads.{lead_few, lead_lighter, lead_search}
 use Rattle.tpol_choose.proofs.Loads.{share, share_some, entered_lighter}
@@ -75,7 +77,7 @@ search_element-returns-in-Assert t c =
 
 pub search_element-returns-in-Or : goal.search_element-returns-in-Or
 search_element-returns-in-Or t c =
-    let client = client_of_lent c.args.walk.now.client in
+    let client = client_of_lent c.selecting.result in
     let documents = c.args.walk.now.approvals.now in
     let levels = c.args.walk.now.levels in
     let rest = c.args.rest.now in
@@ -98,7 +100,8 @@ search_element-returns-in-Or t c =
     ∙ ap (λ ds. search_ways client (λ s m. search_rest client documents levels rest c.behind-after-in-Or.result.digest ahead (track_after client s (Or ds)) m) state passed ways) (c.with_after-or.ensures ∙ c.as_slice.ensures ∙ c.of-digests.ensures)
     ∙ ap (λ e. search_ways client (λ s m. search_rest client documents levels rest e ahead (track_after client s (Or digests)) m) state passed ways) (c.behind-after-in-Or.ensures.digest ∙ ap or_digest c.of-digests.ensures)
     ∙ sym (ways_by_move client (search_rest client documents levels rest (or_digest digests) ahead) state passed (Or digests) ways)
-    ∙ ap (search_ways client (search_rest client documents levels rest (or_digest digests) ahead) state passed) (branches_closed documents levels branches 1 (Or digests) d))
+    ∙ ap (search_ways client (search_rest client documents levels rest (or_digest digests) ahead) state passed) (branches_closed documents levels branches 1 (Or digests) d)
+    ∙ ap (λ (one : Client). search_ways one (search_rest one documents levels rest (or_digest digests) ahead) state passed (element_ways documents levels (closed.Or branches) d)) c.selecting.ensures)
 
 pub search_element-returns-in-Authorize : goal.search_element-returns-in-Authorize
 search_element-returns-in-Authorize t c = λ state h.
@@ -207,7 +210,7 @@ search_documents-returns-in-Found t c = λ state h.
     let i = c.loop-index.index in
     let so_far = c.loop-index.so_far in
     let level : levels ≢ 0 = c.if-walk-eq0.false in
-    let inner = entered client behind documents levels element document (move_of c.in-Some.act) c.start_of-start.result.digest state so_far c.search_elements.result level c.in-Some.ensures c.start_of-start.ensures.digest (c.search_elements.ensures state h) in
+    let inner = entered client behind documents levels element document (move_of c.in-Some.act) c.start_of-start.result.digest state so_far c.search_elements.result level c.in-Some.ensures c.start_of-start.ensures.digest (c.search_elements.ensures state h ∙ ap (λ (one : Client). search_ways one (λ t m. search_rest one documents levels c.args.rest.now c.args.after.digest c.args.ahead.now (track_after one t (move_of c.in-Some.act)) m) state so_far (element_list_ways documents (levels - 1) document.closed.elements c.start_of-start.result.digest)) c.selecting.ensures) in
     sym (c.loop-index.invariant state h
     ∙ ap (search_ways client behind state so_far) (next_left documents levels element i document c.loop-index-test.true c.document-item.is)
     ∙ found_first client behind state so_far c.in-Found.index (part documents levels element document) (left documents levels element (i + 1)) (inner ∙ c.in-Found.is))
@@ -226,7 +229,7 @@ search_documents-loop-index-preserved t c =
     let next = next_left documents levels element i document c.loop-index-test.true c.document-item.is in
     elim c.match-approval.branch [
       | search_documents-in-Some+in-Passed w ↦ λ state h.
-          let inner = entered client behind documents levels element document (move_of w.in-Some.act) w.start_of-start.result.digest state so_far w.search_elements.result level w.in-Some.ensures w.start_of-start.ensures.digest (w.search_elements.ensures state h) in
+          let inner = entered client behind documents levels element document (move_of w.in-Some.act) w.start_of-start.result.digest state so_far w.search_elements.result level w.in-Some.ensures w.start_of-start.ensures.digest (w.search_elements.ensures state h ∙ ap (λ (one : Client). search_ways one (λ t m. search_rest one documents levels c.args.rest.now c.args.after.digest c.args.ahead.now (track_after one t (move_of w.in-Some.act)) m) state so_far (element_list_ways documents (levels - 1) document.closed.elements w.start_of-start.result.digest)) c.selecting.ensures) in
           c.loop-index.invariant state h
           ∙ ap (search_ways client behind state so_far) next
           ∙ passed_first client behind state so_far w.in-Passed.more (part documents levels element document) (left documents levels element (i + 1)) (inner ∙ w.in-Passed.is)
@@ -292,11 +295,12 @@ search_element-search_elements-requires t c =
 pub search_element-search_branches-requires : goal.search_element-search_branches-requires
 search_element-search_branches-requires t c =
     let some = share_some c.args.walk.now.approvals.now c.args.walk.now.levels in
+    let sight = subst (λ (one : Client). IsSight one.sight) (sym c.selecting.ensures) c.requires.sight in
     let counts = rw c.in-Or.is at c.requires.branches in
     let lead = c.of-lead.result in
     let lighter = lead_lighter (share c.args.walk.now.approvals.now c.args.walk.now.levels) lead.first c.args.rest.now c.behind-after-in-Or.result.digest lead.rest.now lead.before.digest c.of-lead.ensures.lead in
     let few = lead_few lead.first c.args.rest.now c.behind-after-in-Or.result.digest lead.rest.now lead.before.digest c.of-lead.ensures.lead c.requires.rest in
-    (omega (arith, rw c.in-Or.is at c.decreases, some, lighter), (counts.1, (c.requires.approved, (c.requires.kept, (c.requires.sight, ((few, (c.of-lead.ensures.knows, c.requires.ahead)), c.within-inner.ensures.knows))))))
+    (omega (arith, rw c.in-Or.is at c.decreases, some, lighter), (counts.1, (c.requires.approved, (c.requires.kept, (sight, ((few, (c.of-lead.ensures.knows, c.requires.ahead)), c.within-inner.ensures.knows))))))
 
 pub search_element-search_approvals-requires : goal.search_element-search_approvals-requires
 search_element-search_approvals-requires t c =
@@ -353,6 +357,7 @@ pub search_documents-search_elements-requires : goal.search_documents-search_ele
 search_documents-search_elements-requires t c =
     let documents = c.args.walk.now.approvals.now in
     let levels = c.args.walk.now.levels in
+    let sight = subst (λ (one : Client). IsSight one.sight) (sym c.selecting.ensures) c.requires.sight in
     let document = c.document-item.result in
     let i = c.loop-index.index in
     let light = weight-lt-greatest documents i document c.loop-index-test.true in
@@ -361,7 +366,7 @@ search_documents-search_elements-requires t c =
       omega (arith, less, c.decreases),
       (
         subst (λ x. HasFewBranches x.closed.elements) (sym c.document-item.is) (c.requires.approved i document c.loop-index-test.true),
-        (c.requires.approved, (c.requires.kept, (c.requires.sight, ((c.requires.rest, (c.requires.knows, c.requires.ahead)), c.start_of-start.ensures.knows document (slice_get_read documents (length documents) i document refl c.loop-index-test.true c.document-item.is))))),
+        (c.requires.approved, (c.requires.kept, (sight, ((c.requires.rest, (c.requires.knows, c.requires.ahead)), c.start_of-start.ensures.knows document (slice_get_read documents (length documents) i document refl c.loop-index-test.true c.document-item.is))))),
       ),
     )
 
