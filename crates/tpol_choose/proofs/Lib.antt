@@ -13,3 +13,4 @@ pub mod Loads
 pub mod OnWay
 pub mod SameKeys
 pub mod SearchLaws
+pub mod Unbound

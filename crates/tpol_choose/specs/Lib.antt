@@ -7,6 +7,7 @@ pub mod Entities
 pub mod Facts
 pub mod Few
 pub mod Goals
+pub mod Hashes
 pub mod Hopes
 pub mod Judges
 pub mod Kept

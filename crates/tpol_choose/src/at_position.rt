@@ -20,7 +20,7 @@ use crate::act::Act;
 use crate::approving::{approval, outside_approval};
 use crate::assert_move::AssertMove;
 use crate::branch_digests::BranchDigests;
-use crate::client::{Client, GoalHashes};
+use crate::client::Client;
 use crate::or_move::OrMove;
 use crate::track::Track;
 use crate::walk::Walk;
@@ -54,7 +54,6 @@ pub fn block_at<'a>(
             grants,
             goal,
             locality,
-            hashes: GoalHashes::of(sight, goal),
             selected: None,
         },
         approvals: approvals.as_slice(),

@@ -21,7 +21,7 @@ use crate::act::Act;
 use crate::ahead::Ahead;
 use crate::approving::{approval, outside_approval};
 use crate::assert_move::AssertMove;
-use crate::client::{Client, GoalHashes};
+use crate::client::Client;
 use crate::lead::Lead;
 use crate::or_digests::OrDigests;
 use crate::or_move::OrMove;
@@ -64,7 +64,6 @@ pub fn blocks<'a>(
             grants,
             goal,
             locality,
-            hashes: GoalHashes::of(sight, goal),
             selected: None,
         },
         approvals: approvals.as_slice(),

@@ -10,7 +10,7 @@ ghost use Rattle.tpol_digest.specs.Paths.{paths_of};
 ghost use Rattle.tpol_choose.specs.Few.{HaveFewBranches};
 ghost use Rattle.tpol_name.specs.Setups.{IsSight};
 
-use crate::client::{Client, GoalHashes};
+use crate::client::Client;
 use crate::searching::{Search, search_policy};
 use crate::walk::Walk;
 use tpol_digest::{Before, MAX_LEVELS, Memo, zero_digest};
@@ -101,7 +101,6 @@ fn choose_from<'a>(
             grants,
             goal,
             locality,
-            hashes: GoalHashes::of(sight, goal),
             selected: None,
         },
         approvals: approvals.as_slice(),

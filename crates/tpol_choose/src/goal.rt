@@ -5,6 +5,7 @@ ghost use Rattle.tpm_bindings.specs.State.{SessionState};
 ghost use Rattle.tpm_rules.specs.Rule.{Breaks, Obeys, or_else};
 ghost use Rattle.tpm_rules.specs.Standing.{standing_of};
 ghost use Rattle.tpol_choose.specs.Goals as spec;
+ghost use Rattle.tpol_choose.specs.Hashes.{with_hashes};
 ghost use Rattle.tpol_choose.specs.Lent.{client_of_lent, entity_of_lent};
 ghost use Rattle.tpol_name.specs.Setups.{IsSight};
 
@@ -12,12 +13,13 @@ use crate::Why;
 use crate::client::Client;
 use crate::entity_at::EntityAt;
 use crate::goal_rules::{Judged, judge_goal};
+use crate::hashes::{bound_cp_hash, bound_name_hash};
 use crate::keys::is_same_block;
 use tpm_auth::check_password;
 use tpm_bindings::LastAuth;
 use tpm_rules::{Standing, Use, check_use};
 use tpol_base::response_code::AUTH_UNAVAILABLE;
-use tpol_base::{Check, CommandCode, Rc};
+use tpol_base::{Check, CommandCode, Digest32, Rc};
 
 // A policy session that may not authorize the goal, the first deferred check that it breaks, or the first rule
 // of its own.
@@ -86,22 +88,31 @@ fn check_deferred(
         → Breaks result (spec.broken_check (client_of_lent client.now) state
         (entity_of_lent found.now)) }
 {
-    let occasion = goal_use(client, found);
-    let right = proves(client, found, session.bindings.last_auth());
+    let bindings = &session.bindings;
+    let cp_hash = bound_cp_hash(client.sight, client.goal, bindings);
+    let name_hash = bound_name_hash(client.sight, client.goal, bindings);
+    let occasion = goal_use(client, found, cp_hash, name_hash);
+    let right = proves(client, found, bindings.last_auth());
     check_use(session, &occasion, found.entity.auth_policy(), right)
 }
 
-// The use of the session on the goal.
-fn goal_use(client: &Client<'_>, found: &EntityAt<'_>) -> Use
-    ensures { result ≡ spec.goal_use (client_of_lent client.now) (entity_of_lent found.now) }
+// The use of the session on the goal, with these hashes.
+fn goal_use(
+    client: &Client<'_>,
+    found: &EntityAt<'_>,
+    cp_hash: Digest32,
+    name_hash: Digest32,
+) -> Use
+    ensures { result ≡ with_hashes
+        (spec.goal_use (client_of_lent client.now) (entity_of_lent found.now)) cp_hash name_hash }
 {
     let sight = client.sight;
     let code = client.goal.code();
     Use {
         code: code.number(),
         duplicate_role: code == CommandCode::Duplicate,
-        cp_hash: client.hashes.cp_hash,
-        name_hash: client.hashes.name_hash,
+        cp_hash,
+        name_hash,
         locality: client.locality,
         presence: sight.presence,
         time: sight.time,

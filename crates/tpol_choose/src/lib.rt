@@ -26,6 +26,7 @@ mod entered;
 mod entity_at;
 mod goal;
 mod goal_rules;
+mod hashes;
 mod indices;
 mod keys;
 mod lead;

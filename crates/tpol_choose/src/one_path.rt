@@ -12,7 +12,7 @@ ghost use Rattle.tpol_choose.specs.Moves.{move_block};
 ghost use Rattle.tpol_name.specs.Setups.{IsSight};
 
 use crate::act::Act;
-use crate::client::{Client, GoalHashes};
+use crate::client::Client;
 use crate::goal::check_goal;
 use crate::moves::check_move;
 use crate::session::{add_move, fresh_session};
@@ -52,7 +52,6 @@ pub fn can(
         grants,
         goal,
         locality,
-        hashes: GoalHashes::of(sight, goal),
         selected: None,
     };
     check_path(&client, path)
