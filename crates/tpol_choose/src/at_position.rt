@@ -55,6 +55,8 @@ pub fn block_at<'a>(
             goal,
             locality,
             selected: None,
+            cp_hash: None,
+            name_hash: None,
         },
         approvals: approvals.as_slice(),
         memos: None,

@@ -65,6 +65,8 @@ pub fn blocks<'a>(
             goal,
             locality,
             selected: None,
+            cp_hash: None,
+            name_hash: None,
         },
         approvals: approvals.as_slice(),
         memos: Some(memos),

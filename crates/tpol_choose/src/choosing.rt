@@ -102,6 +102,8 @@ fn choose_from<'a>(
             goal,
             locality,
             selected: None,
+            cp_hash: None,
+            name_hash: None,
         },
         approvals: approvals.as_slice(),
         memos,

@@ -1,16 +1,19 @@
 ghost use Rattle.std.specs.Option.{ForSome};
 ghost use Rattle.std.specs.Prelude.{◌≡◌, Option};
 ghost use Rattle.tpm_pcr.specs.Pcrs.{selection_digest};
+ghost use Rattle.tpol_choose.specs.Hashes.{IsCpHash, IsNameHash};
 ghost use Rattle.tpol_choose.specs.Selections.{IsSelected};
 ghost use Rattle.tpol_name.specs.Setups.{IsSight};
 
+use tpm_bindings::Bindings;
 use tpm_pcr::digest_of_selection;
 use tpol_base::Digest32;
 use tpol_goal::{Goal, Grants};
 use tpol_name::Sight;
 
 // Who wants to go a path: what it sees of the machine, what it may use, what it wants, and the locality that it
-// sends from; with the digest of the PCRs that the moves which come next ask for, where it is kept.
+// sends from; with what is kept so that it is not made again for each way that goes on from here: the digest of the
+// PCRs that the moves which come next ask for, and the hashes of the goal's command.
 #[derive(Clone, Copy)]
 pub struct Client<'a> {
     pub sight: &'a Sight,
@@ -18,7 +21,11 @@ pub struct Client<'a> {
     pub goal: &'a Goal,
     pub locality: u8,
     pub selected: Option<Selected>,
+    pub cp_hash: Option<Digest32>,
+    pub name_hash: Option<Digest32>,
     pub ghost is_selected: { ForSome selected (IsSelected sight.now) },
+    pub ghost cp_hashed: { ForSome cp_hash (IsCpHash sight.now goal.now) },
+    pub ghost name_hashed: { ForSome name_hash (IsNameHash sight.now goal.now) },
 }
 
 impl<'a> Client<'a> {
@@ -35,8 +42,9 @@ impl<'a> Client<'a> {
         }
     }
 
-    // The same, with the digest of the PCRs of this selection kept, if it is one.
-    pub fn selecting(&self, mask: Option<u32>) -> Client<'a>
+    // The same before ways that go on from a session that these facts bind, the first of which begins by asking
+    // for this selection, if it is one: with the digest of its PCRs, and the hashes that all of them ask for.
+    pub fn keeping(&self, mask: Option<u32>, bindings: &Bindings) -> Client<'a>
         requires sight { IsSight self.now.sight.now }
         ensures { client_of_lent result ≡ client_of_lent self.now }
     {
@@ -46,10 +54,12 @@ impl<'a> Client<'a> {
             goal: self.goal,
             locality: self.locality,
             selected: self.selected_with(mask),
+            cp_hash: self.kept_cp_hash(bindings),
+            name_hash: self.kept_name_hash(bindings),
         }
     }
 
-    // What is kept then.
+    // The selection that is kept then.
     fn selected_with(&self, mask: Option<u32>) -> Option<Selected>
         requires sight { IsSight self.now.sight.now }
         ensures { ForSome result (IsSelected self.now.sight.now) }

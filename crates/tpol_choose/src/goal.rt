@@ -89,8 +89,8 @@ fn check_deferred(
         (entity_of_lent found.now)) }
 {
     let bindings = &session.bindings;
-    let cp_hash = bound_cp_hash(client.sight, client.goal, bindings);
-    let name_hash = bound_name_hash(client.sight, client.goal, bindings);
+    let cp_hash = bound_cp_hash(client, bindings);
+    let name_hash = bound_name_hash(client, bindings);
     let occasion = goal_use(client, found, cp_hash, name_hash);
     let right = proves(client, found, bindings.last_auth());
     check_use(session, &occasion, found.entity.auth_policy(), right)

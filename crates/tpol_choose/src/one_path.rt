@@ -53,6 +53,8 @@ pub fn can(
         goal,
         locality,
         selected: None,
+        cp_hash: None,
+        name_hash: None,
     };
     check_path(&client, path)
 }

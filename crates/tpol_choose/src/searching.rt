@@ -139,8 +139,9 @@ fn search_element<'a>(
                 levels: walk.levels,
                 ahead: &*ahead,
             };
+            let selection = first_of_branches(branches);
             let among = Walk {
-                client: walk.client.selecting(first_of_branches(branches)),
+                client: walk.client.keeping(selection, &track.session.bindings),
                 ..*walk
             };
             search_branches(&among, track, &*branches, inner, &behind, passed)
@@ -255,7 +256,7 @@ fn search_documents<'a>(
     }
     let selection = first_of_documents(element, walk.approvals);
     let inner = Walk {
-        client: walk.client.selecting(selection),
+        client: walk.client.keeping(selection, &track.session.bindings),
         levels: walk.levels - 1,
         ..*walk
     };

@@ -77,7 +77,7 @@ search_element-returns-in-Assert t c =
 
 pub search_element-returns-in-Or : goal.search_element-returns-in-Or
 search_element-returns-in-Or t c =
-    let client = client_of_lent c.selecting.result in
+    let client = client_of_lent c.keeping.result in
     let documents = c.args.walk.now.approvals.now in
     let levels = c.args.walk.now.levels in
     let rest = c.args.rest.now in
@@ -101,7 +101,7 @@ search_element-returns-in-Or t c =
     ∙ ap (λ e. search_ways client (λ s m. search_rest client documents levels rest e ahead (track_after client s (Or digests)) m) state passed ways) (c.behind-after-in-Or.ensures.digest ∙ ap or_digest c.of-digests.ensures)
     ∙ sym (ways_by_move client (search_rest client documents levels rest (or_digest digests) ahead) state passed (Or digests) ways)
     ∙ ap (search_ways client (search_rest client documents levels rest (or_digest digests) ahead) state passed) (branches_closed documents levels branches 1 (Or digests) d)
-    ∙ ap (λ (one : Client). search_ways one (search_rest one documents levels rest (or_digest digests) ahead) state passed (element_ways documents levels (closed.Or branches) d)) c.selecting.ensures)
+    ∙ ap (λ (one : Client). search_ways one (search_rest one documents levels rest (or_digest digests) ahead) state passed (element_ways documents levels (closed.Or branches) d)) c.keeping.ensures)
 
 pub search_element-returns-in-Authorize : goal.search_element-returns-in-Authorize
 search_element-returns-in-Authorize t c = λ state h.
@@ -210,7 +210,7 @@ search_documents-returns-in-Found t c = λ state h.
     let i = c.loop-index.index in
     let so_far = c.loop-index.so_far in
     let level : levels ≢ 0 = c.if-walk-eq0.false in
-    let inner = entered client behind documents levels element document (move_of c.in-Some.act) c.start_of-start.result.digest state so_far c.search_elements.result level c.in-Some.ensures c.start_of-start.ensures.digest (c.search_elements.ensures state h ∙ ap (λ (one : Client). search_ways one (λ t m. search_rest one documents levels c.args.rest.now c.args.after.digest c.args.ahead.now (track_after one t (move_of c.in-Some.act)) m) state so_far (element_list_ways documents (levels - 1) document.closed.elements c.start_of-start.result.digest)) c.selecting.ensures) in
+    let inner = entered client behind documents levels element document (move_of c.in-Some.act) c.start_of-start.result.digest state so_far c.search_elements.result level c.in-Some.ensures c.start_of-start.ensures.digest (c.search_elements.ensures state h ∙ ap (λ (one : Client). search_ways one (λ t m. search_rest one documents levels c.args.rest.now c.args.after.digest c.args.ahead.now (track_after one t (move_of c.in-Some.act)) m) state so_far (element_list_ways documents (levels - 1) document.closed.elements c.start_of-start.result.digest)) c.keeping.ensures) in
     sym (c.loop-index.invariant state h
     ∙ ap (search_ways client behind state so_far) (next_left documents levels element i document c.loop-index-test.true c.document-item.is)
     ∙ found_first client behind state so_far c.in-Found.index (part documents levels element document) (left documents levels element (i + 1)) (inner ∙ c.in-Found.is))
@@ -229,7 +229,7 @@ search_documents-loop-index-preserved t c =
     let next = next_left documents levels element i document c.loop-index-test.true c.document-item.is in
     elim c.match-approval.branch [
       | search_documents-in-Some+in-Passed w ↦ λ state h.
-          let inner = entered client behind documents levels element document (move_of w.in-Some.act) w.start_of-start.result.digest state so_far w.search_elements.result level w.in-Some.ensures w.start_of-start.ensures.digest (w.search_elements.ensures state h ∙ ap (λ (one : Client). search_ways one (λ t m. search_rest one documents levels c.args.rest.now c.args.after.digest c.args.ahead.now (track_after one t (move_of w.in-Some.act)) m) state so_far (element_list_ways documents (levels - 1) document.closed.elements w.start_of-start.result.digest)) c.selecting.ensures) in
+          let inner = entered client behind documents levels element document (move_of w.in-Some.act) w.start_of-start.result.digest state so_far w.search_elements.result level w.in-Some.ensures w.start_of-start.ensures.digest (w.search_elements.ensures state h ∙ ap (λ (one : Client). search_ways one (λ t m. search_rest one documents levels c.args.rest.now c.args.after.digest c.args.ahead.now (track_after one t (move_of w.in-Some.act)) m) state so_far (element_list_ways documents (levels - 1) document.closed.elements w.start_of-start.result.digest)) c.keeping.ensures) in
           c.loop-index.invariant state h
           ∙ ap (search_ways client behind state so_far) next
           ∙ passed_first client behind state so_far w.in-Passed.more (part documents levels element document) (left documents levels element (i + 1)) (inner ∙ w.in-Passed.is)
@@ -295,7 +295,7 @@ search_element-search_elements-requires t c =
 pub search_element-search_branches-requires : goal.search_element-search_branches-requires
 search_element-search_branches-requires t c =
     let some = share_some c.args.walk.now.approvals.now c.args.walk.now.levels in
-    let sight = subst (λ (one : Client). IsSight one.sight) (sym c.selecting.ensures) c.requires.sight in
+    let sight = subst (λ (one : Client). IsSight one.sight) (sym c.keeping.ensures) c.requires.sight in
     let counts = rw c.in-Or.is at c.requires.branches in
     let lead = c.of-lead.result in
     let lighter = lead_lighter (share c.args.walk.now.approvals.now c.args.walk.now.levels) lead.first c.args.rest.now c.behind-after-in-Or.result.digest lead.rest.now lead.before.digest c.of-lead.ensures.lead in
@@ -357,7 +357,7 @@ pub search_documents-search_elements-requires : goal.search_documents-search_ele
 search_documents-search_elements-requires t c =
     let documents = c.args.walk.now.approvals.now in
     let levels = c.args.walk.now.levels in
-    let sight = subst (λ (one : Client). IsSight one.sight) (sym c.selecting.ensures) c.requires.sight in
+    let sight = subst (λ (one : Client). IsSight one.sight) (sym c.keeping.ensures) c.requires.sight in
     let document = c.document-item.result in
     let i = c.loop-index.index in
     let light = weight-lt-greatest documents i document c.loop-index-test.true in

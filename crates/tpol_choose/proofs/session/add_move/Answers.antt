@@ -1,7 +1,6 @@
 use Rattle.std.proofs.Common.{[], ◌∷◌, ◌++◌, ap, sym, ◌∙◌}
 use Rattle.tpm_bindings.specs.Merged.{fact_of, merged}
 use Rattle.tpm_rules.specs.declared.standing.Standing.{Standing}
-use Rattle.tpol_base.specs.declared.digest.Digest32.{Digest32}
 use Rattle.tpol_digest.specs.Digest.{digest_after}
 use Rattle.tpol_choose.specs.Acts.{move_of}
 use Rattle.tpol_choose.specs.Facts.{counter_after, cp_hash_of, deadline_of_move, fact_of_move}
