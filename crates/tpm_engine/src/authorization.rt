@@ -2,6 +2,7 @@
 
 ghost use Rattle.std.specs.Prelude.{◌≡◌, IfOk};
 ghost use Rattle.tpm_auth.specs.SessionMacs as macs;
+ghost use Rattle.tpm_bindings.specs.Facts.{every_name_hash};
 ghost use Rattle.tpm_rules.specs.EntityView.{entity_of};
 ghost use Rattle.tpol_wire.specs.Hashes.{rp_hash};
 ghost use Rattle.tpm_world.specs.Hashes as hashes;
@@ -132,7 +133,7 @@ impl Tables {
             time: self.world.time(),
             pcr_counter: self.world.pcrs().counter(),
             cp_hash,
-            name_hash: self.world.name_hash(command),
+            name_hash: self.asked_name_hash(command, session),
             nv_written: entity.written_state(),
             auth_policy: entity.auth_policy(),
             auth_value: entity.auth_value(),
@@ -141,6 +142,18 @@ impl Tables {
             hmac: area.hmac.as_slice(),
         };
         check_use(session, &attempt).err()
+    }
+
+    // The command's nameHash where the session sets one. Where it does not, no check reads it, and zeros, which
+    // need no hashing, stand for it.
+    fn asked_name_hash(&self, command: &Command, session: &Session) -> Digest32
+        ensures alike { every_name_hash session.now.state.facts result
+            ≡ every_name_hash session.now.state.facts (hashes.name_hash self.now.world command.now) }
+    {
+        if !session.bindings().sets_name_hash() {
+            return Digest32::ZERO;
+        }
+        self.world.name_hash(command)
     }
 
     // The authorization area of a reply that succeeds, where the command has one.
