@@ -38,7 +38,7 @@ pub use policy_name_hash::assert_name_hash;
 pub use policy_nv::assert_nv;
 pub use policy_nv_written::assert_nv_written;
 pub use policy_or::assert_or;
-pub use policy_pcr::assert_pcr;
+pub use policy_pcr::{assert_pcr, assert_selected};
 pub use policy_secret::assert_secret;
 pub use policy_signed::assert_signed;
 pub use policy_ticket::assert_ticket;

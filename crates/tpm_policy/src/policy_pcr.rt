@@ -35,12 +35,36 @@ pub fn assert_pcr(
         (selection_digest pcrs.now.values mask) given) session.old
         (policy_pcr_fact event mask (selection_digest pcrs.now.values mask)) pcrs.now.counter }
 {
+    let selected = pcrs.digest_of_selection(mask);
+    assert_selected(alloc, session, event, pcrs, mask, selected, given)
+}
+
+/// `assert_pcr` for a caller that has the digest of the selected PCRs as they are now.
+pub fn assert_selected(
+    alloc: Global,
+    session: &mut Session,
+    event: u32,
+    pcrs: &Pcrs,
+    mask: u32,
+    selected: Digest32,
+    given: Option<Digest32>,
+) -> Result<(), Rc>
+    requires room { length session.old.state.facts < 512 }
+    requires mask { mask < 2 ^ 24 }
+    requires selected { selected ≡ selection_digest pcrs.now.values mask }
+    ensures rule { Obeys result
+        (policy_pcr_rule session.old.state pcrs.now.counter
+        (selection_digest pcrs.now.values mask) given) }
+    ensures session { session.new
+        ≡ asserted (policy_pcr_rule session.old.state pcrs.now.counter
+        (selection_digest pcrs.now.values mask) given) session.old
+        (policy_pcr_fact event mask (selection_digest pcrs.now.values mask)) pcrs.now.counter }
+{
     let counter = pcrs.counter();
-    let pcr_digest = pcrs.digest_of_selection(mask);
-    policy_pcr_rule(&session.standing(), counter, &pcr_digest, given)?;
+    policy_pcr_rule(&session.standing(), counter, &selected, given)?;
     let assertion = Assertion::Pcr {
         mask,
-        pcr_digest,
+        pcr_digest: selected,
         values: Digests::new(alloc),
     };
     add_unbound(session, fact_of(event, assertion), counter);
