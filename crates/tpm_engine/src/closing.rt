@@ -7,13 +7,14 @@ ghost use Rattle.tpm_bindings.specs.Facts.{moves_of};
 ghost use Rattle.tpm_session.specs.Slots.{is_live};
 ghost use Rattle.tpm_engine.specs.Closings as spec;
 ghost use Rattle.tpm_engine.specs.Deeds.{after_use};
+ghost use Rattle.tpm_world.specs.Hashes.{nonce_of_event};
 
 use crate::authorization::authorized_handle;
 use crate::{Closing, Opened, Tables};
 use std::alloc::Global;
 use tpm_session::fresh_facts;
-use tpol_base::NoMemory;
 use tpol_base::handle::TPM_RS_PW;
+use tpol_base::{Digest32, NoMemory};
 use tpol_wire::Command;
 
 // The use of a policy session that a command makes, where one is to authorize it.
@@ -68,8 +69,18 @@ impl Tables {
         };
         // Its contract says that its facts are sound and agree.
         used.facts();
-        let nonce = self.world.nonce(number);
+        let nonce = self.kept_nonce(number, keep);
         let facts = self.sessions.close_use(session, keep, nonce, facts);
         Opened { entity, facts }
+    }
+
+    // The nonceTPM of a session that is kept. One that ends needs none, and zeros stand for it.
+    fn kept_nonce(&self, number: u32, keep: bool) -> Digest32
+        ensures kept { keep ≡ true → result ≡ nonce_of_event self.now.world.seed number }
+    {
+        if !keep {
+            return Digest32::ZERO;
+        }
+        self.world.nonce(number)
     }
 }
