@@ -1,6 +1,6 @@
 -- How a command is authorized (TPM 2.0 Part 1, "Authorizations and Acknowledgments"): by a password, or by a
 -- policy session whose deferred checks hold; and the authorization area of the reply.
-use Rattle.std.specs.Prelude.{ℕ, ◌==◌, ◌&&◌, List, [], length, Option, Some, option_map, option_and_then, slice_index, if◌then◌else◌}
+use Rattle.std.specs.Prelude.{◌≡◌, ℕ, ◌==◌, ◌&&◌, List, [], length, Option, Some, option_map, option_and_then, slice_index, if◌then◌else◌}
 use Rattle.std.specs.Option.{option_map_or}
 use Rattle.tpol_base.specs.declared.check.Check.{Check}
 use Rattle.tpol_base.specs.declared.digest.Digest32.{Digest32}
@@ -15,7 +15,7 @@ use Rattle.tpol_wire.specs.Commands.{code_of_command}
 use Rattle.tpm_auth.specs.SessionMacs.{reply_mac}
 use Rattle.tpm_bindings.specs.declared.last_auth.LastAuth.{LastAuth}
 use Rattle.tpm_bindings.specs.declared.last_auth.LastAuth.TheVariants.{AuthValue, Neither, Password}
-use Rattle.tpm_bindings.specs.Facts.{last_auth}
+use Rattle.tpm_bindings.specs.Facts.{every_cp_hash, last_auth}
 use Rattle.tpm_bindings.specs.State.{SessionState}
 use Rattle.tpm_rules.specs.declared.checks.Use.{Use}
 use Rattle.tpm_rules.specs.declared.outcome.Denial.{Denial}
@@ -86,6 +86,12 @@ field_of tables command area state = record {
   nonce_tpm = state.nonce;
   attributes = area.attributes;
 }
+
+-- that the checks of the session don't tell this digest from the command's cpHash
+pub record PassesForCpHash (tables : TableState) (command : Command) (area : AuthArea) (state : SessionState) (digest : Digest32) : Type 0 where
+  pub set : every_cp_hash state.facts digest ≡ every_cp_hash state.facts (cp_hash tables.world command)
+  pub proved : (value : List ℕ) (last : LastAuth)
+      → proves (record (field_of tables command area state) { cp_hash = digest }) value last ≡ proves (field_of tables command area state) value last
 
 -- the first deferred check that the use breaks
 abbrev pub broken_check : TableState → ℕ → Command → AuthArea → Entity → SessionState → Option Check

@@ -103,11 +103,29 @@ impl Tables {
         if !entity.is_policy_available(code_of(command)) {
             return Ok(Some(denies(Denial::Unavailable, AUTH_UNAVAILABLE)));
         }
-        let cp_hash = self.world.cp_hash(alloc, command)?;
+        let cp_hash = self.asked_cp_hash(alloc, command, area, session)?;
         match self.broken_check(locality, command, area, entity, session, cp_hash) {
             Some(check) => Ok(Some(check_stop(check))),
             None => Ok(None),
         }
+    }
+
+    // The command's cpHash where the session sets one, or where the field hmac may be an HMAC over it. Where neither
+    // is so, no check reads it, and zeros, which need no hashing, stand for it.
+    fn asked_cp_hash(
+        &self,
+        alloc: Global,
+        command: &Command,
+        area: &AuthArea,
+        session: &Session,
+    ) -> Result<Digest32, NoMemory>
+        ensures passes { IfOk result
+            (spec.PassesForCpHash self.now command.now area.now session.now.state) }
+    {
+        if area.hmac.is_empty() && !session.bindings().sets_cp_hash() {
+            return Ok(Digest32::ZERO);
+        }
+        self.world.cp_hash(alloc, command)
     }
 
     // The first deferred check that the use of the session breaks.
@@ -120,7 +138,8 @@ impl Tables {
         session: &Session,
         cp_hash: Digest32,
     ) -> Option<Check>
-        requires hash { cp_hash ≡ hashes.cp_hash self.now.world command.now }
+        requires hash { spec.PassesForCpHash self.now command.now area.now
+            session.now.state cp_hash }
         ensures { result ≡ spec.broken_check self.now locality command.now area.now
             (entity_of entity.now) session.now.state }
     {
