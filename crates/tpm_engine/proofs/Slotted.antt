@@ -1,11 +1,14 @@
 -- Slots: one write that changes nothing, and sessions that stay apart.
-use Rattle.std.proofs.Common.{◌≡◌, ℕ, zero, suc, ◌-◌, ⊎_elim, true, false, List, [], ◌∷◌, get_or, set, replicate, Option, None, Some, is_some, nat_le, if◌then◌else◌, refl, ap, sym, ◌∙◌}
+use Rattle.std.proofs.Common.{◌≡◌, ℕ, zero, suc, ◌+◌, ◌-◌, ◌==◌, ⊎_elim, true, false, List, [], ◌∷◌, get_or, set, replicate, Option, None, Some, is_some, nat_le, if◌then◌else◌, refl, ap, sym, ◌∙◌}
+use Rattle.std.specs.Int.{bit_at}
 use Rattle.std.specs.Option.{option_map}
+use Rattle.std.specs.Prelude.{not}
 use Rattle.std.proofs.lemmas.Bool.{cases_eq, false≢true}
 use Rattle.std.proofs.lemmas.Option.{none-some}
 use Rattle.tpm_bindings.specs.State.{SessionState}
 use Rattle.tpm_context.specs.Saved.{AreApart, SavedState, is_saved}
-use Rattle.tpm_session.specs.Slots.{changed_at, content_at, first_handle, in_slot, is_live, session_at, session_of, state_at, with_content, with_state}
+use Rattle.tpm_session.specs.Slots.{bit_of, bits_of, changed_at, content_at, first_handle, in_slot, is_live, session_at, session_of, state_at, with_content, with_state}
+use Rattle.tpm_session.proofs.Bits.{bit_at-bits, content-handle}
 use Rattle.tpm_session.proofs.Slots.{content-emptied, content-other}
 use Rattle.tpm_world.specs.World.{WorldState}
 use Rattle.tpm_engine.specs.Tables.{TableState, saved_changed, with_changed}
@@ -79,3 +82,14 @@ not-found slots handle h = at (state_at slots handle) h
     at : (o : Option SessionState) → None ≡ option_map (session_of handle) o → o ≡ None
     at None h = refl
     at (Some state) h = absurd (none-some (session_of handle state) h)
+
+-- ---- a slot without a saved session
+
+zero-bit : (content : Option SavedState) → not (is_some content) ≡ (bit_of content == 0)
+zero-bit None = refl
+zero-bit (Some saved) = refl
+
+pub unsaved_bit : (saved : List (Option SavedState)) (slot : ℕ) → not (is_saved saved (first_handle + slot)) ≡ (bit_at (bits_of saved) slot == 0)
+unsaved_bit saved slot =
+    ap (λ content. not (is_some content)) (content-handle saved slot)
+    ∙ (zero-bit (in_slot saved slot) ∙ sym (ap (λ bit. bit == 0) (bit_at-bits saved slot)))

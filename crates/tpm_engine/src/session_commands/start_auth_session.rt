@@ -58,20 +58,21 @@ impl Tables {
         ensures slot { result ≡ spec.free_slot self.now }
         ensures within { IfSome result (λ slot. slot < slots.slot_count) }
     {
-        let taken = self.saved.slots();
         for lowest in 0..SLOT_COUNT {
-            if self.is_free(lowest, taken) {
+            if self.is_free(lowest) {
                 return Some(lowest);
             }
         }
         None
     }
 
-    // Whether a slot has no live session and is not among `taken` (bit k for slot k).
-    fn is_free(&self, slot: u32, taken: u64) -> bool
+    // Whether a slot has neither a live nor a saved session.
+    #[tactic(auto, using(crate::proofs::Slotted::unsaved_bit))]
+    fn is_free(&self, slot: u32) -> bool
         requires { slot < slots.slot_count }
-        ensures { result ≡ slots.is_free self.now.sessions taken slot }
+        ensures { result ≡ slots.is_free self.now.sessions (slots.bits_of self.now.saved) slot }
     {
-        self.sessions.find(FIRST_HANDLE + slot).is_none() && (taken >> slot) & 1 == 0
+        let handle = FIRST_HANDLE + slot;
+        self.sessions.find(handle).is_none() && !self.saved.is_saved(handle)
     }
 }

@@ -1,21 +1,18 @@
-use Rattle.std.proofs.Common.{ap, sym, ◌∙◌}
-use Rattle.tpm_session.specs.Slots.{bits_of, first_free, is_free, slot_count}
+use Rattle.std.proofs.Common.{sym, ◌∙◌}
+use Rattle.tpm_session.specs.Slots.{bits_of, is_free, slot_count}
 use Rattle.tpm_session.proofs.Least.{least-found, least-more, least-none}
-use Rattle.tpm_engine.specs.Tables.{TableState}
 use Rattle.tpm_engine.proofs.tables.Tables.free_slot.Goals as goal
 
 -- src/session_commands/start_auth_session.rt
 pub loop-lowest-init : goal.loop-lowest-init
-loop-lowest-init c = least-none (is_free c.args.self.now.sessions c.slots-taken.result)
+loop-lowest-init c = least-none (is_free c.args.self.now.sessions (bits_of c.args.self.now.saved))
 
 pub returns-then-is_free-clause-slot : goal.returns-then-is_free-clause-slot
 returns-then-is_free-clause-slot c =
-    sym (ap (first_free c.args.self.now.sessions) (sym c.slots-taken.ensures.value)
-    ∙ least-found (is_free c.args.self.now.sessions c.slots-taken.result) c.loop-lowest.lowest slot_count c.loop-lowest.invariant
+    sym (least-found (is_free c.args.self.now.sessions (bits_of c.args.self.now.saved)) c.loop-lowest.lowest slot_count c.loop-lowest.invariant
     (sym c.is_free.ensures ∙ c.if-is_free.true) c.loop-lowest-test.true)
-    ∙ ap (λ (t : TableState). first_free c.args.self.now.sessions (bits_of t.saved)) c.self.view_is
 
 pub loop-lowest-preserved : goal.loop-lowest-preserved
 loop-lowest-preserved c =
-    least-more (is_free c.args.self.now.sessions c.slots-taken.result) c.loop-lowest.lowest c.loop-lowest.invariant
+    least-more (is_free c.args.self.now.sessions (bits_of c.args.self.now.saved)) c.loop-lowest.lowest c.loop-lowest.invariant
     (sym c.is_free.ensures ∙ c.if-is_free.false)
