@@ -1,6 +1,6 @@
 //! Canonical text while it is written.
 
-ghost use Rattle.std.specs.Prelude.{◌≡◌, ◌∷◌, [], IfOk, OnOk};
+ghost use Rattle.std.specs.Prelude.{◌≡◌, ◌∷◌, [], OnOk};
 ghost use Rattle.std.specs.Str.{IsUtf8};
 ghost use Rattle.json.specs.Lex.{tokens};
 ghost use Rattle.json.specs.Print.{print};
@@ -33,13 +33,14 @@ impl Model for Draft {
 }
 
 impl Draft {
-    /// A text of which nothing is written.
-    pub fn new(alloc: Global) -> Result<Draft, NoMemory>
-        ensures { IfOk result (λ draft. draft ≡ []) }
+    /// A text of which nothing is written, in this memory. What it holds is lost.
+    pub fn new(mut room: Vec<u8>) -> Draft
+        ensures { result ≡ [] }
     {
-        Ok(Draft {
-            writer: Writer::new(Vec::with_capacity(alloc, 4096)?),
-        })
+        room.clear();
+        Draft {
+            writer: Writer::new(room),
+        }
     }
 
     /// The text.

@@ -14,4 +14,4 @@ mod rows;
 mod wishes;
 
 pub use laws::{bytes_read_back, canonical_values_stand, numbers_read_back};
-pub use policy::write_policy;
+pub use policy::{write_policy, write_policy_in};

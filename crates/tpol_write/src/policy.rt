@@ -31,7 +31,17 @@ pub fn write_policy(alloc: Global, policy: &Policy) -> Result<Blob, NoMemory>
     // It reads back: it stands for the policy without a note, if any document stands for the policy.
     ensures stands { IfOk result (λ text. StandsAlone text policy.now) }
 {
-    let mut draft = Draft::new(alloc)?;
+    write_policy_in(Vec::with_capacity(alloc, 4096)?, alloc, policy)
+}
+
+/// The same, written into this memory, which grows where it is too small. What it holds is lost.
+pub fn write_policy_in(room: Vec<u8>, alloc: Global, policy: &Policy) -> Result<Blob, NoMemory>
+    ensures text { IfOk result (λ text. text ≡ canonical_text policy.now) }
+    ensures reads { IfOk result (λ text. levels_of_elements policy.now.elements ≤ 16
+        → document_of text ≡ Some (policy_value policy.now)) }
+    ensures stands { IfOk result (λ text. StandsAlone text policy.now) }
+{
+    let mut draft = Draft::new(room);
     write_document(&mut draft, alloc, policy)?;
     Ok(draft.into_blob())
 }

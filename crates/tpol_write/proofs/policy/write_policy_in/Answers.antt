@@ -11,12 +11,12 @@ use Rattle.tpol_write.specs.Levels.{levels_of_elements}
 use Rattle.tpol_write.proofs.Depths.{policy_depth}
 use Rattle.tpol_write.proofs.Printed.{document_is}
 use Rattle.tpol_write.proofs.Stands.{stands}
-use Rattle.tpol_write.proofs.policy.write_policy.Goals as goal
+use Rattle.tpol_write.proofs.policy.write_policy_in.Goals as goal
 
 written : (c : goal.After-into_blob) → c.write_document.new.draft ≡ tokens_of (policy_value c.args.policy.now)
 written c =
     let whole = tokens_of (policy_value c.args.policy.now) in
-    c.in_ok-write_document.ensures.tokens.is ∙ ap (λ ts. ts ++ whole) c.in_ok-draft.ensures
+    c.in_ok-write_document.ensures.tokens.is ∙ ap (λ ts. ts ++ whole) c.new-draft.ensures
 
 document : (c : goal.After-into_blob) → levels_of_elements c.args.policy.now.elements ≤ 16 → document_of c.into_blob.result ≡ Some (policy_value c.args.policy.now)
 document c few =
