@@ -9,9 +9,9 @@ ghost use Rattle.tpol_write.specs.Objects.{natural};
 use crate::draft::Draft;
 use crate::lists::{put_names, put_pcrs};
 use crate::members::{
-    put_byte, put_bytes, put_digest, put_name, put_short, put_signed, put_text, put_truth, put_word,
+    put_byte, put_bytes, put_digest, put_name, put_short, put_signed, put_truth, put_word,
 };
-use crate::names::code_text;
+use crate::names::put_code;
 use crate::wishes::{put_cp_hash, put_entity, put_index, put_key, put_parent};
 use std::alloc::Global;
 use tpol_base::{Blob, Compare, Digest32, Name, NoMemory};
@@ -158,7 +158,7 @@ pub fn command_code(draft: &mut Draft, alloc: Global, code: u32) -> Result<(), N
     ensures reads { OnOk result (Reads (element_value (CommandCode code))) }
 {
     draft.begin_object()?;
-    put_text(draft, "code", &code_text(alloc, code)?)?;
+    put_code(draft, alloc, code)?;
     end_typed(draft, "POLICYCOMMANDCODE")
 }
 
