@@ -1,6 +1,6 @@
 // The command `canon`.
 
-ghost use Rattle.std.specs.Prelude.{◌≡◌, IfOk};
+ghost use Rattle.std.specs.Prelude.{◌≡◌, [], IfOk};
 ghost use Rattle.tpol_steps.specs.Answer.{one_line};
 ghost use Rattle.tpol_steps.specs.Steps.{Answers, IsInside};
 ghost use Rattle.tpol_top.specs.Canon.{canon_step};
@@ -12,7 +12,7 @@ use tpol_base::NoMemory;
 use tpol_lines::{Lines, push_bytes};
 use tpol_steps::{Answer, Halt, Verdict, read_document};
 use tpol_tree::Policy;
-use tpol_write::write_policy;
+use tpol_write::write_policy_in;
 
 /// The command `canon`: the canonical text of the document in the source.
 ///
@@ -22,17 +22,26 @@ pub fn canon(alloc: Global, input: &[u8]) -> Result<Answer, Halt>
     ensures answer { Answers (λ answer. answer) (canon_step input.now) result }
     ensures inside { IsInside result }
 {
+    // The text is seldom longer than the document. Its room is taken before the document is read: behind the many
+    // small pieces that reading gives back, the allocator would first join these.
+    let room = room_of(alloc, input.len())?;
     let (policy, _notes) = read_document(alloc, input)?;
-    Ok(canonical(alloc, &policy)?)
+    Ok(canonical(alloc, room, &policy)?)
+}
+
+fn room_of(alloc: Global, count: usize) -> Result<Vec<u8>, NoMemory>
+    ensures { IfOk result (λ room. room.items ≡ []) }
+{
+    Ok(Vec::with_capacity(alloc, count)?)
 }
 
 #[tactic(auto, using(tpol_write::proofs::CanonErased::canonical_text_erased))]
-fn canonical(alloc: Global, policy: &Policy) -> Result<Answer, NoMemory>
+fn canonical(alloc: Global, room: Vec<u8>, policy: &Policy) -> Result<Answer, NoMemory>
     ensures { IfOk result (λ answer. answer
         ≡ one_line (canonical_text (erased_policy policy.now)) Verdict.Done) }
 {
     let mut lines = Lines::new(alloc);
-    push_bytes(&mut lines, write_policy(alloc, policy)?)?;
+    push_bytes(&mut lines, write_policy_in(room, alloc, policy)?)?;
     let verdict = Verdict::Done;
     Ok(Answer { lines, verdict })
 }
