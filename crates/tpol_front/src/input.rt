@@ -1,9 +1,13 @@
-ghost use Rattle.std.specs.Prelude.{◌≡◌, Some, IfSome, IfOk, take, drop};
+ghost use Rattle.std.specs.Prelude.{◌≡◌, [], Some, IfSome, IfOk, take, drop};
 ghost use Rattle.tpol_base.specs.Causes.{HasLapse, IsQuiet};
 ghost use Rattle.tpol_front.specs.Outside.{LosesAtMost};
 
 use std::alloc::Global;
-use tpol_base::{Blob, Failed, Lapse, Source};
+use tpol_base::{Blob, Failed, Lapse, NoMemory, Source};
+
+// The room at first. What outgrows its room is copied, and room that nothing is written to costs no memory. A room of
+// this size is its own piece of memory: to let it go joins no others.
+const ROOM: usize = 262_144;
 
 /// Reads a source to its end, or to its byte `limit`.
 ///
@@ -17,7 +21,7 @@ pub fn read_input<S: Source>(alloc: Global, source: &mut S, limit: usize) -> Res
     ensures cause { HasLapse (S.faults source.old) (S.faults source.new) result }
     ensures quiet { IsQuiet (S.faults source.old) (S.faults source.new) result }
 {
-    let mut bytes = Blob::new(alloc);
+    let mut bytes = with_room(alloc)?;
     let mut piece = [0; 4096];
     for _turn in 0..limit {
         let want = piece.len().min(limit - bytes.len());
@@ -31,4 +35,11 @@ pub fn read_input<S: Source>(alloc: Global, source: &mut S, limit: usize) -> Res
         }
     }
     Ok(bytes)
+}
+
+// No byte, with room for more.
+fn with_room(alloc: Global) -> Result<Blob, NoMemory>
+    ensures { IfOk result (λ bytes. bytes ≡ []) }
+{
+    Ok(Blob::from_vec(Vec::with_capacity(alloc, ROOM)?))
 }
