@@ -188,7 +188,11 @@ fn push_element<'a>(
                 levels: walk.levels,
                 ahead: &*ahead,
             };
-            push_branches(walk, track, &*branches, inner, &behind, found)
+            let among = Walk {
+                client: walk.client.keeping(None, &track.session.bindings),
+                ..*walk
+            };
+            push_branches(&among, track, &*branches, inner, &behind, found)
         }
         ClosedElement::Authorize { .. } | ClosedElement::AuthorizeNv { .. } => {
             let after = before.behind(element, rest);

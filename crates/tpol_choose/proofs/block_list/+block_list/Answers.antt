@@ -15,9 +15,11 @@ use Rattle.tpol_digest.proofs.Documents.{approved_none}
 use Rattle.tpol_digest.proofs.Positions.{branches_closed, part}
 use Rattle.tpol_digest.proofs.Weights.{weight, weight_of_element, weight_of_branches, greatest, weight-lt-greatest}
 use Rattle.tpol_choose.specs.Acts.{move_of}
+use Rattle.tpol_choose.specs.Clients.{Client}
 use Rattle.tpol_choose.specs.Lent.{client_of_lent}
 use Rattle.tpol_choose.specs.BlockLists.{blocks_ahead, blocks_of, blocks_rest}
 use Rattle.tpol_choose.specs.Tracks.{IsTrack, TrackState, after_first, gone_outside, track_after}
+use Rattle.tpol_name.specs.Setups.{IsSight}
 use Rattle.tpol_choose.proofs.Going.{along_nothing}
 use Rattle.tpol_choose.proofs.Leads.{lead_blocks, lead_few, lead_lighter}
 use Rattle.tpol_choose.proofs.Loads.{share, share_some, entered_lighter}
@@ -67,7 +69,7 @@ push_element-returns-in-Assert t c =
 
 pub push_element-returns-in-Or : goal.push_element-returns-in-Or
 push_element-returns-in-Or t c =
-    let client = client_of_lent c.args.walk.now.client in
+    let client = client_of_lent c.keeping.result in
     let documents = c.args.walk.now.approvals.now in
     let levels = c.args.walk.now.levels in
     let rest = c.args.rest.now in
@@ -89,7 +91,8 @@ push_element-returns-in-Or t c =
     ∙ ap (λ ds. blocks ++ blocks_of client (λ s. blocks_rest client documents levels rest c.behind-after-in-Or.result.digest ahead (track_after client s (Or ds))) state ways) (c.with_after-or.ensures ∙ c.as_slice.ensures ∙ c.of-digests.ensures)
     ∙ ap (λ x. blocks ++ blocks_of client (λ s. blocks_rest client documents levels rest x ahead (track_after client s (Or digests))) state ways) (c.behind-after-in-Or.ensures.digest ∙ ap or_digest c.of-digests.ensures)
     ∙ ap (λ l. blocks ++ l) (sym (blocks_by_move client (blocks_rest client documents levels rest (or_digest digests) ahead) state (Or digests) ways)
-    ∙ ap (blocks_of client (blocks_rest client documents levels rest (or_digest digests) ahead) state) (branches_closed documents levels branches 1 (Or digests) d))) (c.push_branches.ensures state 1 h))
+    ∙ ap (blocks_of client (blocks_rest client documents levels rest (or_digest digests) ahead) state) (branches_closed documents levels branches 1 (Or digests) d))
+    ∙ ap (λ (one : Client). blocks ++ blocks_of one (blocks_rest one documents levels rest (or_digest digests) ahead) state (element_ways documents levels (closed.Or branches) d)) c.keeping.ensures) (c.push_branches.ensures state 1 h))
 
 pub push_element-returns-in-Authorize : goal.push_element-returns-in-Authorize
 push_element-returns-in-Authorize t c = λ state h.
@@ -225,11 +228,12 @@ push_element-push_elements-requires t c =
 pub push_element-push_branches-requires : goal.push_element-push_branches-requires
 push_element-push_branches-requires t c =
     let some = share_some c.args.walk.now.approvals.now c.args.walk.now.levels in
+    let sight = subst (λ (one : Client). IsSight one.sight) (sym c.keeping.ensures) c.requires.sight in
     let counts = rw c.in-Or.is at c.requires.branches in
     let lead = c.of-lead.result in
     let lighter = lead_lighter (share c.args.walk.now.approvals.now c.args.walk.now.levels) lead.first c.args.rest.now c.behind-after-in-Or.result.digest lead.rest.now lead.before.digest c.of-lead.ensures.lead in
     let few = lead_few lead.first c.args.rest.now c.behind-after-in-Or.result.digest lead.rest.now lead.before.digest c.of-lead.ensures.lead c.requires.rest in
-    (omega (arith, rw c.in-Or.is at c.decreases, some, lighter), (counts.1, (c.requires.approved, (c.requires.kept, (c.requires.sight, ((few, (c.of-lead.ensures.knows, c.requires.ahead)), c.within-inner.ensures.knows))))))
+    (omega (arith, rw c.in-Or.is at c.decreases, some, lighter), (counts.1, (c.requires.approved, (c.requires.kept, (sight, ((few, (c.of-lead.ensures.knows, c.requires.ahead)), c.within-inner.ensures.knows))))))
 
 pub push_element-push_approvals-requires : goal.push_element-push_approvals-requires
 push_element-push_approvals-requires t c =
