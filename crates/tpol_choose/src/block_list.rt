@@ -25,6 +25,7 @@ use crate::client::Client;
 use crate::lead::Lead;
 use crate::or_digests::OrDigests;
 use crate::or_move::OrMove;
+use crate::selection::{first_of_branches, first_of_documents};
 use crate::track::Track;
 use crate::walk::Walk;
 use std::alloc::Global;
@@ -188,8 +189,9 @@ fn push_element<'a>(
                 levels: walk.levels,
                 ahead: &*ahead,
             };
+            let selection = track.asking(first_of_branches(branches));
             let among = Walk {
-                client: walk.client.keeping(None, &track.session.bindings),
+                client: walk.client.keeping(selection, &track.session.bindings),
                 ..*walk
             };
             push_branches(&among, track, &*branches, inner, &behind, found)
@@ -304,7 +306,9 @@ fn push_documents<'a>(
     if walk.levels == 0 {
         return Ok(());
     }
+    let selection = track.asking(first_of_documents(element, walk.approvals));
     let inner = Walk {
+        client: walk.client.keeping(selection, &track.session.bindings),
         levels: walk.levels - 1,
         ..*walk
     };

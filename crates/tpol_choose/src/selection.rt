@@ -1,5 +1,5 @@
 // The selection of PCRs that the first move of a policy asks for. Where alternatives follow each other they
-// mostly ask for the same one: its digest is made once, before the first of them (see `Client::selecting`).
+// mostly ask for the same one: its digest is made once, before the first of them (see `Client::keeping`).
 
 use crate::approving::approval;
 use tpol_tree::{ApprovedDoc, Assertion, ClosedBranches, ClosedElement, ClosedElements};

@@ -95,6 +95,14 @@ impl Track {
         at(number, check_move(client, &self.session, act)).err()
     }
 
+    // The selection that the next move asks for, where that move is tried: where nothing stands in the way yet.
+    pub fn asking(&self, selection: Option<u32>) -> Option<u32> {
+        if self.block.is_some() {
+            return None;
+        }
+        selection
+    }
+
     // By a policy that no listed document has.
     pub fn outside(self) -> Track
         ensures { (track : TrackState) → IsTrack self track

@@ -1,4 +1,4 @@
-use Rattle.std.proofs.Common.{◌≡◌, ◌≢◌, ◌+◌, ◌*◌, ◌<◌, ◌++◌, length, map, subst, sym, ap, ◌∙◌, refl, inl, inr, arith}
+use Rattle.std.proofs.Common.{◌≡◌, ◌≢◌, ◌+◌, ◌-◌, ◌*◌, ◌<◌, ◌++◌, length, map, subst, sym, ap, ◌∙◌, refl, inl, inr, arith}
 use Rattle.std.proofs.lemmas.List.{append-nil, append_assoc}
 use Rattle.std.proofs.lemmas.Result.{on_ok_weaker}
 use Rattle.std.proofs.lemmas.Option.{slice_get_read}
@@ -290,6 +290,7 @@ pub push_documents-push_elements-requires : goal.push_documents-push_elements-re
 push_documents-push_elements-requires t c =
     let documents = c.args.walk.now.approvals.now in
     let levels = c.args.walk.now.levels in
+    let sight = subst (λ (one : Client). IsSight one.sight) (sym c.keeping.ensures) c.requires.sight in
     let document = c.document-item.result in
     let i = c.loop-index.index in
     let light = weight-lt-greatest documents i document c.loop-index-test.true in
@@ -298,7 +299,7 @@ push_documents-push_elements-requires t c =
       omega (arith, less, c.decreases),
       (
         subst (λ x. HasFewBranches x.closed.elements) (sym c.document-item.is) (c.requires.approved i document c.loop-index-test.true),
-        (c.requires.approved, (c.requires.kept, (c.requires.sight, ((c.requires.rest, (c.requires.knows, c.requires.ahead)), c.start_of-start.ensures.knows document (slice_get_read documents (length documents) i document refl c.loop-index-test.true c.document-item.is))))),
+        (c.requires.approved, (c.requires.kept, (sight, ((c.requires.rest, (c.requires.knows, c.requires.ahead)), c.start_of-start.ensures.knows document (slice_get_read documents (length documents) i document refl c.loop-index-test.true c.document-item.is))))),
       ),
     )
 
@@ -332,7 +333,7 @@ push_documents-loop-index-preserved t c =
           ∙ ap (λ v. blocks ++ blocks_of client behind state v) next
           ∙ ap (λ l. blocks ++ l) (blocks_append client behind state (part documents levels element document) (left documents levels element (i + 1)))
           ∙ sym (append_assoc blocks (blocks_of client behind state (part documents levels element document)) others)
-          ∙ ap (λ l. l ++ others) (ap (λ l. blocks ++ l) inner ∙ sym (w.in_ok-push_elements.ensures state h))
+          ∙ ap (λ l. l ++ others) (ap (λ l. blocks ++ l) inner ∙ sym (w.in_ok-push_elements.ensures state h ∙ ap (λ (one : Client). blocks ++ blocks_of one (λ t. blocks_rest one documents levels c.args.rest.now c.args.after.digest c.args.ahead.now (track_after one t (move_of w.in-Some.act))) state (element_list_ways documents (levels - 1) document.closed.elements w.start_of-start.result.digest)) c.keeping.ensures))
           ∙ ap (λ v. v.items ++ others) (sym w.found-is)
       | push_documents-in_default w ↦ λ state h.
           let others = blocks_of client behind state (left documents levels element (i + 1)) in
