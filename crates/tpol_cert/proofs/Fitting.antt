@@ -1,5 +1,5 @@
 -- The numbers of choices are small, so that each path within the limits has a certificate.
-use Rattle.std.proofs.Common.{◌≡◌, ℕ, zero, suc, ◌+◌, ◌-◌, ◌*◌, ◌<◌, ◌≤◌, Bool, true, false, List, [], ◌∷◌, ◌++◌, map, length, length-append, Option, Some, None, refl, sym, ap, ◌∙◌, subst, inl, inr, arith, All}
+use Rattle.std.proofs.Common.{◌≡◌, ℕ, zero, suc, ◌+◌, ◌-◌, ◌<◌, ◌≤◌, Bool, true, false, List, [], ◌∷◌, ◌++◌, map, length, length-append, Some, refl, sym, ap, ◌∙◌, subst, inl, inr, arith}
 use Rattle.std.specs.Prelude.{◌⊎◌, ⊤, is_some, if◌then◌else◌}
 use Rattle.std.specs.List.{AllByRecursion, slice_get}
 use Rattle.std.proofs.lemmas.List.{length-map}
@@ -25,7 +25,7 @@ use Rattle.tpol_cert.specs.declared.choice.Choice.TheVariants.{Branch, Document,
 use Rattle.tpol_cert.specs.Certificates.{Certifies, certificate_of}
 use Rattle.tpol_cert.specs.Choices.{approved_choices, behind, choices_at, choices_at_branches, choices_at_element, choices_of, document_choices, each_with}
 use Rattle.tpol_cert.specs.Judgement.{certificate_bytes, certificate_with}
-use Rattle.tpol_cert.specs.Laws.{HasCertificate, PathsHaveCertificates}
+use Rattle.tpol_cert.specs.Laws.{PathsHaveCertificates}
 use Rattle.tpol_cert.specs.Spelling.{ChoiceFits, Fits, spelled}
 use Rattle.tpol_cert.proofs.Along.{length-digests_along}
 use Rattle.tpol_cert.proofs.Apart.{at_index, each_append, each_map, each_weaker}

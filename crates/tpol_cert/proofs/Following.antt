@@ -14,7 +14,7 @@ use Rattle.tpol_cert.specs.declared.follow.Stray.TheVariants.{At, NoMemory}
 use Rattle.tpol_cert.specs.Following.{IsStray, Leads, Misses, Strays, common, most}
 use Rattle.tpol_cert.specs.Judging.{IsNoStep}
 use Rattle.tpol_cert.proofs.Apart.{AllPart, BeginsAtBranch, BeginsAtDocument, Part, at_index, each_append, same_itself}
-use Rattle.tpol_cert.proofs.Going.{at_first, at_later, at_map, at_product, length-product}
+use Rattle.tpol_cert.proofs.Going.{at_first, at_later, at_map, at_product}
 
 -- ---- choices that are the same
 

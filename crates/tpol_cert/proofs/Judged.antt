@@ -65,7 +65,7 @@ same_themselves [] = refl
 same_themselves (x ∷ xs) = ap (λ b. if b then same_choices xs xs else false) (same_itself x) ∙ same_themselves xs
 
 -- the steps stand where they are found
-found_at : (n : ℕ) (steps : List Choice) (all : List (List Choice)) (m : ℕ) → position_of n steps all ≡ Some m → (n ≤ m) × (slice_get all (m - n) ≡ Some steps)
+pub found_at : (n : ℕ) (steps : List Choice) (all : List (List Choice)) (m : ℕ) → position_of n steps all ≡ Some m → (n ≤ m) × (slice_get all (m - n) ≡ Some steps)
 found_at n steps [] m e = absurd cc
 found_at n steps (choices ∷ rest) m e = by (same_choices steps choices) (same_choices_are steps choices) (found_at (n + 1) steps rest m) e
   where

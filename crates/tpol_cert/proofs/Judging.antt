@@ -1,5 +1,5 @@
 -- What is told of a certificate, of what was read.
-use Rattle.std.proofs.Common.{◌≡◌, ℕ, ◌+◌, ◌-◌, ◌≤◌, Bool, true, false, List, [], ◌∷◌, Some, None, Result, Ok, Err, refl, sym, ap, ◌∙◌, subst, inl, inr, arith}
+use Rattle.std.proofs.Common.{◌≡◌, ℕ, ◌+◌, ◌-◌, Bool, true, false, List, [], ◌∷◌, Some, None, Result, Ok, Err, refl, sym, ap, ◌∙◌, subst, inl, inr}
 use Rattle.std.specs.Prelude.{IfOk, IsErrOf, if◌then◌else◌}
 use Rattle.std.specs.List.{slice_get}
 use Rattle.std.proofs.lemmas.Slice.Eq.{bytes_eq-Decides}
@@ -16,7 +16,6 @@ use Rattle.tpol_cert.specs.declared.choice.Choice.{Choice}
 use Rattle.tpol_cert.specs.declared.fault.CertFault.{CertFault}
 use Rattle.tpol_cert.specs.declared.fault.CertFault.TheVariants as faults
 use Rattle.tpol_cert.specs.Certificates.{Certifies, certificate_of, digests_along}
-use Rattle.tpol_cert.specs.Choices.{choices_of}
 use Rattle.tpol_cert.specs.Judging.{AnswersUnlessNoMemory, AreNoCertificate, IsAccepted, Judged, first_difference}
 use Rattle.tpol_cert.specs.Reading.{GivesWhole, certificate_in}
 use Rattle.tpol_cert.specs.Spelling.{Fits, spelled}
@@ -55,7 +54,7 @@ abbrev certificate : List Choice → List Digest32 → Certificate
 certificate steps digests = record { steps = steps; digests = digests }
 
 module _ (policy : Closed) (approvals : List ApprovedDoc) (bytes : List ℕ) where
-  accepted_certifies : (c : Certificate) (position : ℕ) → Fits c → bytes ≡ spelled c → IsAccepted policy approvals c position → Certifies bytes policy approvals position
+  pub accepted_certifies : (c : Certificate) (position : ℕ) → Fits c → bytes ≡ spelled c → IsAccepted policy approvals c position → Certifies bytes policy approvals position
   accepted_certifies c position fits is a =
       let same : c ≡ certificate_of c.steps a.path = ap (λ digests. certificate c.steps digests) a.same in
       record {

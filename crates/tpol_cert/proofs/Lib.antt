@@ -1,6 +1,7 @@
 pub mod Along
 pub mod Apart
 pub mod Beside
+pub mod Certified
 pub mod ChoicesErased
 pub mod Fitting
 pub mod Following

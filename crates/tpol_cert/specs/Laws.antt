@@ -1,5 +1,5 @@
 -- What holds of the choices of all policies, and of the certificates of their paths.
-use Rattle.std.specs.Prelude.{◌≡◌, ℕ, ◌≤◌, List, ◌++◌, length, map, Some}
+use Rattle.std.specs.Prelude.{◌≡◌, ℕ, ◌<◌, ◌≤◌, ◌↔◌, All, List, ◌++◌, length, map, Ok, Some}
 use Rattle.std.specs.List.{slice_get}
 use Rattle.tpol_tree.specs.ClosedErased.{erased, erased_document}
 use Rattle.tpol_tree.specs.declared.closed.Closed.{Closed}
@@ -10,7 +10,7 @@ use Rattle.tpol_digest.specs.WellFormed.{HaveBranchCounts}
 use Rattle.tpol_cert.specs.declared.choice.Choice.{Choice}
 use Rattle.tpol_cert.specs.Certificates.{Certifies}
 use Rattle.tpol_cert.specs.Choices.{choices_of}
-use Rattle.tpol_cert.specs.Judgement.{certificate_bytes}
+use Rattle.tpol_cert.specs.Judgement.{certificate_bytes, judgement_of}
 use Rattle.tpol_cert.specs.Steps.{Beside}
 
 -- the choices stand in the order of the paths, and are their steps
@@ -39,3 +39,9 @@ abbrev pub PathsHaveCertificates : Type 0
 PathsHaveCertificates =
     (policy : Closed) (approvals : List ApprovedDoc) (position : ℕ) → HaveBranchCounts policy approvals → AreWithinLimits (paths_of policy approvals)
     → 1 ≤ position → position ≤ length (paths_of policy approvals) → HasCertificate policy approvals position
+
+-- what is answered of bytes is a position exactly where they certify the path there
+abbrev pub JudgementsCertify : Type 0
+JudgementsCertify =
+    (policy : Closed) (approvals : List ApprovedDoc) (bytes : List ℕ) (position : ℕ) → All (λ byte. byte < 256) bytes
+    → (judgement_of policy approvals bytes ≡ Ok position) ↔ Certifies bytes policy approvals position

@@ -1,6 +1,6 @@
 //! Laws of the choices on paths, over their definitions alone.
 
-ghost use Rattle.tpol_cert.specs.Laws.{ChoicesAreApart, ChoicesAreSteps, ChoicesIgnoreBoxes, PathsHaveCertificates};
+ghost use Rattle.tpol_cert.specs.Laws.{ChoicesAreApart, ChoicesAreSteps, ChoicesIgnoreBoxes, JudgementsCertify, PathsHaveCertificates};
 
 /// The choices stand in the order of the paths, and are their steps: each of one kind with its step, and a branch of
 /// one position; a path has no more choices than moves. The choices of one path begin those of no other. They are the
@@ -14,4 +14,9 @@ pub fn choices_are_steps()
 /// Each path has a certificate, where each OR has 2 to 8 branches and the paths are within the limits.
 pub fn paths_have_certificates()
     ensures { PathsHaveCertificates }
+{}
+
+/// What is answered of bytes is the position of a path exactly where they certify that path.
+pub fn judgements_certify()
+    ensures { JudgementsCertify }
 {}

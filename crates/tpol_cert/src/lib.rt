@@ -21,4 +21,4 @@ pub use certifying::certify;
 pub use checking::check;
 pub use choice::{Choice, Choices};
 pub use fault::CertFault;
-pub use laws::{choices_are_steps, paths_have_certificates};
+pub use laws::{choices_are_steps, judgements_certify, paths_have_certificates};
