@@ -16,29 +16,33 @@ use tpol_base::Digest32;
 use tpol_digest::zero_digest;
 
 impl<'a> Client<'a> {
-    // The cpHash, where it is kept or the facts bind one.
+    // The cpHash, where the facts bind one.
     pub fn kept_cp_hash(&self, bindings: &Bindings) -> Option<Digest32>
         ensures hash { ForSome result (spec.IsCpHash self.now.sight.now self.now.goal.now) }
         ensures unbound { (bound : List OneFact) → bindings.now ≡ merged bound
             → IfNone result (facts.sets_cp_hash bound ≡ false) }
     {
+        if !bindings.sets_cp_hash() {
+            return None;
+        }
         match self.cp_hash {
             Some(hash) => Some(hash),
-            None if bindings.sets_cp_hash() => Some(self.goal.cp_hash(self.sight)),
-            None => None,
+            None => Some(self.goal.cp_hash(self.sight)),
         }
     }
 
-    // The nameHash, where it is kept or the facts bind one.
+    // The nameHash, where the facts bind one.
     pub fn kept_name_hash(&self, bindings: &Bindings) -> Option<Digest32>
         ensures hash { ForSome result (spec.IsNameHash self.now.sight.now self.now.goal.now) }
         ensures unbound { (bound : List OneFact) → bindings.now ≡ merged bound
             → IfNone result (facts.sets_name_hash bound ≡ false) }
     {
+        if !bindings.sets_name_hash() {
+            return None;
+        }
         match self.name_hash {
             Some(hash) => Some(hash),
-            None if bindings.sets_name_hash() => Some(self.goal.name_hash(self.sight)),
-            None => None,
+            None => Some(self.goal.name_hash(self.sight)),
         }
     }
 }
