@@ -9,7 +9,7 @@ use crate::World;
 use tpm_rules::{Entity, unless};
 use tpol_base::response_code::{HANDLE, of_handle, reference_of_handle};
 use tpol_base::{HandleKind, Name, Rc};
-use tpol_name::{nv_name, object_name};
+use tpol_name::nv_name;
 
 impl World {
     /// What may be authorized by this handle: a hierarchy, a PCR, an object or an index; `None` exactly where
@@ -31,11 +31,12 @@ impl World {
     pub fn name_of(&self, handle: u32) -> Name
         ensures name { result ≡ spec.name_at self.now handle }
     {
-        match self.entity(handle) {
-            Some(Entity::Object(object)) => object_name(&object.public),
-            Some(Entity::Index(index)) => nv_name(&index.public),
-            _ => Name::Handle(handle),
-        }
+        let name = match HandleKind::of(handle) {
+            Some(HandleKind::Object) => self.object_name_of(handle),
+            Some(HandleKind::Index) => self.index(handle).map(|index| nv_name(&index.public)),
+            _ => None,
+        };
+        name.unwrap_or(Name::Handle(handle))
     }
 
     /// That handle `n` of a command, from 1, is no index and no object that is not there: TPM_RC_HANDLE of the

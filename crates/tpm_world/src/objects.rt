@@ -1,6 +1,6 @@
 //! The objects of a machine by handle.
 
-ghost use Rattle.std.specs.Prelude.{◌≡◌, nat_eq, map, IfOk};
+ghost use Rattle.std.specs.Prelude.{◌≡◌, nat_eq, map, is_some, slice_get, IfOk, IfSome};
 ghost use Rattle.std.specs.Option.{option_copied};
 ghost use Rattle.std.specs.List.{IsDistinct};
 ghost use Rattle.tpm_world.specs.Objects.{object_of};
@@ -49,6 +49,15 @@ impl ObjectTable {
         ensures found { option_copied result ≡ object_of handle self.now }
     {
         self.objects.get(&handle)
+    }
+
+    /// The place in the list of the object with this handle, counted from 0; `None` exactly where there is none.
+    pub fn place_of(&self, handle: u32) -> Option<usize>
+        ensures found { is_some result ≡ is_some (object_of handle self.now) }
+        ensures object { IfSome result (λ place. slice_get self.now place
+            ≡ object_of handle self.now) }
+    {
+        self.objects.get_index_of(&handle)
     }
 
     /// A copy of all objects, in order.

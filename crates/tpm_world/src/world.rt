@@ -24,7 +24,7 @@ use tpm_nv::NvTable;
 use tpm_pcr::{Clock, PcrFull, Pcrs};
 use tpm_rules::Entity;
 use tpol_base::handle::{TPM_RH_ENDORSEMENT, TPM_RH_LOCKOUT, TPM_RH_OWNER};
-use tpol_base::{Blob, Digest32, Digests, NoMemory, Rc};
+use tpol_base::{Blob, Digest32, Digests, Name, NoMemory, Rc};
 use tpol_name::{
     IndexEntry, NamedIndices, NamedObjects, Names, ObjectEntry, Setup, Sight, names_of,
 };
@@ -181,6 +181,15 @@ impl World {
         ensures found { option_copied result ≡ object_of handle self.now.objects }
     {
         self.objects.find(handle)
+    }
+
+    // The Name of the object with this handle, as it was hashed at the start; `None` exactly where there is none.
+    pub(crate) fn object_name_of(&self, handle: u32) -> Option<Name>
+        ensures name { result ≡ option_map (λ object. object_name object.public)
+            (object_of handle self.now.objects) }
+    {
+        let place = self.objects.place_of(handle)?;
+        self.object_names.get(place).copied()
     }
 
     /// The index with this handle; `None` exactly where there is none. Its content has as many bytes as its
