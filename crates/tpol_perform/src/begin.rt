@@ -15,6 +15,7 @@ ghost use Rattle.tpol_perform.specs.NewRuns.{with_new_run};
 ghost use Rattle.tpol_perform.specs.Performance.{with_line};
 ghost use Rattle.tpol_perform.specs.Tickets.{tickets_given};
 ghost use Rattle.tpol_prepare.specs.Manner.{way_of};
+ghost use Rattle.tpol_prepare.specs.declared.scenario.Scenario.{Scenario as OneScenario};
 ghost use Rattle.tpol_prepare.specs.Scenario.{IsScenarioOf, IsWalkable, paths_named};
 ghost use Rattle.tpol_runs.specs.Courses.{begun};
 
@@ -104,21 +105,16 @@ impl Performance {
         ensures setup { OnOk result (self.new.setup ≡ self.old.setup) }
     {
         match scenario.document(policy) {
-            None => self.begin_without_policy(alloc, scenario, sight, run),
+            None => self.begin_without_policy(alloc, run),
             Some(document) => self.begin_on(alloc, scenario, sight, document, run),
         }
     }
 
-    // A run that has no path begins.
+    // A run that has no path begins, whatever else the scene has and the machine shows.
     #[tactic(auto, unfolding(crate::specs::Begin::begun_on, crate::specs::Begin::begun_nowhere, crate::specs::Begin::with_blocks, tpol_choose::specs::Blocks::chosen_path))]
-    fn begin_without_policy(
-        &mut self,
-        alloc: Global,
-        _scenario: &Scenario,
-        _sight: &Sight,
-        run: NewRun,
-    ) -> Result<(), NoMemory>
-        ensures told { OnOk result (self.new ≡ begun_on _scenario.now _sight.now [] run self.old) }
+    fn begin_without_policy(&mut self, alloc: Global, run: NewRun) -> Result<(), NoMemory>
+        ensures told { (scenario : OneScenario) (sight : OneSight)
+            → OnOk result (self.new ≡ begun_on scenario sight [] run self.old) }
         ensures past { OnOk result (self.new.past ≡ self.old.past) }
         ensures setup { OnOk result (self.new.setup ≡ self.old.setup) }
     {
