@@ -1,4 +1,5 @@
 pub mod Commands
+pub mod Input
 pub mod Numbers
 pub mod Outside
 pub mod Reached

@@ -1,17 +1,18 @@
 //! The answer of the words of a program.
 
-ghost use Rattle.std.specs.Prelude.{◌≡◌, Some, IfSome, OnErr, map, take};
+ghost use Rattle.std.specs.Prelude.{◌≡◌, Some, IfSome, IsErrOf, OnErr, map, take};
 ghost use Rattle.std.specs.String.{string_bytes};
+ghost use Rattle.tpol_front.specs.Input.{size_step};
 ghost use Rattle.tpol_front.specs.Outside.{AsksSource, UsesShelf};
-ghost use Rattle.tpol_front.specs.Reached.{IsReadable, IsReadableOf};
-ghost use Rattle.tpol_front.specs.Report.{OfHeld, OfReport, most_read, reads_source, report_of_input, seen_by, uses_shelf};
+ghost use Rattle.tpol_front.specs.Reached.{IsReadableOf};
+ghost use Rattle.tpol_front.specs.Report.{OfHeld, OfReport, most_read, reads_source, seen_by, uses_shelf};
 ghost use Rattle.tpol_front.specs.Told.{IfCommand, OfDone};
-ghost use Rattle.tpol_steps.specs.Steps.{AsksShelf, IfAnswered};
+ghost use Rattle.tpol_steps.specs.Steps.{Answers, IfAnswered};
 
 use crate::Command;
 use crate::input::read_input;
 use std::alloc::Global;
-use tpol_base::{Lapse, Shelf, Source};
+use tpol_base::{Blob, Lapse, Shelf, Source};
 use tpol_steps::{Answer, Halt, Verdict};
 
 /// The answer of the words: of no command, or of the command that they are.
@@ -43,43 +44,31 @@ pub fn answer_of_words<C: Command, S: Source, H: Shelf>(
         (C.commands.command_of (map string_bytes words.now.items)) (take most_read held))
         shelf.old shelf.new (H.faults shelf.old) (H.faults shelf.new) result }
 {
-    match C::from_words(alloc, words)? {
-        Some(command) => answer_of_command(alloc, &command, source, shelf),
-        None => {
-            let usage = Answer::of_line(alloc, "error Usage", Verdict::Usage)?;
-            Err(Halt::Refused(usage))
-        }
-    }
+    let Some(command) = C::from_words(alloc, words)? else {
+        let usage = Answer::of_line(alloc, "error Usage", Verdict::Usage)?;
+        return Err(Halt::Refused(usage));
+    };
+    let input = input_of(alloc, &command, source)?;
+    command.carry_out(alloc, input.as_slice(), shelf)
 }
 
-// The answer of a command.
-fn answer_of_command<C: Command, S: Source, H: Shelf>(
-    alloc: Global,
-    command: &C,
-    source: &mut S,
-    shelf: &mut H,
-) -> Result<Answer, Halt>
-    ensures report { IfAnswered result (λ answer.
-        OfHeld (S.left source.old) (H.documents shelf.old) (λ input all.
-        let report = report_of_input C.commands command.now
-        (seen_by C.commands command.now input) all in
-        (answer ≡ report.answer) × (H.documents shelf.new ≡ Some report.documents))) }
-    ensures told { OfDone result (λ answer.
-        OfHeld (S.left source.old) (H.documents shelf.old) (λ input all.
-        C.IsTrueOf command.now (seen_by C.commands command.now input) all answer)) }
-    ensures keeps { OnErr result (H.documents shelf.new ≡ H.documents shelf.old) }
+// What a command is given of the source: nothing where it does not read it. `Refused` tells that it is too large.
+fn input_of<C: Command, S: Source>(alloc: Global, command: &C, source: &mut S) -> Result<Blob, Halt>
+    ensures input { IfSome (S.left source.old) (λ held. Answers (λ input. input)
+        (size_step (seen_by C.commands command.now (take most_read held))) result) }
     ensures reads { AsksSource (C.commands.reads command.now) source.old source.new
         (S.left source.old) (S.left source.new) (S.faults source.old) (S.faults source.new) result }
-    ensures asks { UsesShelf (C.commands.uses command.now)
-        (S.left source.old) (λ held. IsReadable (C.IsDocument command.now)
-        (seen_by C.commands command.now (take most_read held)))
-        shelf.old shelf.new (H.faults shelf.old) (H.faults shelf.new) result }
+    ensures unasked { IsErrOf result Halt.ShelfFailed → ⊥ }
 {
     if !command.reads_source() {
-        return answer_of_input(alloc, command, &[], shelf);
+        return Ok(Blob::new(alloc));
     }
     match read_input(alloc, source, most_read()) {
-        Ok(input) => answer_of_input(alloc, command, input.as_slice(), shelf),
+        Ok(input) if input.len() < most_read() => Ok(input),
+        Ok(_) => {
+            let too_large = Answer::of_line(alloc, "error TooLarge", Verdict::TooLarge)?;
+            Err(Halt::Refused(too_large))
+        }
         Err(Lapse::Failed) => Err(Halt::ReadFailed),
         Err(Lapse::NoMemory) => Err(Halt::NoMemory),
     }
@@ -90,28 +79,4 @@ fn most_read() -> usize
     ensures { result ≡ most_read }
 {
     16_777_217
-}
-
-// The answer of a command on what was read.
-fn answer_of_input<C: Command, H: Shelf>(
-    alloc: Global,
-    command: &C,
-    input: &[u8],
-    shelf: &mut H,
-) -> Result<Answer, Halt>
-    ensures report { IfAnswered result (λ answer. IfSome (H.documents shelf.old) (λ all.
-        let report = report_of_input C.commands command.now input.now all in
-        (answer ≡ report.answer) × (H.documents shelf.new ≡ Some report.documents))) }
-    ensures told { OfDone result (λ answer.
-        IfSome (H.documents shelf.old) (λ all. C.IsTrueOf command.now input.now all answer)) }
-    ensures keeps { OnErr result (H.documents shelf.new ≡ H.documents shelf.old) }
-    ensures asks { AsksShelf (C.commands.uses command.now)
-        (IsReadable (C.IsDocument command.now) input.now)
-        shelf.old shelf.new (H.faults shelf.old) (H.faults shelf.new) result }
-{
-    if input.len() >= most_read() {
-        let too_large = Answer::of_line(alloc, "error TooLarge", Verdict::TooLarge)?;
-        return Err(Halt::Refused(too_large));
-    }
-    command.carry_out(alloc, input, shelf)
 }
