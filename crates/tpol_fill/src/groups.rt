@@ -7,15 +7,16 @@ ghost use Rattle.tpol_fill.specs.Groups.{branches_in, grouped, in_eights, number
 use std::alloc::Global;
 use std::mem;
 use tpol_base::{NoMemory, Text};
-use tpol_tree::{
-    Closed, ClosedBranch, ClosedBranches, ClosedElement, ClosedElements, MAX_BRANCHES,
-};
+use tpol_tree::{Closed, ClosedBranch, ClosedBranches, ClosedElement, ClosedElements};
+
+/// The most branches of one PolicyOR.
+const MOST_BRANCHES: usize = 8;
 
 /// The branches of the OR that is made of these: up to eight as they are, more in groups.
 pub fn grouped(alloc: Global, branches: ClosedBranches) -> Result<ClosedBranches, NoMemory>
     ensures { IfOk result (λ closed. branches_in closed ≡ grouped (branches_in branches)) }
 {
-    if has_more_than(&branches, MAX_BRANCHES) {
+    if has_more_than(&branches, MOST_BRANCHES) {
         in_groups(alloc, branches, 1)
     } else {
         Ok(branches)
@@ -45,7 +46,7 @@ fn in_groups(
     match branches {
         ClosedBranches::End => Ok(ClosedBranches::End),
         ClosedBranches::More(first, mut rest) => {
-            let behind = split_off(&mut rest, MAX_BRANCHES - 1);
+            let behind = split_off(&mut rest, MOST_BRANCHES - 1);
             let Some(next) = number.checked_add(1) else {
                 return Err(NoMemory);
             };

@@ -6,7 +6,10 @@ ghost use Rattle.tpol_tree.specs.ClosedErased.{erased_elements};
 
 use std::alloc::Global;
 use tpol_base::NoMemory;
-use tpol_tree::{ClosedBranches, ClosedElement, ClosedElements, MAX_BRANCHES};
+use tpol_tree::{ClosedBranches, ClosedElement, ClosedElements};
+
+/// The most branches of one PolicyOR (TPM 2.0 Part 3, PolicyOR).
+const MOST_BRANCHES: usize = 8;
 
 /// The elements of each branch of an OR that was filled, in the order of the document, which has `count` of them.
 pub fn ungrouped<'a>(
@@ -19,7 +22,7 @@ pub fn ungrouped<'a>(
         ≡ map (λ branch. branch.1) all) }
 {
     let mut list = Vec::new(alloc);
-    if count > MAX_BRANCHES {
+    if count > MOST_BRANCHES {
         push_groups(&mut list, branches, count)?;
     } else {
         push_branches(&mut list, branches)?;
@@ -43,7 +46,7 @@ fn push_groups<'a>(
         ClosedBranches::End => Ok(()),
         ClosedBranches::More(group, rest) => {
             push_group(list, &group.policy.elements, left)?;
-            push_groups(list, rest, left.saturating_sub(MAX_BRANCHES))
+            push_groups(list, rest, left.saturating_sub(MOST_BRANCHES))
         }
     }
 }

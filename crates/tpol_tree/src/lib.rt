@@ -22,9 +22,6 @@ pub use wishes::{
     ParentWish, PcrWish,
 };
 
-/// The most branches of one PolicyOR (TPM 2.0 Part 3, PolicyOR).
-pub const MAX_BRANCHES: usize = 8;
-
 /// A list of Names.
 pub type Names = Sequence<Name>;
 
