@@ -48,16 +48,9 @@ pub fn block_at<'a>(
     ensures block { IfSome (slice_get (paths_of policy.now approvals.now) (position - 1))
         (λ path. Breaks result (first_block path sight.now grants.now goal.now locality)) }
 {
+    let client = Client::new(sight, grants, goal, locality);
     let walk = Walk {
-        client: Client {
-            sight,
-            grants,
-            goal,
-            locality,
-            selected: None,
-            cp_hash: None,
-            name_hash: None,
-        },
+        client: &client,
         approvals: approvals.as_slice(),
         memos: None,
         levels: MAX_LEVELS,
@@ -66,29 +59,29 @@ pub fn block_at<'a>(
 }
 
 // The same by the index of the path, from 0.
-fn block_at_index(walk: &Walk<'_>, policy: &Closed, index: u64) -> Result<(), Block>
+fn block_at_index(walk: &Walk<'_, '_>, policy: &Closed, index: u64) -> Result<(), Block>
     requires branches { HasFewBranches policy.now.elements }
     requires approved { All (λ document. HasFewBranches document.closed.elements)
         walk.now.approvals.now }
-    requires sight { IsSight walk.now.client.sight.now }
+    requires sight { IsSight walk.now.client.now.sight.now }
     requires levels { walk.now.levels ≡ 4 }
     requires within { AreWithinLimits (paths_of policy.now walk.now.approvals.now) }
     requires inside { index < length (paths_of policy.now walk.now.approvals.now) }
     ensures { IfSome (slice_get (paths_of policy.now walk.now.approvals.now) index)
-        (λ path. Breaks result (first_block path walk.now.client.sight.now
-        walk.now.client.grants.now walk.now.client.goal.now walk.now.client.locality)) }
+        (λ path. Breaks result (first_block path walk.now.client.now.sight.now
+        walk.now.client.now.grants.now walk.now.client.now.goal.now walk.now.client.now.locality)) }
 {
     let count = count_ways(walk.approvals, walk.levels, &policy.elements);
-    let track = Track::new(&walk.client);
+    let track = Track::new(walk.client);
     let track = go_elements(walk, track, &policy.elements, zero_digest(), index, count);
-    track.end(&walk.client)
+    track.end(walk.client)
 }
 
 // The track behind the way through elements that has an index among their `count` ways, where `before` is the
 // digest before the elements.
 #[cycle(at_position)]
 fn go_elements(
-    walk: &Walk<'_>,
+    walk: &Walk<'_, '_>,
     track: Track,
     elements: &ClosedElements,
     before: Digest32,
@@ -98,13 +91,13 @@ fn go_elements(
     requires branches { HasFewBranches elements.now }
     requires approved { All (λ document. HasFewBranches document.closed.elements)
         walk.now.approvals.now }
-    requires sight { IsSight walk.now.client.sight.now }
+    requires sight { IsSight walk.now.client.now.sight.now }
     requires counted { count ≡ length
         (at.element_list_ways walk.now.approvals.now walk.now.levels elements.now before) }
     requires few { count ≤ 65536 }
     requires inside { index < count }
     ensures { (state : TrackState) → IsTrack track state
-        → Goes (client_of_lent walk.now.client) state
+        → Goes (client_of_lent walk.now.client.now) state
         (at.element_list_ways walk.now.approvals.now walk.now.levels elements.now before) index
         result }
 {
@@ -136,7 +129,7 @@ struct Behind {
 // The same of one element, and the digest behind it.
 #[cycle(at_position)]
 fn go_element(
-    walk: &Walk<'_>,
+    walk: &Walk<'_, '_>,
     track: Track,
     element: &ClosedElement,
     before: Digest32,
@@ -145,13 +138,13 @@ fn go_element(
     requires branches { ElementHasFewBranches element.now }
     requires approved { All (λ document. HasFewBranches document.closed.elements)
         walk.now.approvals.now }
-    requires sight { IsSight walk.now.client.sight.now }
+    requires sight { IsSight walk.now.client.now.sight.now }
     requires few { length (at.element_ways walk.now.approvals.now walk.now.levels element.now
         before) ≤ 65536 }
     requires inside { index < length
         (at.element_ways walk.now.approvals.now walk.now.levels element.now before) }
     ensures track { (state : TrackState) → IsTrack track state
-        → Goes (client_of_lent walk.now.client) state
+        → Goes (client_of_lent walk.now.client.now) state
         (at.element_ways walk.now.approvals.now walk.now.levels element.now before) index
         result.track }
     ensures digest { result.digest ≡ digest_at_element element.now before }
@@ -160,7 +153,7 @@ fn go_element(
         ClosedElement::Assert(assertion) => {
             let step = AssertMove::new(assertion, before);
             Behind {
-                track: track.after(&walk.client, &Act::Assert(step)),
+                track: track.after(walk.client, &Act::Assert(step)),
                 digest: step.after,
             }
         }
@@ -169,7 +162,7 @@ fn go_element(
             let inner = go_branches(walk, track, branches, before, index);
             let or = OrMove::new(digests.as_slice());
             Behind {
-                track: inner.after(&walk.client, &Act::Or(or)),
+                track: inner.after(walk.client, &Act::Or(or)),
                 digest: or.after,
             }
         }
@@ -183,7 +176,7 @@ fn go_element(
 // The same of branches, without the move of their OR. Their positions do not matter.
 #[cycle(at_position)]
 fn go_branches(
-    walk: &Walk<'_>,
+    walk: &Walk<'_, '_>,
     track: Track,
     branches: &ClosedBranches,
     before: Digest32,
@@ -192,13 +185,13 @@ fn go_branches(
     requires branches { BranchesHaveFewBranches branches.now }
     requires approved { All (λ document. HasFewBranches document.closed.elements)
         walk.now.approvals.now }
-    requires sight { IsSight walk.now.client.sight.now }
+    requires sight { IsSight walk.now.client.now.sight.now }
     requires few { length (at.branch_ways walk.now.approvals.now walk.now.levels branches.now 1
         before) ≤ 65536 }
     requires inside { index < length
         (at.branch_ways walk.now.approvals.now walk.now.levels branches.now 1 before) }
     ensures { (state : TrackState) (position : ℕ) → IsTrack track state
-        → Goes (client_of_lent walk.now.client) state
+        → Goes (client_of_lent walk.now.client.now) state
         (at.branch_ways walk.now.approvals.now walk.now.levels branches.now position before) index
         result }
 {
@@ -218,16 +211,16 @@ fn go_branches(
 
 // The same of an element that asks for an approval.
 #[cycle(at_position)]
-fn go_approval(walk: &Walk<'_>, track: Track, element: &ClosedElement, index: u64) -> Track
+fn go_approval(walk: &Walk<'_, '_>, track: Track, element: &ClosedElement, index: u64) -> Track
     requires approved { All (λ document. HasFewBranches document.closed.elements)
         walk.now.approvals.now }
-    requires sight { IsSight walk.now.client.sight.now }
+    requires sight { IsSight walk.now.client.now.sight.now }
     requires few { length (at.approval_ways walk.now.approvals.now walk.now.levels element.now)
         ≤ 65536 }
     requires inside { index < length
         (at.approval_ways walk.now.approvals.now walk.now.levels element.now) }
     ensures { (state : TrackState) → IsTrack track state
-        → Goes (client_of_lent walk.now.client) state
+        → Goes (client_of_lent walk.now.client.now) state
         (at.approval_ways walk.now.approvals.now walk.now.levels element.now) index result }
 {
     let mut left = index;
@@ -242,7 +235,7 @@ fn go_approval(walk: &Walk<'_>, track: Track, element: &ClosedElement, index: u6
                 let count = count_ways(walk.approvals, inner.levels, elements);
                 if left < count {
                     let behind = go_elements(&inner, track, elements, zero_digest(), left, count);
-                    return behind.after(&walk.client, &act);
+                    return behind.after(walk.client, &act);
                 }
                 left -= count;
             }
@@ -252,15 +245,15 @@ fn go_approval(walk: &Walk<'_>, track: Track, element: &ClosedElement, index: u6
 }
 
 // The same of the way by a policy that no listed document has.
-fn go_outside(walk: &Walk<'_>, track: Track, element: &ClosedElement) -> Track
-    requires sight { IsSight walk.now.client.sight.now }
+fn go_outside(walk: &Walk<'_, '_>, track: Track, element: &ClosedElement) -> Track
+    requires sight { IsSight walk.now.client.now.sight.now }
     requires some { 0 < length (paths.outside_paths element.now) }
     ensures { (state : TrackState) → IsTrack track state
-        → Goes (client_of_lent walk.now.client) state
+        → Goes (client_of_lent walk.now.client.now) state
         (paths.outside_paths element.now) 0 result }
 {
     match outside_approval(element) {
-        Some(act) => track.after(&walk.client, &act).outside(),
+        Some(act) => track.after(walk.client, &act).outside(),
         None => track,
     }
 }

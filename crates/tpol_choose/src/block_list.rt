@@ -59,16 +59,9 @@ pub fn blocks<'a>(
         ≡ map (λ path. first_block path sight.now grants.now goal.now locality)
         (paths_of policy.now approvals.now)) }
 {
+    let client = Client::new(sight, grants, goal, locality);
     let walk = Walk {
-        client: Client {
-            sight,
-            grants,
-            goal,
-            locality,
-            selected: None,
-            cp_hash: None,
-            name_hash: None,
-        },
+        client: &client,
         approvals: approvals.as_slice(),
         memos: Some(memos),
         levels: MAX_LEVELS,
@@ -79,7 +72,7 @@ pub fn blocks<'a>(
 }
 
 fn push_policy(
-    walk: &Walk<'_>,
+    walk: &Walk<'_, '_>,
     policy: &Closed,
     memo: &Memo,
     found: &mut Vec<Option<Block>>,
@@ -88,15 +81,15 @@ fn push_policy(
     requires approved { All (λ document. HasFewBranches document.closed.elements)
         walk.now.approvals.now }
     requires kept { KnowsApproved walk.now }
-    requires sight { IsSight walk.now.client.sight.now }
+    requires sight { IsSight walk.now.client.now.sight.now }
     requires levels { walk.now.levels ≡ 4 }
     requires memo { IsMemo policy.now.elements no_digest memo.now }
     requires within { AreWithinLimits (paths_of policy.now walk.now.approvals.now) }
     ensures { OnOk result (found.new.items ≡ found.old.items
-        ++ map (block_on (client_of_lent walk.now.client))
+        ++ map (block_on (client_of_lent walk.now.client.now))
         (paths_of policy.now walk.now.approvals.now)) }
 {
-    let track = Track::new(&walk.client);
+    let track = Track::new(walk.client);
     push_elements(
         walk,
         &track,
@@ -111,7 +104,7 @@ fn push_policy(
 // elements.
 #[cycle(block_list)]
 fn push_elements<'a>(
-    walk: &Walk<'_>,
+    walk: &Walk<'_, '_>,
     track: &Track,
     elements: &'a ClosedElements,
     before: Before<'a>,
@@ -122,13 +115,13 @@ fn push_elements<'a>(
     requires approved { All (λ document. HasFewBranches document.closed.elements)
         walk.now.approvals.now }
     requires kept { KnowsApproved walk.now }
-    requires sight { IsSight walk.now.client.sight.now }
+    requires sight { IsSight walk.now.client.now.sight.now }
     requires ahead { IsSoundAhead ahead.now }
     requires knows { Knows before elements.now }
     ensures { (state : TrackState) → IsTrack track.now state
         → OnOk result (found.new.items ≡ found.old.items
-        ++ spec.blocks_of (client_of_lent walk.now.client)
-        (spec.blocks_ahead (client_of_lent walk.now.client) walk.now.approvals.now ahead.now)
+        ++ spec.blocks_of (client_of_lent walk.now.client.now)
+        (spec.blocks_ahead (client_of_lent walk.now.client.now) walk.now.approvals.now ahead.now)
         state (at.element_list_ways walk.now.approvals.now walk.now.levels elements.now
         before.entry.digest)) }
 {
@@ -143,7 +136,7 @@ fn push_elements<'a>(
 // The same of one element, the rest of its list and what comes behind it.
 #[cycle(block_list)]
 fn push_element<'a>(
-    walk: &Walk<'_>,
+    walk: &Walk<'_, '_>,
     track: &Track,
     element: &'a ClosedElement,
     rest: &'a ClosedElements,
@@ -156,13 +149,13 @@ fn push_element<'a>(
     requires approved { All (λ document. HasFewBranches document.closed.elements)
         walk.now.approvals.now }
     requires kept { KnowsApproved walk.now }
-    requires sight { IsSight walk.now.client.sight.now }
+    requires sight { IsSight walk.now.client.now.sight.now }
     requires ahead { IsSoundAhead ahead.now }
     requires knows { KnowsFirst before element.now rest.now }
     ensures { (state : TrackState) → IsTrack track.now state
         → OnOk result (found.new.items ≡ found.old.items
-        ++ spec.blocks_of (client_of_lent walk.now.client)
-        (spec.blocks_rest (client_of_lent walk.now.client) walk.now.approvals.now walk.now.levels
+        ++ spec.blocks_of (client_of_lent walk.now.client.now)
+        (spec.blocks_rest (client_of_lent walk.now.client.now) walk.now.approvals.now walk.now.levels
         rest.now (digest_at_element element.now before.entry.digest) ahead.now)
         state (at.element_ways walk.now.approvals.now walk.now.levels element.now
         before.entry.digest)) }
@@ -172,7 +165,7 @@ fn push_element<'a>(
             let after = before.behind(element, rest);
             let step = AssertMove::with_after(assertion, before.digest, after.digest);
             let mut next = *track;
-            next.add(&walk.client, &Act::Assert(step));
+            next.add(walk.client, &Act::Assert(step));
             push_elements(walk, &next, rest, after, ahead, found)
         }
         ClosedElement::Or(branches) => {
@@ -190,9 +183,12 @@ fn push_element<'a>(
                 ahead: &*ahead,
             };
             let selection = track.asking(first_of_branches(branches));
+            let kept = walk.client.keeping(selection, &track.session.bindings);
             let among = Walk {
-                client: walk.client.keeping(selection, &track.session.bindings),
-                ..*walk
+                client: walk.client.or_kept(&kept),
+                approvals: walk.approvals,
+                memos: walk.memos,
+                levels: walk.levels,
             };
             push_branches(&among, track, &*branches, inner, &behind, found)
         }
@@ -206,7 +202,7 @@ fn push_element<'a>(
 // The same of branches and what comes behind them. Their positions do not matter.
 #[cycle(block_list)]
 fn push_branches<'a>(
-    walk: &Walk<'_>,
+    walk: &Walk<'_, '_>,
     track: &Track,
     branches: &'a ClosedBranches,
     before: BeforeBranches<'a>,
@@ -217,13 +213,13 @@ fn push_branches<'a>(
     requires approved { All (λ document. HasFewBranches document.closed.elements)
         walk.now.approvals.now }
     requires kept { KnowsApproved walk.now }
-    requires sight { IsSight walk.now.client.sight.now }
+    requires sight { IsSight walk.now.client.now.sight.now }
     requires ahead { IsSoundAhead ahead.now }
     requires knows { KnowsBranches before branches.now }
     ensures { (state : TrackState) (position : ℕ) → IsTrack track.now state
         → OnOk result (found.new.items ≡ found.old.items
-        ++ spec.blocks_of (client_of_lent walk.now.client)
-        (spec.blocks_ahead (client_of_lent walk.now.client) walk.now.approvals.now ahead.now)
+        ++ spec.blocks_of (client_of_lent walk.now.client.now)
+        (spec.blocks_ahead (client_of_lent walk.now.client.now) walk.now.approvals.now ahead.now)
         state (at.branch_ways walk.now.approvals.now walk.now.levels branches.now position
         before.entry.digest)) }
 {
@@ -244,7 +240,7 @@ fn push_branches<'a>(
 // `after`, and what comes behind it.
 #[cycle(block_list)]
 fn push_approvals<'a>(
-    walk: &Walk<'_>,
+    walk: &Walk<'_, '_>,
     track: &Track,
     element: &'a ClosedElement,
     rest: &'a ClosedElements,
@@ -257,20 +253,20 @@ fn push_approvals<'a>(
     requires approved { All (λ document. HasFewBranches document.closed.elements)
         walk.now.approvals.now }
     requires kept { KnowsApproved walk.now }
-    requires sight { IsSight walk.now.client.sight.now }
+    requires sight { IsSight walk.now.client.now.sight.now }
     requires ahead { IsSoundAhead ahead.now }
     requires knows { Knows after rest.now }
     ensures { (state : TrackState) → IsTrack track.now state
         → OnOk result (found.new.items ≡ found.old.items
-        ++ spec.blocks_of (client_of_lent walk.now.client)
-        (spec.blocks_rest (client_of_lent walk.now.client) walk.now.approvals.now walk.now.levels
+        ++ spec.blocks_of (client_of_lent walk.now.client.now)
+        (spec.blocks_rest (client_of_lent walk.now.client.now) walk.now.approvals.now walk.now.levels
         rest.now after.entry.digest ahead.now)
         state (at.approval_ways walk.now.approvals.now walk.now.levels element.now)) }
 {
     push_documents(walk, track, element, rest, after, ahead, found)?;
     match outside_approval(element) {
         Some(act) => {
-            let next = track.after(&walk.client, &act).outside();
+            let next = track.after(walk.client, &act).outside();
             push_elements(walk, &next, rest, after, ahead, found)
         }
         None => Ok(()),
@@ -280,7 +276,7 @@ fn push_approvals<'a>(
 // The same of the documents that the element's approver approved.
 #[cycle(block_list)]
 fn push_documents<'a>(
-    walk: &Walk<'_>,
+    walk: &Walk<'_, '_>,
     track: &Track,
     element: &'a ClosedElement,
     rest: &'a ClosedElements,
@@ -292,13 +288,13 @@ fn push_documents<'a>(
     requires approved { All (λ document. HasFewBranches document.closed.elements)
         walk.now.approvals.now }
     requires kept { KnowsApproved walk.now }
-    requires sight { IsSight walk.now.client.sight.now }
+    requires sight { IsSight walk.now.client.now.sight.now }
     requires ahead { IsSoundAhead ahead.now }
     requires knows { Knows after rest.now }
     ensures { (state : TrackState) → IsTrack track.now state
         → OnOk result (found.new.items ≡ found.old.items
-        ++ spec.blocks_of (client_of_lent walk.now.client)
-        (spec.blocks_rest (client_of_lent walk.now.client) walk.now.approvals.now walk.now.levels
+        ++ spec.blocks_of (client_of_lent walk.now.client.now)
+        (spec.blocks_rest (client_of_lent walk.now.client.now) walk.now.approvals.now walk.now.levels
         rest.now after.entry.digest ahead.now)
         state (approved_paths (document_paths walk.now.approvals.now walk.now.levels)
         walk.now.approvals.now element.now)) }
@@ -307,10 +303,12 @@ fn push_documents<'a>(
         return Ok(());
     }
     let selection = track.asking(first_of_documents(element, walk.approvals));
+    let kept = walk.client.keeping(selection, &track.session.bindings);
     let inner = Walk {
-        client: walk.client.keeping(selection, &track.session.bindings),
+        client: walk.client.or_kept(&kept),
+        approvals: walk.approvals,
+        memos: walk.memos,
         levels: walk.levels - 1,
-        ..*walk
     };
     for (index, document) in walk.approvals.iter().enumerate() {
         if let Some(act) = approval(element, document) {
@@ -333,7 +331,7 @@ fn push_documents<'a>(
 // The same of what comes behind a branch or a document.
 #[cycle(block_list)]
 fn push_ahead<'a>(
-    walk: &Walk<'_>,
+    walk: &Walk<'_, '_>,
     track: &Track,
     ahead: &'a Ahead<'a>,
     found: &mut Vec<Option<Block>>,
@@ -341,11 +339,11 @@ fn push_ahead<'a>(
     requires approved { All (λ document. HasFewBranches document.closed.elements)
         walk.now.approvals.now }
     requires kept { KnowsApproved walk.now }
-    requires sight { IsSight walk.now.client.sight.now }
+    requires sight { IsSight walk.now.client.now.sight.now }
     requires ahead { IsSoundAhead ahead.now }
     ensures { (state : TrackState) → IsTrack track.now state
         → OnOk result (found.new.items ≡ found.old.items
-        ++ spec.blocks_ahead (client_of_lent walk.now.client) walk.now.approvals.now ahead.now
+        ++ spec.blocks_ahead (client_of_lent walk.now.client.now) walk.now.approvals.now ahead.now
         state) }
 {
     match ahead {
@@ -359,8 +357,8 @@ fn push_ahead<'a>(
             ahead,
         } => {
             let mut next = *track;
-            next.add(&walk.client, act);
-            next.add_first(&walk.client, first);
+            next.add(walk.client, act);
+            next.add_first(walk.client, first);
             let outer = Walk {
                 levels: *levels,
                 ..*walk
@@ -371,12 +369,16 @@ fn push_ahead<'a>(
 }
 
 // The same of the end of a way.
-fn push_end(walk: &Walk<'_>, track: &Track, found: &mut Vec<Option<Block>>) -> Result<(), NoMemory>
-    requires sight { IsSight walk.now.client.sight.now }
+fn push_end(
+    walk: &Walk<'_, '_>,
+    track: &Track,
+    found: &mut Vec<Option<Block>>,
+) -> Result<(), NoMemory>
+    requires sight { IsSight walk.now.client.now.sight.now }
     ensures { (state : TrackState) → IsTrack track.now state
         → OnOk result (found.new.items ≡ found.old.items
-        ++ spec.block_at_the_end (client_of_lent walk.now.client) state) }
+        ++ spec.block_at_the_end (client_of_lent walk.now.client.now) state) }
 {
-    found.push(track.end(&walk.client).err())?;
+    found.push(track.end(walk.client).err())?;
     Ok(())
 }

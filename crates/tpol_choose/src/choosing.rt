@@ -95,16 +95,9 @@ fn choose_from<'a>(
     if sight.free_sessions == 0 {
         return None;
     }
+    let client = Client::new(sight, grants, goal, locality);
     let walk = Walk {
-        client: Client {
-            sight,
-            grants,
-            goal,
-            locality,
-            selected: None,
-            cp_hash: None,
-            name_hash: None,
-        },
+        client: &client,
         approvals: approvals.as_slice(),
         memos,
         levels: MAX_LEVELS,

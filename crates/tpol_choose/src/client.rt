@@ -1,5 +1,5 @@
 ghost use Rattle.std.specs.Option.{ForSome};
-ghost use Rattle.std.specs.Prelude.{◌≡◌, Option};
+ghost use Rattle.std.specs.Prelude.{◌≡◌, IfSome, Option};
 ghost use Rattle.tpm_pcr.specs.Pcrs.{selection_digest};
 ghost use Rattle.tpol_choose.specs.Hashes.{IsCpHash, IsNameHash};
 ghost use Rattle.tpol_choose.specs.Selections.{IsSelected};
@@ -29,6 +29,7 @@ pub struct Client<'a> {
 }
 
 impl<'a> Client<'a> {
+    ghost use Rattle.tpol_choose.specs.Blocks.{client_of};
     ghost use Rattle.tpol_choose.specs.Lent.{client_of_lent};
 
     // The digest of the PCRs of a selection, bit n for PCR n.
@@ -42,13 +43,32 @@ impl<'a> Client<'a> {
         }
     }
 
-    // The same before ways that go on from a session that these facts bind, the first of which begins by asking
-    // for this selection, if it is one: with the digest of its PCRs, and the hashes that all of them ask for.
-    pub fn keeping(&self, mask: Option<u32>, bindings: &Bindings) -> Client<'a>
-        requires sight { IsSight self.now.sight.now }
-        ensures { client_of_lent result ≡ client_of_lent self.now }
+    // A client that wants the same, without anything that is kept.
+    pub fn new(sight: &'a Sight, grants: &'a Grants, goal: &'a Goal, locality: u8) -> Client<'a>
+        ensures { client_of_lent result ≡ client_of sight.now grants.now goal.now locality }
     {
         Client {
+            sight,
+            grants,
+            goal,
+            locality,
+            selected: None,
+            cp_hash: None,
+            name_hash: None,
+        }
+    }
+
+    // The same before ways that go on from a session that these facts bind, the first of which begins by asking
+    // for this selection, if it is one: with the digest of its PCRs, and the hashes that all of them ask for; `None`
+    // where this one keeps all of that already.
+    pub fn keeping(&self, mask: Option<u32>, bindings: &Bindings) -> Option<Client<'a>>
+        requires sight { IsSight self.now.sight.now }
+        ensures { IfSome result (λ client. client_of_lent client ≡ client_of_lent self.now) }
+    {
+        if self.keeps(mask, bindings) {
+            return None;
+        }
+        Some(Client {
             sight: self.sight,
             grants: self.grants,
             goal: self.goal,
@@ -56,6 +76,32 @@ impl<'a> Client<'a> {
             selected: self.selected_with(mask),
             cp_hash: self.kept_cp_hash(bindings),
             name_hash: self.kept_name_hash(bindings),
+        })
+    }
+
+    // The one that keeps more, where there is one, or else this one.
+    pub fn or_kept<'c>(&'c self, kept: &'c Option<Client<'a>>) -> &'c Client<'a>
+        requires kept { IfSome kept.now (λ client. client_of_lent client ≡ client_of_lent self.now) }
+        ensures { client_of_lent result.now ≡ client_of_lent self.now }
+    {
+        match kept {
+            Some(client) => client,
+            None => self,
+        }
+    }
+
+    // Whether this selection, if it is one, and the hashes that the facts bind are kept already.
+    fn keeps(&self, mask: Option<u32>, bindings: &Bindings) -> bool {
+        self.keeps_selection(mask)
+            && (self.cp_hash.is_some() || !bindings.sets_cp_hash())
+            && (self.name_hash.is_some() || !bindings.sets_name_hash())
+    }
+
+    fn keeps_selection(&self, mask: Option<u32>) -> bool {
+        match (mask, self.selected) {
+            (None, _) => true,
+            (Some(mask), Some(selected)) => selected.mask == mask,
+            (Some(_), None) => false,
         }
     }
 

@@ -10,7 +10,7 @@ ghost use Rattle.tpol_tree.specs.declared.path.ApprovedDoc.{ApprovedDoc as OneAp
 use crate::walk::Walk;
 use tpol_digest::{Before, zero_digest};
 
-impl<'a> Walk<'a> {
+impl<'c, 'a> Walk<'c, 'a> {
     // The digest before the policy of the approved document at this index, with the digests of the policy, where they
     // are kept.
     pub fn start_of(&self, index: usize) -> Before<'a>

@@ -47,15 +47,7 @@ pub fn can(
     ensures block { Breaks result
         (spec.first_block path.now sight.now grants.now goal.now locality) }
 {
-    let client = Client {
-        sight,
-        grants,
-        goal,
-        locality,
-        selected: None,
-        cp_hash: None,
-        name_hash: None,
-    };
+    let client = Client::new(sight, grants, goal, locality);
     check_path(&client, path)
 }
 

@@ -37,22 +37,22 @@ pub enum Search {
 }
 
 // Looks for the first way through a policy that can be gone; `before` is the digest before it.
-pub fn search_policy(walk: &Walk<'_>, policy: &Closed, before: Before<'_>) -> Search
+pub fn search_policy(walk: &Walk<'_, '_>, policy: &Closed, before: Before<'_>) -> Search
     requires branches { HasFewBranches policy.now.elements }
     requires approved { All (λ document. HasFewBranches document.closed.elements)
         walk.now.approvals.now }
     requires kept { KnowsApproved walk.now }
-    requires sight { IsSight walk.now.client.sight.now }
+    requires sight { IsSight walk.now.client.now.sight.now }
     requires levels { walk.now.levels ≡ 4 }
     requires start { before.digest ≡ no_digest }
     requires knows { Knows before policy.now.elements }
-    ensures found { result ≡ spec.search_ways (client_of_lent walk.now.client)
-        (spec.search_end (client_of_lent walk.now.client))
-        (fresh_track (client_of_lent walk.now.client)) 0
+    ensures found { result ≡ spec.search_ways (client_of_lent walk.now.client.now)
+        (spec.search_end (client_of_lent walk.now.client.now))
+        (fresh_track (client_of_lent walk.now.client.now)) 0
         (paths_of policy.now walk.now.approvals.now) }
     ensures counted { spec.IsCounted result }
 {
-    let track = Track::new(&walk.client);
+    let track = Track::new(walk.client);
     search_elements(walk, &track, &policy.elements, before, &Ahead::Nothing, 0)
 }
 
@@ -60,7 +60,7 @@ pub fn search_policy(walk: &Walk<'_>, policy: &Closed, before: Before<'_>) -> Se
 // what comes behind them; `before` is the digest before the elements.
 #[cycle(searching)]
 fn search_elements<'a>(
-    walk: &Walk<'_>,
+    walk: &Walk<'_, '_>,
     track: &Track,
     elements: &'a ClosedElements,
     before: Before<'a>,
@@ -71,16 +71,16 @@ fn search_elements<'a>(
     requires approved { All (λ document. HasFewBranches document.closed.elements)
         walk.now.approvals.now }
     requires kept { KnowsApproved walk.now }
-    requires sight { IsSight walk.now.client.sight.now }
+    requires sight { IsSight walk.now.client.now.sight.now }
     requires ahead { IsSoundAhead ahead.now }
     requires knows { Knows before elements.now }
     ensures { (state : TrackState) → IsTrack track.now state
-        → result ≡ spec.search_ways (client_of_lent walk.now.client)
-        (spec.search_ahead (client_of_lent walk.now.client) walk.now.approvals.now ahead.now)
+        → result ≡ spec.search_ways (client_of_lent walk.now.client.now)
+        (spec.search_ahead (client_of_lent walk.now.client.now) walk.now.approvals.now ahead.now)
         state passed (at.element_list_ways walk.now.approvals.now walk.now.levels elements.now
         before.entry.digest) }
 {
-    if track.is_hopeless(&walk.client) {
+    if track.is_hopeless(walk.client) {
         return pass_over(walk, elements, &before, ahead, passed);
     }
     match elements {
@@ -94,7 +94,7 @@ fn search_elements<'a>(
 // The same of one element, the rest of its list and what comes behind it.
 #[cycle(searching)]
 fn search_element<'a>(
-    walk: &Walk<'_>,
+    walk: &Walk<'_, '_>,
     track: &Track,
     element: &'a ClosedElement,
     rest: &'a ClosedElements,
@@ -107,12 +107,12 @@ fn search_element<'a>(
     requires approved { All (λ document. HasFewBranches document.closed.elements)
         walk.now.approvals.now }
     requires kept { KnowsApproved walk.now }
-    requires sight { IsSight walk.now.client.sight.now }
+    requires sight { IsSight walk.now.client.now.sight.now }
     requires ahead { IsSoundAhead ahead.now }
     requires knows { KnowsFirst before element.now rest.now }
     ensures { (state : TrackState) → IsTrack track.now state
-        → result ≡ spec.search_ways (client_of_lent walk.now.client)
-        (spec.search_rest (client_of_lent walk.now.client) walk.now.approvals.now walk.now.levels
+        → result ≡ spec.search_ways (client_of_lent walk.now.client.now)
+        (spec.search_rest (client_of_lent walk.now.client.now) walk.now.approvals.now walk.now.levels
         rest.now (digest_at_element element.now before.entry.digest) ahead.now)
         state passed (at.element_ways walk.now.approvals.now walk.now.levels element.now
         before.entry.digest) }
@@ -122,7 +122,7 @@ fn search_element<'a>(
             let after = before.behind(element, rest);
             let step = AssertMove::with_after(assertion, before.digest, after.digest);
             let mut next = *track;
-            next.add(&walk.client, &Act::Assert(step));
+            next.add(walk.client, &Act::Assert(step));
             search_elements(walk, &next, rest, after, ahead, passed)
         }
         ClosedElement::Or(branches) => {
@@ -140,9 +140,12 @@ fn search_element<'a>(
                 ahead: &*ahead,
             };
             let selection = first_of_branches(branches);
+            let kept = walk.client.keeping(selection, &track.session.bindings);
             let among = Walk {
-                client: walk.client.keeping(selection, &track.session.bindings),
-                ..*walk
+                client: walk.client.or_kept(&kept),
+                approvals: walk.approvals,
+                memos: walk.memos,
+                levels: walk.levels,
             };
             search_branches(&among, track, &*branches, inner, &behind, passed)
         }
@@ -156,7 +159,7 @@ fn search_element<'a>(
 // The same of branches and what comes behind them. Their positions do not matter.
 #[cycle(searching)]
 fn search_branches<'a>(
-    walk: &Walk<'_>,
+    walk: &Walk<'_, '_>,
     track: &Track,
     branches: &'a ClosedBranches,
     before: BeforeBranches<'a>,
@@ -167,12 +170,12 @@ fn search_branches<'a>(
     requires approved { All (λ document. HasFewBranches document.closed.elements)
         walk.now.approvals.now }
     requires kept { KnowsApproved walk.now }
-    requires sight { IsSight walk.now.client.sight.now }
+    requires sight { IsSight walk.now.client.now.sight.now }
     requires ahead { IsSoundAhead ahead.now }
     requires knows { KnowsBranches before branches.now }
     ensures { (state : TrackState) (position : ℕ) → IsTrack track.now state
-        → result ≡ spec.search_ways (client_of_lent walk.now.client)
-        (spec.search_ahead (client_of_lent walk.now.client) walk.now.approvals.now ahead.now)
+        → result ≡ spec.search_ways (client_of_lent walk.now.client.now)
+        (spec.search_ahead (client_of_lent walk.now.client.now) walk.now.approvals.now ahead.now)
         state passed (at.branch_ways walk.now.approvals.now walk.now.levels branches.now position
         before.entry.digest) }
 {
@@ -197,7 +200,7 @@ fn search_branches<'a>(
 // `after`, and what comes behind it. The way by a policy that no listed document has can not be gone.
 #[cycle(searching)]
 fn search_approvals<'a>(
-    walk: &Walk<'_>,
+    walk: &Walk<'_, '_>,
     track: &Track,
     element: &'a ClosedElement,
     rest: &'a ClosedElements,
@@ -210,12 +213,12 @@ fn search_approvals<'a>(
     requires approved { All (λ document. HasFewBranches document.closed.elements)
         walk.now.approvals.now }
     requires kept { KnowsApproved walk.now }
-    requires sight { IsSight walk.now.client.sight.now }
+    requires sight { IsSight walk.now.client.now.sight.now }
     requires ahead { IsSoundAhead ahead.now }
     requires knows { Knows after rest.now }
     ensures { (state : TrackState) → IsTrack track.now state
-        → result ≡ spec.search_ways (client_of_lent walk.now.client)
-        (spec.search_rest (client_of_lent walk.now.client) walk.now.approvals.now walk.now.levels
+        → result ≡ spec.search_ways (client_of_lent walk.now.client.now)
+        (spec.search_rest (client_of_lent walk.now.client.now) walk.now.approvals.now walk.now.levels
         rest.now after.entry.digest ahead.now)
         state passed (at.approval_ways walk.now.approvals.now walk.now.levels element.now) }
 {
@@ -228,7 +231,7 @@ fn search_approvals<'a>(
 // The same of the documents that the element's approver approved.
 #[cycle(searching)]
 fn search_documents<'a>(
-    walk: &Walk<'_>,
+    walk: &Walk<'_, '_>,
     track: &Track,
     element: &'a ClosedElement,
     rest: &'a ClosedElements,
@@ -240,12 +243,12 @@ fn search_documents<'a>(
     requires approved { All (λ document. HasFewBranches document.closed.elements)
         walk.now.approvals.now }
     requires kept { KnowsApproved walk.now }
-    requires sight { IsSight walk.now.client.sight.now }
+    requires sight { IsSight walk.now.client.now.sight.now }
     requires ahead { IsSoundAhead ahead.now }
     requires knows { Knows after rest.now }
     ensures { (state : TrackState) → IsTrack track.now state
-        → result ≡ spec.search_ways (client_of_lent walk.now.client)
-        (spec.search_rest (client_of_lent walk.now.client) walk.now.approvals.now walk.now.levels
+        → result ≡ spec.search_ways (client_of_lent walk.now.client.now)
+        (spec.search_rest (client_of_lent walk.now.client.now) walk.now.approvals.now walk.now.levels
         rest.now after.entry.digest ahead.now)
         state passed (approved_paths
         (document_paths walk.now.approvals.now walk.now.levels) walk.now.approvals.now
@@ -255,10 +258,12 @@ fn search_documents<'a>(
         return Search::Passed(passed);
     }
     let selection = first_of_documents(element, walk.approvals);
+    let kept = walk.client.keeping(selection, &track.session.bindings);
     let inner = Walk {
-        client: walk.client.keeping(selection, &track.session.bindings),
+        client: walk.client.or_kept(&kept),
+        approvals: walk.approvals,
+        memos: walk.memos,
         levels: walk.levels - 1,
-        ..*walk
     };
     let mut so_far = passed;
     for (index, document) in walk.approvals.iter().enumerate() {
@@ -284,15 +289,15 @@ fn search_documents<'a>(
 
 // The same of what comes behind a branch or a document.
 #[cycle(searching)]
-fn search_ahead<'a>(walk: &Walk<'_>, track: &Track, ahead: &'a Ahead<'a>, passed: u64) -> Search
+fn search_ahead<'a>(walk: &Walk<'_, '_>, track: &Track, ahead: &'a Ahead<'a>, passed: u64) -> Search
     requires approved { All (λ document. HasFewBranches document.closed.elements)
         walk.now.approvals.now }
     requires kept { KnowsApproved walk.now }
-    requires sight { IsSight walk.now.client.sight.now }
+    requires sight { IsSight walk.now.client.now.sight.now }
     requires ahead { IsSoundAhead ahead.now }
     ensures { (state : TrackState) → IsTrack track.now state
         → result ≡ spec.search_ahead
-        (client_of_lent walk.now.client) walk.now.approvals.now ahead.now state passed }
+        (client_of_lent walk.now.client.now) walk.now.approvals.now ahead.now state passed }
 {
     match ahead {
         Ahead::Nothing => search_end(walk, track, passed),
@@ -305,8 +310,8 @@ fn search_ahead<'a>(walk: &Walk<'_>, track: &Track, ahead: &'a Ahead<'a>, passed
             ahead,
         } => {
             let mut next = *track;
-            next.add(&walk.client, act);
-            next.add_first(&walk.client, first);
+            next.add(walk.client, act);
+            next.add_first(walk.client, first);
             let outer = Walk {
                 levels: *levels,
                 ..*walk
@@ -317,12 +322,12 @@ fn search_ahead<'a>(walk: &Walk<'_>, track: &Track, ahead: &'a Ahead<'a>, passed
 }
 
 // The same of the end of a way.
-fn search_end(walk: &Walk<'_>, track: &Track, passed: u64) -> Search
-    requires sight { IsSight walk.now.client.sight.now }
+fn search_end(walk: &Walk<'_, '_>, track: &Track, passed: u64) -> Search
+    requires sight { IsSight walk.now.client.now.sight.now }
     ensures { (state : TrackState) → IsTrack track.now state
-        → result ≡ spec.search_end (client_of_lent walk.now.client) state passed }
+        → result ≡ spec.search_end (client_of_lent walk.now.client.now) state passed }
 {
-    if track.end(&walk.client).is_ok() {
+    if track.end(walk.client).is_ok() {
         Search::Found(passed)
     } else {
         Search::Passed(passed.saturating_add(1).min(COUNTED))
@@ -331,7 +336,7 @@ fn search_end(walk: &Walk<'_>, track: &Track, passed: u64) -> Search
 
 // Passes over all ways through elements, before which stands the digest `before`, and what comes behind them.
 fn pass_over(
-    walk: &Walk<'_>,
+    walk: &Walk<'_, '_>,
     elements: &ClosedElements,
     before: &Before<'_>,
     ahead: &Ahead<'_>,

@@ -85,13 +85,13 @@ go_elements-go_elements-requires t c =
 
 pub go_elements-returns-in-End : goal.go_elements-returns-in-End
 go_elements-returns-in-End t c =
-    let client = client_of_lent c.args.walk.now.client in
+    let client = client_of_lent c.args.walk.now.client.now in
     let counted = rw c.in-End.is at c.requires.counted in
     rw c.in-End.is (λ state h. go_one client state c.args.track empty_path state c.args.index (omega (arith, counted, c.requires.inside)) h (along_nothing client state))
 
 pub go_elements-returns-in-More : goal.go_elements-returns-in-More
 go_elements-returns-in-More t c =
-    let client = client_of_lent c.args.walk.now.client in
+    let client = client_of_lent c.args.walk.now.client.now in
     let documents = c.args.walk.now.approvals.now in
     let levels = c.args.walk.now.levels in
     let d = c.args.before in
@@ -110,7 +110,7 @@ go_elements-returns-in-More t c =
 
 pub go_element-returns-in-Assert-clause-track : goal.go_element-returns-in-Assert-clause-track
 go_element-returns-in-Assert-clause-track t c =
-    let client = client_of_lent c.args.walk.now.client in
+    let client = client_of_lent c.args.walk.now.client.now in
     let act = Assert c.in-Assert.assertion in
     let inside = rw c.in-Assert.is at c.requires.inside in
     rw c.in-Assert.is (λ state h. go_one client state c.after.result (path_of_move act) (track_after client state act) c.args.index (omega (arith, inside)) (subst (λ a. IsTrack c.after.result (track_after client state (Assert a))) c.new-step.ensures.assertion (c.after.ensures state h)) (along_move client state act))
@@ -145,7 +145,7 @@ go_element-returns-in-Or-clause-digest t c =
 
 pub go_element-returns-in-Or-clause-track : goal.go_element-returns-in-Or-clause-track
 go_element-returns-in-Or-clause-track t c =
-    let client = client_of_lent c.args.walk.now.client in
+    let client = client_of_lent c.args.walk.now.client.now in
     let documents = c.args.walk.now.approvals.now in
     let levels = c.args.walk.now.levels in
     let branches = c.in-Or.branches in
@@ -206,7 +206,7 @@ go_branches-go_branches-requires t c =
 
 pub go_branches-returns-then-index-count : goal.go_branches-returns-then-index-count
 go_branches-returns-then-index-count t c =
-    let client = client_of_lent c.args.walk.now.client in
+    let client = client_of_lent c.args.walk.now.client.now in
     let documents = c.args.walk.now.approvals.now in
     let levels = c.args.walk.now.levels in
     let branch = c.in-More.branch.value in
@@ -219,7 +219,7 @@ go_branches-returns-then-index-count t c =
 
 pub go_branches-returns-else-index-count : goal.go_branches-returns-else-index-count
 go_branches-returns-else-index-count t c =
-    let client = client_of_lent c.args.walk.now.client in
+    let client = client_of_lent c.args.walk.now.client.now in
     let documents = c.args.walk.now.approvals.now in
     let levels = c.args.walk.now.levels in
     let branch = c.in-More.branch.value in
@@ -267,7 +267,7 @@ go_approval-go_elements-behind-requires t c =
 
 pub go_approval-returns-then-left-count : goal.go_approval-returns-then-left-count
 go_approval-returns-then-left-count t c =
-    let client = client_of_lent c.args.walk.now.client in
+    let client = client_of_lent c.args.walk.now.client.now in
     let documents = c.args.walk.now.approvals.now in
     let levels = c.args.walk.now.levels in
     let element = c.args.element.now in
@@ -316,7 +316,7 @@ go_approval-go_outside-requires-clause-some t c =
 
 pub go_approval-returns : goal.go_approval-returns
 go_approval-returns t c =
-    let client = client_of_lent c.args.walk.now.client in
+    let client = client_of_lent c.args.walk.now.client.now in
     let documents = c.args.walk.now.approvals.now in
     let levels = c.args.walk.now.levels in
     let element = c.args.element.now in

@@ -33,7 +33,7 @@ go_elements-track-requires-clause-inside c =
 pub returns : goal.returns
 unfolding first_block
 returns c =
-    let client = client_of_lent c.args.walk.now.client in
+    let client = client_of_lent c.args.walk.now.client.now in
     let documents = c.args.walk.now.approvals.now in
     let paths = paths_of c.args.policy.now documents in
     let index = c.args.index in

@@ -9,6 +9,6 @@ use Rattle.tpol_choose.proofs.at_position.go_outside.Goals as goal
 
 pub returns-in-Some : goal.returns-in-Some
 returns-in-Some c = λ state h.
-    let client = client_of_lent c.args.walk.now.client in
+    let client = client_of_lent c.args.walk.now.client.now in
     let act = move_of c.in-Some.act in
     subst (λ l. Goes client state l 0 c.outside.result) (outside_is c.args.element.now act c.in-Some.ensures) (go_one client state c.outside.result (outside_path act) (gone_outside (track_after client state act)) 0 (omega arith) (c.outside.ensures (track_after client state act) (c.after.ensures state h)) (along_outside client state act))

@@ -32,13 +32,13 @@ use Rattle.tpol_choose.proofs.block_list.+block_list.Goals.{push_documents-in-So
 
 pub push_elements-returns-in-End : goal.push_elements-returns-in-End
 push_elements-returns-in-End t c =
-    let client = client_of_lent c.args.walk.now.client in
+    let client = client_of_lent c.args.walk.now.client.now in
     let behind = blocks_ahead client c.args.walk.now.approvals.now c.args.ahead.now in
     rw c.in-End.is (λ state h. on_ok_weaker c.push_ahead.result (λ e. e ∙ ap (λ l. c.args.found.now.items ++ l) (ap behind (along_nothing client state) ∙ sym (blocks_one client behind state empty_path))) (c.push_ahead.ensures state h))
 
 pub push_elements-returns-in-More : goal.push_elements-returns-in-More
 push_elements-returns-in-More t c =
-    let client = client_of_lent c.args.walk.now.client in
+    let client = client_of_lent c.args.walk.now.client.now in
     let documents = c.args.walk.now.approvals.now in
     let levels = c.args.walk.now.levels in
     let d = c.args.before.digest in
@@ -55,7 +55,7 @@ push_elements-returns-in-More t c =
 
 pub push_element-returns-in-Assert : goal.push_element-returns-in-Assert
 push_element-returns-in-Assert t c =
-    let client = client_of_lent c.args.walk.now.client in
+    let client = client_of_lent c.args.walk.now.client.now in
     let documents = c.args.walk.now.approvals.now in
     let levels = c.args.walk.now.levels in
     let rest = c.args.rest.now in
@@ -69,7 +69,7 @@ push_element-returns-in-Assert t c =
 
 pub push_element-returns-in-Or : goal.push_element-returns-in-Or
 push_element-returns-in-Or t c =
-    let client = client_of_lent c.keeping.result in
+    let client = client_of_lent c.or_kept.result.now in
     let documents = c.args.walk.now.approvals.now in
     let levels = c.args.walk.now.levels in
     let rest = c.args.rest.now in
@@ -92,11 +92,11 @@ push_element-returns-in-Or t c =
     ∙ ap (λ x. blocks ++ blocks_of client (λ s. blocks_rest client documents levels rest x ahead (track_after client s (Or digests))) state ways) (c.behind-after-in-Or.ensures.digest ∙ ap or_digest c.of-digests.ensures)
     ∙ ap (λ l. blocks ++ l) (sym (blocks_by_move client (blocks_rest client documents levels rest (or_digest digests) ahead) state (Or digests) ways)
     ∙ ap (blocks_of client (blocks_rest client documents levels rest (or_digest digests) ahead) state) (branches_closed documents levels branches 1 (Or digests) d))
-    ∙ ap (λ (one : Client). blocks ++ blocks_of one (blocks_rest one documents levels rest (or_digest digests) ahead) state (element_ways documents levels (closed.Or branches) d)) c.keeping.ensures) (c.push_branches.ensures state 1 h))
+    ∙ ap (λ (one : Client). blocks ++ blocks_of one (blocks_rest one documents levels rest (or_digest digests) ahead) state (element_ways documents levels (closed.Or branches) d)) c.or_kept.ensures) (c.push_branches.ensures state 1 h))
 
 pub push_element-returns-in-Authorize : goal.push_element-returns-in-Authorize
 push_element-returns-in-Authorize t c = λ state h.
-    let client = client_of_lent c.args.walk.now.client in
+    let client = client_of_lent c.args.walk.now.client.now in
     let documents = c.args.walk.now.approvals.now in
     let levels = c.args.walk.now.levels in
     let rest = c.args.rest.now in
@@ -119,7 +119,7 @@ push_branches-returns-in-End t c = rw c.in-End.is (λ state position h. sym (app
 
 pub push_branches-returns-in_ok-push_elements-in-More : goal.push_branches-returns-in_ok-push_elements-in-More
 push_branches-returns-in_ok-push_elements-in-More t c =
-    let client = client_of_lent c.args.walk.now.client in
+    let client = client_of_lent c.args.walk.now.client.now in
     let documents = c.args.walk.now.approvals.now in
     let levels = c.args.walk.now.levels in
     let behind = blocks_ahead client documents c.args.ahead.now in
@@ -144,7 +144,7 @@ push_branches-returns-in_ok-push_elements-in-More t c =
 
 pub push_approvals-returns-in-Some : goal.push_approvals-returns-in-Some
 push_approvals-returns-in-Some t c = λ state h.
-    let client = client_of_lent c.args.walk.now.client in
+    let client = client_of_lent c.args.walk.now.client.now in
     let documents = c.args.walk.now.approvals.now in
     let levels = c.args.walk.now.levels in
     let element = c.args.element.now in
@@ -163,7 +163,7 @@ push_approvals-returns-in-Some t c = λ state h.
 
 pub push_documents-returns-then-walk-eq0 : goal.push_documents-returns-then-walk-eq0
 push_documents-returns-then-walk-eq0 t c = λ state h.
-    let client = client_of_lent c.args.walk.now.client in
+    let client = client_of_lent c.args.walk.now.client.now in
     let documents = c.args.walk.now.approvals.now in
     let element = c.args.element.now in
     let behind = blocks_rest client documents c.args.walk.now.levels c.args.rest.now c.args.after.digest c.args.ahead.now in
@@ -175,7 +175,7 @@ push_documents-loop-index-init t c = λ state h. refl
 
 pub push_documents-returns : goal.push_documents-returns
 push_documents-returns t c = λ state h.
-    let client = client_of_lent c.args.walk.now.client in
+    let client = client_of_lent c.args.walk.now.client.now in
     let documents = c.args.walk.now.approvals.now in
     let levels = c.args.walk.now.levels in
     let behind = blocks_rest client documents levels c.args.rest.now c.args.after.digest c.args.ahead.now in
@@ -190,7 +190,7 @@ push_ahead-returns-in-Nothing t c = rw c.in-Nothing.is (λ state h. c.push_end.e
 
 pub push_ahead-returns-in-After : goal.push_ahead-returns-in-After
 push_ahead-returns-in-After t c =
-    let client = client_of_lent c.args.walk.now.client in
+    let client = client_of_lent c.args.walk.now.client.now in
     rw c.in-After.is (λ state h.
     let closed = track_after client state (move_of c.in-After.act) in
     c.push_elements.ensures (after_first client closed c.in-After.first) (c.add_first.ensures closed (c.add.ensures state h)))
@@ -228,7 +228,7 @@ push_element-push_elements-requires t c =
 pub push_element-push_branches-requires : goal.push_element-push_branches-requires
 push_element-push_branches-requires t c =
     let some = share_some c.args.walk.now.approvals.now c.args.walk.now.levels in
-    let sight = subst (λ (one : Client). IsSight one.sight) (sym c.keeping.ensures) c.requires.sight in
+    let sight = subst (λ (one : Client). IsSight one.sight) (sym c.or_kept.ensures) c.requires.sight in
     let counts = rw c.in-Or.is at c.requires.branches in
     let lead = c.of-lead.result in
     let lighter = lead_lighter (share c.args.walk.now.approvals.now c.args.walk.now.levels) lead.first c.args.rest.now c.behind-after-in-Or.result.digest lead.rest.now lead.before.digest c.of-lead.ensures.lead in
@@ -290,7 +290,7 @@ pub push_documents-push_elements-requires : goal.push_documents-push_elements-re
 push_documents-push_elements-requires t c =
     let documents = c.args.walk.now.approvals.now in
     let levels = c.args.walk.now.levels in
-    let sight = subst (λ (one : Client). IsSight one.sight) (sym c.keeping.ensures) c.requires.sight in
+    let sight = subst (λ (one : Client). IsSight one.sight) (sym c.or_kept.ensures) c.requires.sight in
     let document = c.document-item.result in
     let i = c.loop-index.index in
     let light = weight-lt-greatest documents i document c.loop-index-test.true in
@@ -315,7 +315,7 @@ push_approvals-push_elements-requires t c =
 
 pub push_documents-loop-index-preserved : goal.push_documents-loop-index-preserved
 push_documents-loop-index-preserved t c =
-    let client = client_of_lent c.args.walk.now.client in
+    let client = client_of_lent c.args.walk.now.client.now in
     let documents = c.args.walk.now.approvals.now in
     let levels = c.args.walk.now.levels in
     let element = c.args.element.now in
@@ -333,7 +333,7 @@ push_documents-loop-index-preserved t c =
           ∙ ap (λ v. blocks ++ blocks_of client behind state v) next
           ∙ ap (λ l. blocks ++ l) (blocks_append client behind state (part documents levels element document) (left documents levels element (i + 1)))
           ∙ sym (append_assoc blocks (blocks_of client behind state (part documents levels element document)) others)
-          ∙ ap (λ l. l ++ others) (ap (λ l. blocks ++ l) inner ∙ sym (w.in_ok-push_elements.ensures state h ∙ ap (λ (one : Client). blocks ++ blocks_of one (λ t. blocks_rest one documents levels c.args.rest.now c.args.after.digest c.args.ahead.now (track_after one t (move_of w.in-Some.act))) state (element_list_ways documents (levels - 1) document.closed.elements w.start_of-start.result.digest)) c.keeping.ensures))
+          ∙ ap (λ l. l ++ others) (ap (λ l. blocks ++ l) inner ∙ sym (w.in_ok-push_elements.ensures state h ∙ ap (λ (one : Client). blocks ++ blocks_of one (λ t. blocks_rest one documents levels c.args.rest.now c.args.after.digest c.args.ahead.now (track_after one t (move_of w.in-Some.act))) state (element_list_ways documents (levels - 1) document.closed.elements w.start_of-start.result.digest)) c.or_kept.ensures))
           ∙ ap (λ v. v.items ++ others) (sym w.found-is)
       | push_documents-in_default w ↦ λ state h.
           let others = blocks_of client behind state (left documents levels element (i + 1)) in

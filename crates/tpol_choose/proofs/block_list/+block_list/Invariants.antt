@@ -35,6 +35,6 @@ abbrev pub invariant-push_documents-loop-index : goal.invariant-push_documents-l
 invariant-push_documents-loop-index l =
     let documents = l.walk.approvals.now in
     let levels = l.walk.levels in
-    let client = client_of_lent l.walk.client in
+    let client = client_of_lent l.walk.client.now in
     let behind = blocks_rest client documents levels l.rest l.after.digest l.ahead in
     (state : TrackState) → IsTrack l.track state → l.initial.found.items ++ blocks_of client behind state (approved_paths (document_paths documents levels) documents l.element) ≡ l.found.items ++ blocks_of client behind state (approved_paths (document_paths documents levels) (drop l.index documents) l.element)

@@ -12,7 +12,7 @@ use Rattle.tpol_choose.proofs.block_list.push_policy.Goals as goal
 
 pub returns : goal.returns
 returns c =
-    let client = client_of_lent c.args.walk.now.client in
+    let client = client_of_lent c.args.walk.now.client.now in
     let documents = c.args.walk.now.approvals.now in
     let paths = paths_of c.args.policy.now documents in
     let blocks = c.args.found.now.items in

@@ -2,6 +2,7 @@ use Rattle.std.proofs.Common.{◌≡◌, ◌+◌, ◌≤◌, length, sym, ap, �
 use Rattle.std.specs.Prelude.{is_none}
 use Rattle.std.proofs.lemmas.List.Elements.{recursion_from_All}
 use Rattle.tpol_choose.specs.Blocks.{block_on, chosen_path, client_of, first_block}
+use Rattle.tpol_choose.specs.Clients.{Client}
 use Rattle.tpol_choose.specs.Searches.{search_end, search_ways}
 use Rattle.tpol_choose.specs.Tracks.{fresh_track}
 use Rattle.tpol_choose.proofs.SearchLaws.{first_found, position_of, without_session}
@@ -25,7 +26,7 @@ returns-in-Found c =
     let approvals = c.args.approvals.now in
     let paths = paths_of policy approvals in
     let client = client_of c.args.sight.now c.args.grants.now c.args.goal.now c.args.locality in
-    let found = sym c.in-Found.is ∙ c.search_policy.ensures.found ∙ ap (λ l. search_ways client (search_end client) (fresh_track client) 0 (paths_of policy l)) c.as_slice.ensures in
+    let found = sym c.in-Found.is ∙ c.search_policy.ensures.found ∙ ap (λ (one : Client). search_ways one (search_end one) (fresh_track one) 0 (paths_of policy c.as_slice.result.now)) c.new-client.ensures ∙ ap (λ l. search_ways client (search_end client) (fresh_track client) 0 (paths_of policy l)) c.as_slice.ensures in
     let one : 0 + 1 ≡ 1 = omega arith in
     let few : 0 + length paths ≤ 65537 = omega (arith, c.requires.within.few) in
     ap position_of found ∙ first_found client 0 paths few (recursion_from_All (λ (path : Path). length path.moves ≤ 512) paths c.requires.within.short) ∙ ap (λ n. first_path (λ path. is_none (block_on client path)) n paths) one
@@ -37,7 +38,7 @@ returns-in-Passed c =
     let approvals = c.args.approvals.now in
     let paths = paths_of policy approvals in
     let client = client_of c.args.sight.now c.args.grants.now c.args.goal.now c.args.locality in
-    let found = sym c.in-Passed.is ∙ c.search_policy.ensures.found ∙ ap (λ l. search_ways client (search_end client) (fresh_track client) 0 (paths_of policy l)) c.as_slice.ensures in
+    let found = sym c.in-Passed.is ∙ c.search_policy.ensures.found ∙ ap (λ (one : Client). search_ways one (search_end one) (fresh_track one) 0 (paths_of policy c.as_slice.result.now)) c.new-client.ensures ∙ ap (λ l. search_ways client (search_end client) (fresh_track client) 0 (paths_of policy l)) c.as_slice.ensures in
     let one : 0 + 1 ≡ 1 = omega arith in
     let few : 0 + length paths ≤ 65537 = omega (arith, c.requires.within.few) in
     ap position_of found ∙ first_found client 0 paths few (recursion_from_All (λ (path : Path). length path.moves ≤ 512) paths c.requires.within.short) ∙ ap (λ n. first_path (λ path. is_none (block_on client path)) n paths) one

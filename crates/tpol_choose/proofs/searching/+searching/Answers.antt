@@ -31,7 +31,7 @@ use Rattle.tpol_choose.proofs.searching.+searching.Goals.{search_documents-in-So
 
 pub search_elements-returns-then-is_hopeless : goal.search_elements-returns-then-is_hopeless
 search_elements-returns-then-is_hopeless t c = λ state h.
-    let client = client_of_lent c.args.walk.now.client in
+    let client = client_of_lent c.args.walk.now.client.now in
     let documents = c.args.walk.now.approvals.now in
     let ahead = c.args.ahead.now in
     c.pass_over.ensures
@@ -39,13 +39,13 @@ search_elements-returns-then-is_hopeless t c = λ state h.
 
 pub search_elements-returns-in-End : goal.search_elements-returns-in-End
 search_elements-returns-in-End t c =
-    let client = client_of_lent c.args.walk.now.client in
+    let client = client_of_lent c.args.walk.now.client.now in
     let behind = search_ahead client c.args.walk.now.approvals.now c.args.ahead.now in
     rw c.in-End.is (λ state h. c.search_ahead.ensures state h ∙ ap (λ s. behind s c.args.passed) (along_nothing client state) ∙ sym (ways_one client behind state c.args.passed empty_path))
 
 pub search_elements-returns-in-More : goal.search_elements-returns-in-More
 search_elements-returns-in-More t c =
-    let client = client_of_lent c.args.walk.now.client in
+    let client = client_of_lent c.args.walk.now.client.now in
     let documents = c.args.walk.now.approvals.now in
     let levels = c.args.walk.now.levels in
     let d = c.args.before.digest in
@@ -62,7 +62,7 @@ search_elements-returns-in-More t c =
 
 pub search_element-returns-in-Assert : goal.search_element-returns-in-Assert
 search_element-returns-in-Assert t c =
-    let client = client_of_lent c.args.walk.now.client in
+    let client = client_of_lent c.args.walk.now.client.now in
     let documents = c.args.walk.now.approvals.now in
     let levels = c.args.walk.now.levels in
     let rest = c.args.rest.now in
@@ -77,7 +77,7 @@ search_element-returns-in-Assert t c =
 
 pub search_element-returns-in-Or : goal.search_element-returns-in-Or
 search_element-returns-in-Or t c =
-    let client = client_of_lent c.keeping.result in
+    let client = client_of_lent c.or_kept.result.now in
     let documents = c.args.walk.now.approvals.now in
     let levels = c.args.walk.now.levels in
     let rest = c.args.rest.now in
@@ -101,11 +101,11 @@ search_element-returns-in-Or t c =
     ∙ ap (λ e. search_ways client (λ s m. search_rest client documents levels rest e ahead (track_after client s (Or digests)) m) state passed ways) (c.behind-after-in-Or.ensures.digest ∙ ap or_digest c.of-digests.ensures)
     ∙ sym (ways_by_move client (search_rest client documents levels rest (or_digest digests) ahead) state passed (Or digests) ways)
     ∙ ap (search_ways client (search_rest client documents levels rest (or_digest digests) ahead) state passed) (branches_closed documents levels branches 1 (Or digests) d)
-    ∙ ap (λ (one : Client). search_ways one (search_rest one documents levels rest (or_digest digests) ahead) state passed (element_ways documents levels (closed.Or branches) d)) c.keeping.ensures)
+    ∙ ap (λ (one : Client). search_ways one (search_rest one documents levels rest (or_digest digests) ahead) state passed (element_ways documents levels (closed.Or branches) d)) c.or_kept.ensures)
 
 pub search_element-returns-in-Authorize : goal.search_element-returns-in-Authorize
 search_element-returns-in-Authorize t c = λ state h.
-    let client = client_of_lent c.args.walk.now.client in
+    let client = client_of_lent c.args.walk.now.client.now in
     let documents = c.args.walk.now.approvals.now in
     let levels = c.args.walk.now.levels in
     let rest = c.args.rest.now in
@@ -128,7 +128,7 @@ search_branches-returns-in-End t c = rw c.in-End.is (λ state position h. refl)
 
 pub search_branches-returns-in-Found : goal.search_branches-returns-in-Found
 search_branches-returns-in-Found t c =
-    let client = client_of_lent c.args.walk.now.client in
+    let client = client_of_lent c.args.walk.now.client.now in
     let documents = c.args.walk.now.approvals.now in
     let levels = c.args.walk.now.levels in
     let behind = search_ahead client documents c.args.ahead.now in
@@ -143,7 +143,7 @@ search_branches-returns-in-Found t c =
 
 pub search_branches-returns-in-Passed : goal.search_branches-returns-in-Passed
 search_branches-returns-in-Passed t c =
-    let client = client_of_lent c.args.walk.now.client in
+    let client = client_of_lent c.args.walk.now.client.now in
     let documents = c.args.walk.now.approvals.now in
     let levels = c.args.walk.now.levels in
     let behind = search_ahead client documents c.args.ahead.now in
@@ -165,7 +165,7 @@ search_branches-returns-in-Passed t c =
 
 pub search_approvals-returns-in-Found : goal.search_approvals-returns-in-Found
 search_approvals-returns-in-Found t c = λ state h.
-    let client = client_of_lent c.args.walk.now.client in
+    let client = client_of_lent c.args.walk.now.client.now in
     let documents = c.args.walk.now.approvals.now in
     let levels = c.args.walk.now.levels in
     let element = c.args.element.now in
@@ -174,7 +174,7 @@ search_approvals-returns-in-Found t c = λ state h.
 
 pub search_approvals-returns-in-Passed : goal.search_approvals-returns-in-Passed
 search_approvals-returns-in-Passed t c = λ state h.
-    let client = client_of_lent c.args.walk.now.client in
+    let client = client_of_lent c.args.walk.now.client.now in
     let documents = c.args.walk.now.approvals.now in
     let levels = c.args.walk.now.levels in
     let element = c.args.element.now in
@@ -190,7 +190,7 @@ search_approvals-returns-in-Passed t c = λ state h.
 
 pub search_documents-returns-then-walk-eq0 : goal.search_documents-returns-then-walk-eq0
 search_documents-returns-then-walk-eq0 t c = λ state h.
-    let client = client_of_lent c.args.walk.now.client in
+    let client = client_of_lent c.args.walk.now.client.now in
     let documents = c.args.walk.now.approvals.now in
     let element = c.args.element.now in
     let behind = search_rest client documents c.args.walk.now.levels c.args.rest.now c.args.after.digest c.args.ahead.now in
@@ -201,7 +201,7 @@ search_documents-loop-index-init t c = λ state h. refl
 
 pub search_documents-returns-in-Found : goal.search_documents-returns-in-Found
 search_documents-returns-in-Found t c = λ state h.
-    let client = client_of_lent c.args.walk.now.client in
+    let client = client_of_lent c.args.walk.now.client.now in
     let documents = c.args.walk.now.approvals.now in
     let levels = c.args.walk.now.levels in
     let element = c.args.element.now in
@@ -210,14 +210,14 @@ search_documents-returns-in-Found t c = λ state h.
     let i = c.loop-index.index in
     let so_far = c.loop-index.so_far in
     let level : levels ≢ 0 = c.if-walk-eq0.false in
-    let inner = entered client behind documents levels element document (move_of c.in-Some.act) c.start_of-start.result.digest state so_far c.search_elements.result level c.in-Some.ensures c.start_of-start.ensures.digest (c.search_elements.ensures state h ∙ ap (λ (one : Client). search_ways one (λ t m. search_rest one documents levels c.args.rest.now c.args.after.digest c.args.ahead.now (track_after one t (move_of c.in-Some.act)) m) state so_far (element_list_ways documents (levels - 1) document.closed.elements c.start_of-start.result.digest)) c.keeping.ensures) in
+    let inner = entered client behind documents levels element document (move_of c.in-Some.act) c.start_of-start.result.digest state so_far c.search_elements.result level c.in-Some.ensures c.start_of-start.ensures.digest (c.search_elements.ensures state h ∙ ap (λ (one : Client). search_ways one (λ t m. search_rest one documents levels c.args.rest.now c.args.after.digest c.args.ahead.now (track_after one t (move_of c.in-Some.act)) m) state so_far (element_list_ways documents (levels - 1) document.closed.elements c.start_of-start.result.digest)) c.or_kept.ensures) in
     sym (c.loop-index.invariant state h
     ∙ ap (search_ways client behind state so_far) (next_left documents levels element i document c.loop-index-test.true c.document-item.is)
     ∙ found_first client behind state so_far c.in-Found.index (part documents levels element document) (left documents levels element (i + 1)) (inner ∙ c.in-Found.is))
 
 pub search_documents-loop-index-preserved : goal.search_documents-loop-index-preserved
 search_documents-loop-index-preserved t c =
-    let client = client_of_lent c.args.walk.now.client in
+    let client = client_of_lent c.args.walk.now.client.now in
     let documents = c.args.walk.now.approvals.now in
     let levels = c.args.walk.now.levels in
     let element = c.args.element.now in
@@ -229,7 +229,7 @@ search_documents-loop-index-preserved t c =
     let next = next_left documents levels element i document c.loop-index-test.true c.document-item.is in
     elim c.match-approval.branch [
       | search_documents-in-Some+in-Passed w ↦ λ state h.
-          let inner = entered client behind documents levels element document (move_of w.in-Some.act) w.start_of-start.result.digest state so_far w.search_elements.result level w.in-Some.ensures w.start_of-start.ensures.digest (w.search_elements.ensures state h ∙ ap (λ (one : Client). search_ways one (λ t m. search_rest one documents levels c.args.rest.now c.args.after.digest c.args.ahead.now (track_after one t (move_of w.in-Some.act)) m) state so_far (element_list_ways documents (levels - 1) document.closed.elements w.start_of-start.result.digest)) c.keeping.ensures) in
+          let inner = entered client behind documents levels element document (move_of w.in-Some.act) w.start_of-start.result.digest state so_far w.search_elements.result level w.in-Some.ensures w.start_of-start.ensures.digest (w.search_elements.ensures state h ∙ ap (λ (one : Client). search_ways one (λ t m. search_rest one documents levels c.args.rest.now c.args.after.digest c.args.ahead.now (track_after one t (move_of w.in-Some.act)) m) state so_far (element_list_ways documents (levels - 1) document.closed.elements w.start_of-start.result.digest)) c.or_kept.ensures) in
           c.loop-index.invariant state h
           ∙ ap (search_ways client behind state so_far) next
           ∙ passed_first client behind state so_far w.in-Passed.more (part documents levels element document) (left documents levels element (i + 1)) (inner ∙ w.in-Passed.is)
@@ -243,7 +243,7 @@ search_documents-loop-index-preserved t c =
 
 pub search_documents-returns : goal.search_documents-returns
 search_documents-returns t c = λ state h.
-    let client = client_of_lent c.args.walk.now.client in
+    let client = client_of_lent c.args.walk.now.client.now in
     let documents = c.args.walk.now.approvals.now in
     let levels = c.args.walk.now.levels in
     let behind = search_rest client documents levels c.args.rest.now c.args.after.digest c.args.ahead.now in
@@ -257,7 +257,7 @@ search_ahead-returns-in-Nothing t c = rw c.in-Nothing.is (λ state h. c.search_e
 
 pub search_ahead-returns-in-After : goal.search_ahead-returns-in-After
 search_ahead-returns-in-After t c =
-    let client = client_of_lent c.args.walk.now.client in
+    let client = client_of_lent c.args.walk.now.client.now in
     rw c.in-After.is (λ state h.
     let closed = track_after client state (move_of c.in-After.act) in
     c.search_elements.ensures (after_first client closed c.in-After.first) (c.add_first.ensures closed (c.add.ensures state h)))
@@ -295,7 +295,7 @@ search_element-search_elements-requires t c =
 pub search_element-search_branches-requires : goal.search_element-search_branches-requires
 search_element-search_branches-requires t c =
     let some = share_some c.args.walk.now.approvals.now c.args.walk.now.levels in
-    let sight = subst (λ (one : Client). IsSight one.sight) (sym c.keeping.ensures) c.requires.sight in
+    let sight = subst (λ (one : Client). IsSight one.sight) (sym c.or_kept.ensures) c.requires.sight in
     let counts = rw c.in-Or.is at c.requires.branches in
     let lead = c.of-lead.result in
     let lighter = lead_lighter (share c.args.walk.now.approvals.now c.args.walk.now.levels) lead.first c.args.rest.now c.behind-after-in-Or.result.digest lead.rest.now lead.before.digest c.of-lead.ensures.lead in
@@ -357,7 +357,7 @@ pub search_documents-search_elements-requires : goal.search_documents-search_ele
 search_documents-search_elements-requires t c =
     let documents = c.args.walk.now.approvals.now in
     let levels = c.args.walk.now.levels in
-    let sight = subst (λ (one : Client). IsSight one.sight) (sym c.keeping.ensures) c.requires.sight in
+    let sight = subst (λ (one : Client). IsSight one.sight) (sym c.or_kept.ensures) c.requires.sight in
     let document = c.document-item.result in
     let i = c.loop-index.index in
     let light = weight-lt-greatest documents i document c.loop-index-test.true in

@@ -35,6 +35,6 @@ abbrev pub invariant-search_documents-loop-index : goal.invariant-search_documen
 invariant-search_documents-loop-index l =
     let documents = l.walk.approvals.now in
     let levels = l.walk.levels in
-    let client = client_of_lent l.walk.client in
+    let client = client_of_lent l.walk.client.now in
     let behind = search_rest client documents levels l.rest l.after.digest l.ahead in
     (state : TrackState) → IsTrack l.track state → search_ways client behind state l.fn.passed (approved_paths (document_paths documents levels) documents l.element) ≡ search_ways client behind state l.so_far (approved_paths (document_paths documents levels) (drop l.index documents) l.element)

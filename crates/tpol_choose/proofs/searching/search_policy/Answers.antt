@@ -9,7 +9,7 @@ use Rattle.tpol_choose.proofs.searching.search_policy.Goals as goal
 
 pub returns : goal.returns
 returns c =
-    let client = client_of_lent c.args.walk.now.client in
+    let client = client_of_lent c.args.walk.now.client.now in
     let documents = c.args.walk.now.approvals.now in
     let paths = paths_of c.args.policy.now documents in
     let found : c.search_elements.result ≡ search_ways client (search_end client) (fresh_track client) 0 paths =
