@@ -155,8 +155,8 @@ fn push_element<'a>(
     ensures { (state : TrackState) → IsTrack track.now state
         → OnOk result (found.new.items ≡ found.old.items
         ++ spec.blocks_of (client_of_lent walk.now.client.now)
-        (spec.blocks_rest (client_of_lent walk.now.client.now) walk.now.approvals.now walk.now.levels
-        rest.now (digest_at_element element.now before.entry.digest) ahead.now)
+        (spec.blocks_rest (client_of_lent walk.now.client.now) walk.now.approvals.now
+        walk.now.levels rest.now (digest_at_element element.now before.entry.digest) ahead.now)
         state (at.element_ways walk.now.approvals.now walk.now.levels element.now
         before.entry.digest)) }
 {
@@ -259,8 +259,8 @@ fn push_approvals<'a>(
     ensures { (state : TrackState) → IsTrack track.now state
         → OnOk result (found.new.items ≡ found.old.items
         ++ spec.blocks_of (client_of_lent walk.now.client.now)
-        (spec.blocks_rest (client_of_lent walk.now.client.now) walk.now.approvals.now walk.now.levels
-        rest.now after.entry.digest ahead.now)
+        (spec.blocks_rest (client_of_lent walk.now.client.now) walk.now.approvals.now
+        walk.now.levels rest.now after.entry.digest ahead.now)
         state (at.approval_ways walk.now.approvals.now walk.now.levels element.now)) }
 {
     push_documents(walk, track, element, rest, after, ahead, found)?;
@@ -294,8 +294,8 @@ fn push_documents<'a>(
     ensures { (state : TrackState) → IsTrack track.now state
         → OnOk result (found.new.items ≡ found.old.items
         ++ spec.blocks_of (client_of_lent walk.now.client.now)
-        (spec.blocks_rest (client_of_lent walk.now.client.now) walk.now.approvals.now walk.now.levels
-        rest.now after.entry.digest ahead.now)
+        (spec.blocks_rest (client_of_lent walk.now.client.now) walk.now.approvals.now
+        walk.now.levels rest.now after.entry.digest ahead.now)
         state (approved_paths (document_paths walk.now.approvals.now walk.now.levels)
         walk.now.approvals.now element.now)) }
 {

@@ -81,7 +81,8 @@ impl<'a> Client<'a> {
 
     // The one that keeps more, where there is one, or else this one.
     pub fn or_kept<'c>(&'c self, kept: &'c Option<Client<'a>>) -> &'c Client<'a>
-        requires kept { IfSome kept.now (λ client. client_of_lent client ≡ client_of_lent self.now) }
+        requires kept { IfSome kept.now (λ client.
+            client_of_lent client ≡ client_of_lent self.now) }
         ensures { client_of_lent result.now ≡ client_of_lent self.now }
     {
         match kept {

@@ -112,8 +112,8 @@ fn search_element<'a>(
     requires knows { KnowsFirst before element.now rest.now }
     ensures { (state : TrackState) → IsTrack track.now state
         → result ≡ spec.search_ways (client_of_lent walk.now.client.now)
-        (spec.search_rest (client_of_lent walk.now.client.now) walk.now.approvals.now walk.now.levels
-        rest.now (digest_at_element element.now before.entry.digest) ahead.now)
+        (spec.search_rest (client_of_lent walk.now.client.now) walk.now.approvals.now
+        walk.now.levels rest.now (digest_at_element element.now before.entry.digest) ahead.now)
         state passed (at.element_ways walk.now.approvals.now walk.now.levels element.now
         before.entry.digest) }
 {
@@ -218,8 +218,8 @@ fn search_approvals<'a>(
     requires knows { Knows after rest.now }
     ensures { (state : TrackState) → IsTrack track.now state
         → result ≡ spec.search_ways (client_of_lent walk.now.client.now)
-        (spec.search_rest (client_of_lent walk.now.client.now) walk.now.approvals.now walk.now.levels
-        rest.now after.entry.digest ahead.now)
+        (spec.search_rest (client_of_lent walk.now.client.now) walk.now.approvals.now
+        walk.now.levels rest.now after.entry.digest ahead.now)
         state passed (at.approval_ways walk.now.approvals.now walk.now.levels element.now) }
 {
     match search_documents(walk, track, element, rest, after, ahead, passed) {
@@ -248,8 +248,8 @@ fn search_documents<'a>(
     requires knows { Knows after rest.now }
     ensures { (state : TrackState) → IsTrack track.now state
         → result ≡ spec.search_ways (client_of_lent walk.now.client.now)
-        (spec.search_rest (client_of_lent walk.now.client.now) walk.now.approvals.now walk.now.levels
-        rest.now after.entry.digest ahead.now)
+        (spec.search_rest (client_of_lent walk.now.client.now) walk.now.approvals.now
+        walk.now.levels rest.now after.entry.digest ahead.now)
         state passed (approved_paths
         (document_paths walk.now.approvals.now walk.now.levels) walk.now.approvals.now
         element.now) }
