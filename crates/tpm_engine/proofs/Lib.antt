@@ -5,6 +5,7 @@ pub mod DeedsOf
 pub mod Fitting
 pub mod Headline
 pub mod Journals
+pub mod Kept
 pub mod Link
 pub mod Lookups
 pub mod Machines

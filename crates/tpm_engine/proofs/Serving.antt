@@ -4,15 +4,12 @@ use Rattle.std.specs.Option.{option_and_then, option_map, option_map_or}
 use Rattle.std.proofs.lemmas.Bool.{false≢true}
 use Rattle.std.proofs.lemmas.Bool.Decides.{nat_tests}
 use Rattle.std.proofs.lemmas.Option.{none-some, same_Some}
-use Rattle.tpol_digest.specs.Sound.{IsSound}
 use Rattle.tpol_base.specs.Handle.{is_policy_session, rs_pw}
 use Rattle.tpol_base.specs.ResponseCode.{of_handle, rc_auth_unavailable, rc_reference_s0, rc_session_memory, rc_value, reference_of_handle}
 use Rattle.tpol_wire.specs.declared.auth_area.AuthArea.{AuthArea}
 use Rattle.tpol_wire.specs.declared.command.Command.{Command}
 use Rattle.tpol_wire.specs.declared.command.Command.TheVariants as commands
 use Rattle.tpol_wire.specs.Reading.{reading}
-use Rattle.tpm_bindings.specs.Agreement.{Agree}
-use Rattle.tpm_bindings.specs.Facts.{moves_of}
 use Rattle.tpm_bindings.specs.State.{SessionState}
 use Rattle.tpm_session.specs.Slots.{changed_at, is_live, state_at}
 use Rattle.tpm_session.proofs.Slots.{content-other}
@@ -26,14 +23,15 @@ use Rattle.tpm_world.specs.Entities.{handle_rule}
 use Rattle.tpol_wire.specs.Handles.{area_of, handles_of, policy_session_of}
 use Rattle.tpm_engine.specs.declared.closing_use.Closing.{Closing}
 use Rattle.tpm_engine.specs.declared.opened.Opened.{Opened}
-use Rattle.tpm_engine.specs.declared.responded.Responded.{Responded}
+use Rattle.tpm_engine.specs.declared.prepared.Prepared.{Prepared}
 use Rattle.tpm_engine.specs.declared.stop.Stop.{Stop}
+use Rattle.tpm_engine.specs.declared.success.Success.{Success}
 use Rattle.tpm_engine.specs.Answers.{answer_to_command, answer_unless, early_stop, first_stop, opened_by_command, opened_unless, opening_of, own_rule, stopped, succeeding, success_of}
 use Rattle.tpm_engine.specs.Authorization.{area_stop, authorization_stop, authorized_entity, authorized_handle, broken_check, check_stop, entity_stop, number_of_command, password_code, password_stop, policy_stop}
 use Rattle.tpm_engine.specs.Closings.{closing_of, closing_of_area, opened_by, opened_by_one, use_of_closing}
 use Rattle.tpm_engine.specs.Deeds.{after_deed, after_event, after_use, area_use, command_deed, deed_in, use_in, Idle}
 use Rattle.tpm_engine.specs.Events.{Answered, event_of, is_served, is_success}
-use Rattle.tpm_engine.specs.Responses.{IsResponse, after_command, after_success}
+use Rattle.tpm_engine.specs.Responses.{IsPrepared, IsReady, after_command, after_ready, after_success, opened_by_ready}
 use Rattle.tpm_engine.specs.Stops.{apart_stop, authorizing_session, denies, handle_stop, handles_from, handles_stop, has_room, refuses, room_stop, session_of_area, session_stop}
 use Rattle.tpm_engine.specs.Tables.{TableState}
 use Rattle.tpm_engine.proofs.Stopping.{map-none, or_else-none, unless-none}
@@ -172,56 +170,59 @@ opened-before before after number command reply none carried = at (closing_of co
 
 -- ---- the response
 
-quiet : (done : Responded) (P : Opened → Type 0) → done.opened ≡ None → IfSome done.opened P
-quiet done P none = subst (λ (o : Option Opened). IfSome o P) (sym none) tt
+-- nothing is ready without a success
+pub none-ready : (tables : TableState) (success : Option Success) → success ≡ None → IfSome success (IsReady tables)
+none-ready tables success none = subst (λ (o : Option Success). IfSome o (IsReady tables)) (sym none) tt
 
--- a command that is stopped has changed nothing
-pub stopped-response : (before after : TableState) (number : ℕ) (command : Command) (done : Responded) (stop : Stop) (answered : Answered) (opened : Option Opened)
+-- a command that is stopped changes nothing
+pub stopped-response : (tables : TableState) (number : ℕ) (command : Command) (done : Prepared) (stop : Stop) (answered : Answered) (opened : Option Opened)
     → answered ≡ stopped stop → opened ≡ None → is_success stop.outcome ≡ false
-    → done.reply ≡ (stopped stop).reply → done.kept ≡ (stopped stop).reply → done.outcome ≡ stop.outcome → done.opened ≡ None → after ≡ before
-    → IsResponse before number command answered opened after done
-stopped-response before after number command done stop answered opened is none fails reply kept outcome opens same = record {
+    → done.reply ≡ (stopped stop).reply → done.outcome ≡ stop.outcome → done.success ≡ None
+    → IsPrepared tables number command answered opened done
+stopped-response tables number command done stop answered opened is none fails reply outcome nothing = record {
   reply = reply ∙ ap (λ (a : Answered). a.reply) (sym is);
-  kept = kept ∙ ap (λ (a : Answered). a.reply) (sym is);
   outcome = outcome ∙ ap (λ (a : Answered). a.outcome) (sym is);
-  opens = opens ∙ sym none;
-  tables = same ∙ sym (ap (after_command before number command) is ∙ ap (λ b. if b then after_success before number command (stopped stop).reply else before) fails);
-  sound = quiet done (λ found. IsSound (moves_of found.facts)) opens;
-  agree = quiet done (λ found. Agree (moves_of found.facts)) opens;
+  ready = none-ready tables done.success nothing;
+  tables =
+      ap (after_ready tables number) nothing
+      ∙ sym (ap (after_command tables number command) is ∙ ap (λ b. if b then after_success tables number command (stopped stop).reply else tables) fails);
+  opens = ap (opened_by_ready tables) nothing ∙ sym none;
 }
 
 pub success-is : (command : Command) → is_success (success_of command) ≡ true
 success-is command = elim (is_some (area_of command)) as (λ b. is_success (if b then Served else Accepted) ≡ true) [ true ↦ refl | false ↦ refl ]
 
 -- a command that succeeds
-pub served-response : (before mid after : TableState) (number : ℕ) (command : Command) (done : Responded) → session_stop before command ≡ None
-    → done.reply ≡ (succeeding before number command).reply → done.kept ≡ (succeeding before number command).reply → done.outcome ≡ success_of command
-    → mid ≡ after_deed number (command_deed command (succeeding before number command).reply) before
-    → after ≡ after_use number (option_map use_of_closing (closing_of command)) mid
-    → done.opened ≡ opened_by mid (closing_of command)
-    → IfSome done.opened (λ found. IsSound (moves_of found.facts)) → IfSome done.opened (λ found. Agree (moves_of found.facts))
-    → IsResponse before number command (succeeding before number command) (opening_of before command) after done
-served-response before mid after number command done none reply kept outcome carried closed opens sound agree = record {
+pub ready-response : (tables : TableState) (number : ℕ) (done : Prepared) (success : Success) → done.success ≡ Some success → IsReady tables success
+    → done.reply ≡ (succeeding tables number success.command).reply → done.outcome ≡ success_of success.command
+    → IsPrepared tables number success.command (succeeding tables number success.command) (opening_of tables success.command) done
+ready-response tables number done success is ready reply outcome = record {
   reply = reply;
-  kept = kept;
   outcome = outcome;
-  opens = opens ∙ opened-before before mid number command (succeeding before number command).reply none carried;
+  ready = subst (λ (o : Option Success). IfSome o (IsReady tables)) (sym is) ready;
   tables =
-      closed ∙ (ap (after_use number (option_map use_of_closing (closing_of command))) carried
-      ∙ (ap (λ used. after_use number used (after_deed number (command_deed command (succeeding before number command).reply) before)) (closing-use command)
-      ∙ sym (ap (λ b. if b then after_success before number command (succeeding before number command).reply else before) (success-is command))));
-  sound = sound;
-  agree = agree;
+      ap (after_ready tables number) is
+      ∙ sym (ap (λ b. if b then after_success tables number success.command (succeeding tables number success.command).reply else tables) (success-is success.command));
+  opens = ap (opened_by_ready tables) is;
 }
+
+-- the tables after it was carried out, and its use closed
+pub after-closing : (tables mid after : TableState) (number : ℕ) (command : Command)
+    → mid ≡ after_deed number (command_deed command (succeeding tables number command).reply) tables
+    → after ≡ after_use number (option_map use_of_closing (closing_of command)) mid
+    → after ≡ after_success tables number command (succeeding tables number command).reply
+after-closing tables mid after number command carried closed =
+    closed ∙ (ap (after_use number (option_map use_of_closing (closing_of command))) carried
+    ∙ ap (λ used. after_use number used (after_deed number (command_deed command (succeeding tables number command).reply) tables)) (closing-use command))
 
 -- ---- from the first stop to the answer
 
 -- where no rule stops a command it has the answer of its success
-pub none-stops : (before : TableState) (number locality : ℕ) (command : Command) (after : TableState) (done : Responded) → first_stop before locality command ≡ None
-    → IsResponse before number command (succeeding before number command) (opening_of before command) after done
-    → IsResponse before number command (answer_to_command before number locality command) (opened_by_command before locality command) after done
-none-stops before number locality command after done none response =
-    subst (λ (stop : Option Stop). IsResponse before number command (answer_unless stop (succeeding before number command)) (opened_unless stop (opening_of before command)) after done)
+pub none-stops : (tables : TableState) (number locality : ℕ) (command : Command) (done : Prepared) → first_stop tables locality command ≡ None
+    → IsPrepared tables number command (succeeding tables number command) (opening_of tables command) done
+    → IsPrepared tables number command (answer_to_command tables number locality command) (opened_by_command tables locality command) done
+none-stops tables number locality command done none response =
+    subst (λ (stop : Option Stop). IsPrepared tables number command (answer_unless stop (succeeding tables number command)) (opened_unless stop (opening_of tables command)) done)
     (sym none) response
 
 -- what holds where all rules do

@@ -1,7 +1,14 @@
 -- What contracts see of a journal, and of a machine.
-use Rattle.std.specs.Prelude.{ℕ, List}
+use Rattle.std.specs.Prelude.{ℕ, ◌+◌, ◌≤◌, List, slice_range, ⊤}
 use Rattle.tpol_name.specs.declared.setup.Setup.{Setup}
+use Rattle.tpm_engine.specs.declared.entry.Change.{Change}
+use Rattle.tpm_engine.specs.declared.entry.Change.TheVariants as changes
+use Rattle.tpm_engine.specs.declared.entry.Entry.{Entry}
+use Rattle.tpm_engine.specs.declared.entry.Entry.TheVariants as entries
 use Rattle.tpm_engine.specs.declared.event.Event.{Event}
+use Rattle.tpm_engine.specs.declared.event.Event.TheVariants as events
+use Rattle.tpm_engine.specs.declared.event.EventView.{EventView}
+use Rattle.tpm_engine.specs.declared.event.EventView.TheVariants as views
 
 -- the events, newest first, and how many more have room
 pub record JournalState : Type 0 where
@@ -13,3 +20,27 @@ pub record MachineState : Type 0 where
   pub setup : Setup
   pub events : List Event
   pub spare : ℕ
+
+-- the event of a change of the surroundings
+abbrev pub event_of_change : Change → Event
+event_of_change (changes.Time ms) = events.Time ms
+event_of_change (changes.Presence on) = events.Presence on
+event_of_change changes.Reset = events.Reset
+
+-- the event that a journal keeps by an entry, among its bytes
+abbrev pub event_kept : List ℕ → Entry → Event
+event_kept bytes (entries.Command locality client outcome start buffer reply) =
+    events.Command client locality (slice_range bytes start (start + buffer)) (slice_range bytes (start + buffer) (start + buffer + reply)) outcome
+event_kept bytes (entries.Change change) = event_of_change change
+
+-- the bytes of an entry's command and reply stand among so many
+abbrev pub LiesWithin : ℕ → Entry → Type 0
+LiesWithin count (entries.Command locality client outcome start buffer reply) = start + buffer + reply ≤ count
+LiesWithin count (entries.Change change) = ⊤
+
+-- the event that a view shows
+abbrev pub event_seen : EventView → Event
+event_seen (views.Command client locality buffer reply outcome) = events.Command client locality buffer.now reply.now outcome
+event_seen (views.Time ms) = events.Time ms
+event_seen (views.Presence on) = events.Presence on
+event_seen views.Reset = events.Reset

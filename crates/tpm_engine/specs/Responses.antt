@@ -1,20 +1,19 @@
 -- What becomes of the tables by a command, and the response to it.
 use Rattle.std.specs.Prelude.{◌≡◌, ℕ, List, [], Option, Some, None, IfSome, if◌then◌else◌}
-use Rattle.tpol_digest.specs.Sound.{IsSound}
 use Rattle.tpol_tree.specs.declared.facts.Fact.{Fact}
 use Rattle.tpol_wire.specs.declared.command.Command.{Command}
 use Rattle.tpol_wire.specs.declared.command.Command.TheVariants as commands
-use Rattle.tpm_bindings.specs.Agreement.{Agree}
-use Rattle.tpm_bindings.specs.Facts.{moves_of}
+use Rattle.tpol_wire.specs.Commands.{FitsCommand}
 use Rattle.tpol_wire.specs.Handles.{area_of}
 use Rattle.tpm_world.specs.World.{WorldState}
 use Rattle.tpm_engine.specs.declared.opened.Opened.{Opened}
 use Rattle.tpm_engine.specs.declared.prepared.Prepared.{Prepared}
-use Rattle.tpm_engine.specs.declared.responded.Responded.{Responded}
-use Rattle.tpm_engine.specs.Answers.{succeeding, success_of}
+use Rattle.tpm_engine.specs.declared.success.Success.{Success}
+use Rattle.tpm_engine.specs.Answers.{opening_of, own_rule, succeeding}
 use Rattle.tpm_engine.specs.Closings.{closing_of}
 use Rattle.tpm_engine.specs.Deeds.{after_deed, after_use, area_use, command_deed}
 use Rattle.tpm_engine.specs.Events.{Answered, is_success}
+use Rattle.tpm_engine.specs.Stops.{room_stop, session_stop}
 use Rattle.tpm_engine.specs.Tables.{TableState}
 
 -- the PCR counter that a session keeps with a fact, where it is its first of PolicyPCR
@@ -31,25 +30,34 @@ abbrev pub after_command : TableState → ℕ → Command → Answered → Table
 after_command tables number command answered =
     if is_success answered.outcome then after_success tables number command answered.reply else tables
 
--- a response gives this answer and opens this, and leaves what the command makes of the tables
-pub record IsResponse (before : TableState) (number : ℕ) (command : Command) (answered : Answered) (opened : Option Opened) (after : TableState) (done : Responded) : Type 0 where
-  pub reply : done.reply ≡ answered.reply
-  pub kept : done.kept ≡ answered.reply
-  pub outcome : done.outcome ≡ answered.outcome
-  pub opens : done.opened ≡ opened
-  pub tables : after ≡ after_command before number command answered
-  pub sound : IfSome done.opened (λ found. IsSound (moves_of found.facts))
-  pub agree : IfSome done.opened (λ found. Agree (moves_of found.facts))
-
 -- the facts of the session that a command starts, if it starts one
 abbrev pub first_facts : Command → Option (List Fact)
 first_facts (commands.StartAuthSession tpm_key bind nonce) = Some []
 first_facts _ = None
 
--- what is prepared for a command that may succeed
-pub record IsPrepared (tables : TableState) (number : ℕ) (command : Command) (prepared : Prepared) : Type 0 where
-  pub reply : prepared.reply ≡ (succeeding tables number command).reply
-  pub kept : prepared.kept ≡ (succeeding tables number command).reply
-  pub outcome : prepared.outcome ≡ success_of command
-  pub closing : prepared.closing ≡ closing_of command
-  pub facts : prepared.facts ≡ first_facts command
+-- a command that succeeds over these tables, with what is prepared for it
+pub record IsReady (tables : TableState) (success : Success) : Type 0 where
+  pub fits : FitsCommand success.command
+  pub session : session_stop tables success.command ≡ None
+  pub room : room_stop tables success.command ≡ None
+  pub rule : own_rule tables success.command ≡ None
+  pub closing : success.closing ≡ closing_of success.command
+  pub facts : success.facts ≡ first_facts success.command
+
+-- the tables after what is prepared, and what it opens; without a success nothing
+abbrev pub after_ready : TableState → ℕ → Option Success → TableState
+after_ready tables number None = tables
+after_ready tables number (Some success) =
+    after_success tables number success.command (succeeding tables number success.command).reply
+
+abbrev pub opened_by_ready : TableState → Option Success → Option Opened
+opened_by_ready tables None = None
+opened_by_ready tables (Some success) = opening_of tables success.command
+
+-- a response gives this answer, opens this, and makes of the tables what the command makes of them
+pub record IsPrepared (before : TableState) (number : ℕ) (command : Command) (answered : Answered) (opened : Option Opened) (done : Prepared) : Type 0 where
+  pub reply : done.reply ≡ answered.reply
+  pub outcome : done.outcome ≡ answered.outcome
+  pub ready : IfSome done.success (IsReady before)
+  pub tables : after_ready before number done.success ≡ after_command before number command answered
+  pub opens : opened_by_ready before done.success ≡ opened

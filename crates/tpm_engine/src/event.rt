@@ -22,3 +22,18 @@ pub enum Event {
     /// A TPM Reset: sessions end, PCRs and time begin anew, and the reset count rises.
     Reset,
 }
+
+/// An event in a journal, with the journal's bytes; the variants are those of `Event`.
+#[derive(Clone, Copy)]
+pub enum EventView<'a> {
+    Command {
+        client: u32,
+        locality: u8,
+        buffer: &'a [u8],
+        reply: &'a [u8],
+        outcome: Outcome,
+    },
+    Time(u32),
+    Presence(bool),
+    Reset,
+}

@@ -1,26 +1,35 @@
 //! The events of a machine.
 
-ghost use Rattle.std.specs.Prelude.{◌≡◌, [], ◌∷◌, ◌<◌, ◌≤◌, ◌+◌, ◌-◌, ◌^◌, length, reverse, OnOk, min};
+ghost use Rattle.std.specs.Prelude.{◌≡◌, [], ◌∷◌, ◌<◌, ◌≤◌, ◌+◌, ◌-◌, ◌^◌, length, reverse, slice_get, option_map, IfOk, OnErr, OnOk, min};
+ghost use Rattle.tpm_engine.specs.declared.event.Event.TheVariants as events;
+ghost use Rattle.tpm_engine.specs.Journals.{LiesWithin, event_kept, event_of_change, event_seen};
 
-use crate::Event;
+use crate::EventView;
+use crate::entry::{Change, Entry};
 use std::alloc::Global;
 use std::marker::Model;
+use tpm_rules::Outcome;
 use tpol_base::NoMemory;
 
 /// All events of a machine; contracts see them newest first, and how many more have room.
+///
+/// The bytes of all commands and replies stand in one vector, so that an event has no memory of its own.
 #[derive(Drop)]
 pub struct Journal {
-    events: Vec<Event>,
+    entries: Vec<Entry>,
+    bytes: Vec<u8>,
 }
 
 impl Model for Journal {
-    ghost use Rattle.std.specs.Prelude.{◌-◌, reverse, vec_len};
+    ghost use Rattle.std.specs.Prelude.{◌-◌, length, map, reverse, vec_len, All};
     ghost use Rattle.std.specs.Vec.{vec_capacity};
-    ghost use Rattle.tpm_engine.specs.Journals.{JournalState};
+    ghost use Rattle.tpm_engine.specs.Journals.{JournalState, LiesWithin, event_kept};
 
     ghost Value = { JournalState };
 
-    ghost view = { λ j. record { events = reverse j.events.items; spare = vec_capacity j.events - vec_len j.events } };
+    ghost view = { λ j. record { events = reverse (map (event_kept j.bytes.items) j.entries.items); spare = vec_capacity j.entries - vec_len j.entries } };
+
+    ghost invariant = { λ j. All (LiesWithin (length j.bytes.items)) j.entries.items };
 }
 
 impl Journal {
@@ -29,29 +38,31 @@ impl Journal {
         ensures events { result.events ≡ [] }
     {
         Journal {
-            events: Vec::new(alloc),
+            entries: Vec::new(alloc),
+            bytes: Vec::new(alloc),
         }
     }
 
-    /// The events in order, the oldest first.
-    pub fn as_slice(&self) -> &[Event]
-        ensures events { result.now ≡ reverse self.now.events }
+    /// The event at `index`, counted from 0 at the oldest; `None` past the end.
+    pub fn get(&self, index: usize) -> Option<EventView<'_>>
+        ensures event { option_map event_seen result ≡ slice_get (reverse self.now.events) index }
     {
-        self.events.as_slice()
+        let entry = self.entries.get(index)?;
+        Some(view_of(self.bytes.as_slice(), *entry))
     }
 
     /// How many events there are.
     pub fn len(&self) -> usize
         ensures count { result ≡ length self.now.events }
     {
-        self.events.len()
+        self.entries.len()
     }
 
     /// How many more events have room, at most 4,294,967,295.
     pub fn spare(&self) -> u32
         ensures room { result ≡ min self.now.spare (2 ^ 32 - 1) }
     {
-        let spare = self.events.capacity() - self.events.len();
+        let spare = self.entries.capacity() - self.entries.len();
         spare.min(u32::MAX as usize) as u32
     }
 
@@ -60,25 +71,95 @@ impl Journal {
         requires few { length self.now.events < 2 ^ 31 }
         ensures number { result ≡ length self.now.events + 1 }
     {
-        self.events.len() as u32 + 1
+        self.entries.len() as u32 + 1
     }
 
-    /// Makes room for one more event.
+    /// Makes room for one more event that is no command.
     pub(crate) fn reserve(&mut self) -> Result<(), NoMemory>
         ensures events { self.new.events ≡ self.old.events }
         ensures ok { OnOk result (1 ≤ self.new.spare) }
         ensures spare { self.old.spare ≤ self.new.spare }
     {
-        self.events.reserve(1)?;
+        self.entries.reserve(1)?;
         Ok(())
     }
 
-    /// Adds an event, which has room. It takes no memory.
-    pub(crate) fn push(&mut self, event: Event)
+    /// Adds the event of a command.
+    pub(crate) fn push_command(
+        &mut self,
+        client: u32,
+        locality: u8,
+        buffer: &[u8],
+        reply: &[u8],
+        outcome: Outcome,
+    ) -> Result<(), NoMemory>
+        ensures ok { OnOk result (self.new.events
+            ≡ events.Command client locality buffer.now reply.now outcome ∷ self.old.events) }
+        ensures err { OnErr result (self.new.events ≡ self.old.events) }
+        ensures spare { OnErr result (self.old.spare ≤ self.new.spare) }
+    {
+        let entry = Entry::Command {
+            locality,
+            client,
+            outcome,
+            start: self.bytes.len(),
+            buffer: length_of(buffer)?,
+            reply: length_of(reply)?,
+        };
+        self.entries.reserve(1)?;
+        self.bytes.reserve(buffer.len() + reply.len())?;
+        self.bytes.extend_from_slice(buffer)?;
+        self.bytes.extend_from_slice(reply)?;
+        self.entries.push_reserved(entry);
+        Ok(())
+    }
+
+    /// Adds a change of the surroundings, which has room. It takes no memory.
+    pub(crate) fn push_change(&mut self, change: Change)
         requires room { 1 ≤ self.old.spare }
-        ensures events { self.new.events ≡ event ∷ self.old.events }
+        ensures events { self.new.events ≡ event_of_change change ∷ self.old.events }
         ensures spare { self.new.spare + 1 ≡ self.old.spare }
     {
-        self.events.push_reserved(event);
+        self.entries.push_reserved(Entry::Change(change));
+    }
+}
+
+// The event of an entry, over the bytes of its journal.
+fn view_of(bytes: &[u8], entry: Entry) -> EventView<'_>
+    requires within { LiesWithin (length bytes.now) entry }
+    ensures event { event_seen result ≡ event_kept bytes.now entry }
+{
+    match entry {
+        Entry::Command {
+            locality,
+            client,
+            outcome,
+            start,
+            buffer,
+            reply,
+        } => {
+            let middle = start + buffer as usize;
+            let end = middle + reply as usize;
+            EventView::Command {
+                client,
+                locality,
+                buffer: &bytes[start..middle],
+                reply: &bytes[middle..end],
+                outcome,
+            }
+        }
+        Entry::Change(Change::Time(ms)) => EventView::Time(ms),
+        Entry::Change(Change::Presence(on)) => EventView::Presence(on),
+        Entry::Change(Change::Reset) => EventView::Reset,
+    }
+}
+
+// The length of a command or of a reply; those of 4 GiB and more find no room.
+fn length_of(bytes: &[u8]) -> Result<u32, NoMemory>
+    ensures length { IfOk result (λ count. count ≡ length bytes.now) }
+{
+    match u32::try_from(bytes.len()) {
+        Ok(count) => Ok(count),
+        Err(_) => Err(NoMemory),
     }
 }

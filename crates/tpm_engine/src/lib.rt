@@ -10,6 +10,7 @@ mod closing;
 mod closing_use;
 mod commands;
 mod early;
+mod entry;
 mod event;
 mod journal;
 mod laws;
@@ -18,13 +19,13 @@ mod opened;
 mod policy_commands;
 mod prepared;
 mod respond;
-mod responded;
 mod session_commands;
 mod stop;
+mod success;
 mod tables;
 
 use closing_use::Closing;
-pub use event::Event;
+pub use event::{Event, EventView};
 pub use journal::Journal;
 pub use laws::{
     calls_make_the_journal, failures_change_nothing, saved_sessions_come_back_once,
@@ -32,7 +33,8 @@ pub use laws::{
 };
 pub use machine::Machine;
 pub use opened::{Executed, Opened};
-use responded::Responded;
+use prepared::Prepared;
 use stop::Stop;
+use success::Success;
 use tables::Tables;
 pub use tpm_rules::{Denial, Outcome};

@@ -19,10 +19,11 @@ ghost use Rattle.tpm_engine.specs.Sights.{sight_after};
 ghost use Rattle.tpm_engine.specs.Uses as uses;
 ghost use Rattle.tpm_engine.specs.Views.{facts_of, pcrs_of, time_of};
 
-use crate::{Event, Executed, Journal, Responded, Tables};
+use crate::entry::Change;
+use crate::{Executed, Journal, Prepared, Tables};
 use std::alloc::Global;
 use std::marker::Model;
-use tpol_base::{Blob, NoMemory};
+use tpol_base::NoMemory;
 use tpol_name::{Setup, Sight};
 
 /// A machine; contracts see what it started from, its events, newest first, and how many more have room. All
@@ -119,24 +120,15 @@ impl Machine {
         ensures err { OnErr result (self.new.events ≡ self.old.events) }
         ensures spare { OnErr result (self.old.spare ≤ self.new.spare) }
     {
-        self.journal.reserve()?;
-        let buffer = Blob::from_slice(alloc, buffer)?;
         let event = self.journal.next_number();
-        let Responded {
+        let Prepared {
             reply,
-            kept,
             outcome,
-            opened,
-        } = self
-            .tables
-            .respond(alloc, event, locality, buffer.as_slice())?;
-        self.journal.push(Event::Command {
-            client,
-            locality,
-            buffer,
-            reply: kept,
-            outcome,
-        });
+            success,
+        } = self.tables.prepare(alloc, event, locality, buffer)?;
+        self.journal
+            .push_command(client, locality, buffer, reply.as_slice(), outcome)?;
+        let opened = self.tables.finish(alloc, event, success);
         Ok(Executed {
             event,
             reply,
@@ -157,7 +149,7 @@ impl Machine {
     {
         let number = self.journal.next_number();
         self.tables.advance(ms);
-        self.journal.push(Event::Time(ms));
+        self.journal.push_change(Change::Time(ms));
         number
     }
 
@@ -172,7 +164,7 @@ impl Machine {
     {
         let number = self.journal.next_number();
         self.tables.set_presence(on);
-        self.journal.push(Event::Presence(on));
+        self.journal.push_change(Change::Presence(on));
         number
     }
 
@@ -188,7 +180,7 @@ impl Machine {
     {
         let number = self.journal.next_number();
         self.tables.reset();
-        self.journal.push(Event::Reset);
+        self.journal.push_change(Change::Reset);
         number
     }
 

@@ -1,16 +1,12 @@
-use crate::Closing;
+use crate::Success;
 use tpm_rules::Outcome;
 use tpol_base::Blob;
-use tpol_tree::Facts;
 
-/// All that takes memory in the response to a command that succeeds: the bytes of the reply, twice, what becomes of
-/// the command, the use of a policy session to be closed, and the empty facts of the session that the command
-/// starts, if it starts one.
+/// The response to a command buffer, before it has changed anything: the reply's bytes, what becomes of the command,
+/// and, where it succeeds, what is to be carried out.
 #[derive(Drop)]
 pub struct Prepared {
     pub reply: Blob,
-    pub kept: Blob,
     pub outcome: Outcome,
-    pub closing: Option<Closing>,
-    pub facts: Option<Facts>,
+    pub success: Option<Success>,
 }

@@ -1,6 +1,7 @@
-//! The response to a command buffer, over the tables of a machine.
+//! The response to a command buffer, over the tables of a machine: all that takes memory is prepared first, and
+//! then the tables change.
 
-ghost use Rattle.std.specs.Prelude.{◌≡◌, ℕ, None, IfOk, IfSome, OnErr, OnOk};
+ghost use Rattle.std.specs.Prelude.{◌≡◌, ℕ, None, Some, IfOk, IfSome};
 ghost use Rattle.tpol_digest.specs.Sound.{IsSound};
 ghost use Rattle.tpol_wire.specs.Commands.{FitsCommand};
 ghost use Rattle.tpol_wire.specs.Replies.{spell_reply};
@@ -8,15 +9,15 @@ ghost use Rattle.tpm_bindings.specs.Agreement.{Agree};
 ghost use Rattle.tpm_bindings.specs.Facts.{moves_of};
 ghost use Rattle.tpm_engine.specs.Answers as spec;
 ghost use Rattle.tpm_engine.specs.Authorization.{reply_auth};
+ghost use Rattle.tpm_engine.specs.Closings.{closing_of as spec_closing_of};
 ghost use Rattle.tpm_engine.specs.Deeds.{after_event};
 ghost use Rattle.tpm_engine.specs.Events.{event_of};
-ghost use Rattle.tpm_engine.specs.Responses.{IsPrepared, IsResponse, first_facts};
+ghost use Rattle.tpm_engine.specs.Responses.{IsPrepared, IsReady, after_ready, first_facts, opened_by_ready};
 ghost use Rattle.tpm_engine.specs.Stops.{room_stop, session_stop};
 
 use crate::closing::closing_of;
 use crate::early::refuses;
-use crate::prepared::Prepared;
-use crate::{Responded, Stop, Tables};
+use crate::{Closing, Opened, Prepared, Stop, Success, Tables};
 use std::alloc::Global;
 use tpm_rules::Outcome;
 use tpm_session::fresh_facts;
@@ -25,9 +26,8 @@ use tpol_tree::Facts;
 use tpol_wire::{Command, Reply, WireFault, read_command, write_reply};
 
 impl Tables {
-    /// The response to the bytes that a client sends at a locality, as the event of this number, and what that
-    /// makes of the tables. The reply has the code of the first rule that is broken, in this order, or it
-    /// succeeds:
+    /// Prepares the response to the bytes that a client sends at a locality, as the event of this number; nothing
+    /// changes yet. The reply has the code of the first rule that is broken, in this order, or it succeeds:
     ///
     /// 1. the bytes spell a command;
     /// 2. its handles are there;
@@ -36,55 +36,48 @@ impl Tables {
     /// 5. its policy session has room for one more fact;
     /// 6. its own rules.
     ///
-    /// After `NoMemory` the tables are as before.
-    pub fn respond(
-        &mut self,
+    /// `finish` then makes of the tables what the event makes of them.
+    pub fn prepare(
+        &self,
         alloc: Global,
         number: u32,
         locality: u8,
         buffer: &[u8],
-    ) -> Result<Responded, NoMemory>
+    ) -> Result<Prepared, NoMemory>
         ensures reply { IfOk result (λ done. done.reply
-            ≡ (spec.answer self.old number locality buffer.now).reply) }
-        ensures kept { IfOk result (λ done. done.kept
-            ≡ (spec.answer self.old number locality buffer.now).reply) }
+            ≡ (spec.answer self.now number locality buffer.now).reply) }
         ensures outcome { IfOk result (λ done. done.outcome
-            ≡ (spec.answer self.old number locality buffer.now).outcome) }
-        ensures opened { IfOk result (λ done. done.opened
-            ≡ spec.opened_of self.old number locality buffer.now) }
-        ensures sound { IfOk result
-            (λ done. IfSome done.opened (λ opened. IsSound (moves_of opened.facts))) }
-        ensures agree { IfOk result
-            (λ done. IfSome done.opened (λ opened. Agree (moves_of opened.facts))) }
-        ensures tables { (client : ℕ) → OnOk result (self.new
-            ≡ after_event self.old number
+            ≡ (spec.answer self.now number locality buffer.now).outcome) }
+        ensures ready { IfOk result (λ done. IfSome done.success (IsReady self.now)) }
+        ensures tables { (client : ℕ) → IfOk result (λ done. after_ready self.now number done.success
+            ≡ after_event self.now number
             (event_of client locality buffer.now
-            (spec.answer self.old number locality buffer.now))) }
-        ensures err { OnErr result (self.new ≡ self.old) }
+            (spec.answer self.now number locality buffer.now))) }
+        ensures opened { IfOk result (λ done. opened_by_ready self.now done.success
+            ≡ spec.opened_of self.now number locality buffer.now) }
     {
         match read_command(alloc, buffer) {
-            Ok(command) => self.respond_to(alloc, number, locality, command),
+            Ok(command) => self.prepare_for(alloc, number, locality, command),
             Err(WireFault::Refused(rc)) => stopped(alloc, refuses(rc.code)),
             Err(WireFault::NoMemory) => Err(NoMemory),
         }
     }
 
     // The response to a command that was read.
-    fn respond_to(
-        &mut self,
+    fn prepare_for(
+        &self,
         alloc: Global,
         number: u32,
         locality: u8,
         command: Command,
-    ) -> Result<Responded, NoMemory>
+    ) -> Result<Prepared, NoMemory>
         requires fits { FitsCommand command }
-        ensures response { IfOk result (λ done. IsResponse self.old number command
-            (spec.answer_to_command self.old number locality command)
-            (spec.opened_by_command self.old locality command) self.new done) }
-        ensures err { OnErr result (self.new ≡ self.old) }
+        ensures response { IfOk result (λ done. IsPrepared self.now number command
+            (spec.answer_to_command self.now number locality command)
+            (spec.opened_by_command self.now locality command) done) }
     {
         match self.first_stop(alloc, locality, &command) {
-            Ok(None) => self.succeed(alloc, number, command),
+            Ok(None) => self.prepare_success(alloc, number, command),
             Ok(Some(stop)) => {
                 drop(command);
                 stopped(alloc, stop)
@@ -94,6 +87,90 @@ impl Tables {
                 Err(NoMemory)
             }
         }
+    }
+
+    // The response to a command whose rules hold.
+    fn prepare_success(
+        &self,
+        alloc: Global,
+        number: u32,
+        command: Command,
+    ) -> Result<Prepared, NoMemory>
+        requires fits { FitsCommand command }
+        requires session { session_stop self.now command ≡ None }
+        requires room { room_stop self.now command ≡ None }
+        requires rule { spec.own_rule self.now command ≡ None }
+        ensures response { IfOk result (λ done. IsPrepared self.now number command
+            (spec.succeeding self.now number command)
+            (spec.opening_of self.now command) done) }
+    {
+        let outcome = success_of(&command);
+        match self.parts_of(alloc, number, &command) {
+            Ok((reply, closing, facts)) => Ok(Prepared {
+                reply,
+                outcome,
+                success: Some(Success {
+                    command,
+                    closing,
+                    facts,
+                }),
+            }),
+            Err(NoMemory) => {
+                drop(command);
+                Err(NoMemory)
+            }
+        }
+    }
+
+    // All that takes memory in the response to a command that succeeds: the bytes of the reply, the use of a policy
+    // session to be closed, and the facts of the session that the command starts.
+    fn parts_of(
+        &self,
+        alloc: Global,
+        number: u32,
+        command: &Command,
+    ) -> Result<(Blob, Option<Closing>, Option<Facts>), NoMemory>
+        requires rule { spec.own_rule self.now command.now ≡ None }
+        ensures reply { IfOk result (λ parts. parts.0
+            ≡ (spec.succeeding self.now number command.now).reply) }
+        ensures closing { IfOk result (λ parts. parts.1 ≡ spec_closing_of command.now) }
+        ensures facts { IfOk result (λ parts. parts.2 ≡ first_facts command.now) }
+    {
+        let reply = self.reply_bytes(alloc, number, command)?;
+        let closing = closing_of(alloc, command)?;
+        Ok((reply, closing, first_facts(alloc, command)?))
+    }
+
+    /// Carries out a command that was prepared, if it succeeds, and closes the use of the policy session that
+    /// authorized it, which tells what that opened. It takes no memory.
+    pub fn finish(&mut self, alloc: Global, number: u32, success: Option<Success>) -> Option<Opened>
+        requires ready { IfSome success (IsReady self.old) }
+        ensures tables { self.new ≡ after_ready self.old number success }
+        ensures opened { result ≡ opened_by_ready self.old success }
+        ensures sound { IfSome result (λ opened. IsSound (moves_of opened.facts)) }
+        ensures agree { IfSome result (λ opened. Agree (moves_of opened.facts)) }
+    {
+        match success {
+            Some(success) => self.succeed(alloc, number, success),
+            None => None,
+        }
+    }
+
+    // Carries a command out.
+    fn succeed(&mut self, alloc: Global, number: u32, success: Success) -> Option<Opened>
+        requires ready { IsReady self.old success }
+        ensures tables { self.new ≡ after_ready self.old number (Some success) }
+        ensures opened { result ≡ spec.opening_of self.old success.command }
+        ensures sound { IfSome result (λ opened. IsSound (moves_of opened.facts)) }
+        ensures agree { IfSome result (λ opened. Agree (moves_of opened.facts)) }
+    {
+        let Success {
+            command,
+            closing,
+            facts,
+        } = success;
+        self.carry_out(alloc, number, command, facts);
+        self.close(number, closing)
     }
 
     // The first rule of all that a command breaks.
@@ -133,81 +210,6 @@ impl Tables {
             return Ok(Some(stop));
         }
         Ok(self.room_stop(command))
-    }
-
-    // The response to a command whose rules hold: what takes memory is prepared, then it is carried out.
-    fn succeed(
-        &mut self,
-        alloc: Global,
-        number: u32,
-        command: Command,
-    ) -> Result<Responded, NoMemory>
-        requires fits { FitsCommand command }
-        requires session { session_stop self.old command ≡ None }
-        requires room { room_stop self.old command ≡ None }
-        requires rule { spec.own_rule self.old command ≡ None }
-        ensures response { IfOk result (λ done. IsResponse self.old number command
-            (spec.succeeding self.old number command)
-            (spec.opening_of self.old command) self.new done) }
-        ensures err { OnErr result (self.new ≡ self.old) }
-    {
-        match self.prepare(alloc, number, &command) {
-            Ok(prepared) => Ok(self.finish(alloc, number, command, prepared)),
-            Err(NoMemory) => {
-                drop(command);
-                Err(NoMemory)
-            }
-        }
-    }
-
-    // All that takes memory in the response to a command.
-    fn prepare(&self, alloc: Global, number: u32, command: &Command) -> Result<Prepared, NoMemory>
-        requires rule { spec.own_rule self.now command.now ≡ None }
-        ensures { IfOk result (λ prepared. IsPrepared self.now number command.now prepared) }
-    {
-        let reply = self.reply_bytes(alloc, number, command)?;
-        let kept = reply.clone()?;
-        Ok(Prepared {
-            reply,
-            kept,
-            outcome: success_of(command),
-            closing: closing_of(alloc, command)?,
-            facts: first_facts(alloc, command)?,
-        })
-    }
-
-    // Carries a command out, and closes the use of the policy session that authorized it.
-    fn finish(
-        &mut self,
-        alloc: Global,
-        number: u32,
-        command: Command,
-        prepared: Prepared,
-    ) -> Responded
-        requires fits { FitsCommand command }
-        requires session { session_stop self.old command ≡ None }
-        requires room { room_stop self.old command ≡ None }
-        requires rule { spec.own_rule self.old command ≡ None }
-        requires prepared { IsPrepared self.old number command prepared }
-        ensures response { IsResponse self.old number command
-            (spec.succeeding self.old number command)
-            (spec.opening_of self.old command) self.new result }
-    {
-        let Prepared {
-            reply,
-            kept,
-            outcome,
-            closing,
-            facts,
-        } = prepared;
-        self.carry_out(alloc, number, command, facts);
-        let opened = self.close(number, closing);
-        Responded {
-            reply,
-            kept,
-            outcome,
-            opened,
-        }
     }
 
     // The bytes of the reply to a command that succeeds.
@@ -260,21 +262,17 @@ fn success_of(command: &Command) -> Outcome
 }
 
 // The response to a command that is stopped.
-fn stopped(alloc: Global, stop: Stop) -> Result<Responded, NoMemory>
+fn stopped(alloc: Global, stop: Stop) -> Result<Prepared, NoMemory>
     ensures reply { IfOk result (λ done. done.reply ≡ (spec.stopped stop).reply) }
-    ensures kept { IfOk result (λ done. done.kept ≡ (spec.stopped stop).reply) }
     ensures outcome { IfOk result (λ done. done.outcome ≡ stop.outcome) }
-    ensures opened { IfOk result (λ done. done.opened ≡ None) }
+    ensures nothing { IfOk result (λ done. done.success ≡ None) }
 {
     let refused = Reply::Refused(Rc { code: stop.code });
     let written = write_reply(alloc, &refused, None);
     drop(refused);
-    let reply = written?;
-    let kept = reply.clone()?;
-    Ok(Responded {
-        reply,
-        kept,
+    Ok(Prepared {
+        reply: written?,
         outcome: stop.outcome,
-        opened: None,
+        success: None,
     })
 }

@@ -11,5 +11,5 @@ advance-requires c =
 
 pub invariant_of-self : goal.invariant_of-self
 invariant_of-self c =
-    machine-passed c.self.inside.setup c.self.inside.journal.events c.self.inside.tables c.self.invariant c.args.ms c.push.new.self.events c.advance.new.self
-    c.advance.ensures.tables c.push.ensures.events
+    machine-passed c.self.inside.setup c.self.inside.journal.events c.self.inside.tables c.self.invariant c.args.ms c.push_change.new.self.events c.advance.new.self
+    c.advance.ensures.tables c.push_change.ensures.events

@@ -14,22 +14,22 @@ use Rattle.tpm_engine.proofs.Headline.{authorizes, serves}
 use Rattle.tpm_engine.proofs.Machines.{if-opened, machine-executed}
 use Rattle.tpm_engine.proofs.Opening.{opened-facts, opened-pcrs, opened-policy, opens-served}
 use Rattle.tpm_engine.proofs.machine.Machine.execute.Goals as goal
-use Rattle.tpm_engine.proofs.machine.Machine.execute.Goals.{After-push}
+use Rattle.tpm_engine.proofs.machine.Machine.execute.Goals.{After-finish-opened}
 
 -- the outcome, and what is opened, over the journal
-outcome-is : (c : After-push) → c.in_ok-reply.field-0.outcome ≡ (answer_to c.args.self.now.setup c.args.self.now.events c.args.locality c.args.buffer.now).outcome
+outcome-is : (c : After-finish-opened) → c.in_ok-reply.field-0.outcome ≡ (answer_to c.args.self.now.setup c.args.self.now.events c.args.locality c.args.buffer.now).outcome
 outcome-is c = search rules
 
-opened-is : (c : After-push) → c.in_ok-reply.field-0.opened ≡ opened_to c.args.self.now.setup c.args.self.now.events c.args.locality c.args.buffer.now
+opened-is : (c : After-finish-opened) → c.finish-opened.result ≡ opened_to c.args.self.now.setup c.args.self.now.events c.args.locality c.args.buffer.now
 opened-is c = search rules
 
 pub invariant_of-self-2 : goal.invariant_of-self-2
 invariant_of-self-2 c =
     let past = c.self.inside.journal.events in
-    let count : c.next_number-event.result ≡ next_number past = c.next_number-event.ensures.number ∙ ap (λ events. length events + 1) c.reserve.ensures.events in
+    let count : c.next_number-event.result ≡ next_number past = c.next_number-event.ensures.number in
     machine-executed c.self.inside.setup past c.self.inside.tables c.self.invariant
-    c.next_number-event.result c.args.client c.args.locality c.as_slice.result.now c.in_ok-reply.kept c.in_ok-reply.outcome c.push.new.self.events c.respond.new.self
-    count (search rules) (search rules) (c.in_ok-reply.ensures.tables c.args.client)
+    c.next_number-event.result c.args.client c.args.locality c.args.buffer.now c.as_slice.result.now c.in_ok-reply.outcome c.push_command.new.self.events c.finish-opened.new.self
+    count (search rules) (search rules) (c.finish-opened.ensures.tables ∙ c.in_ok-reply.ensures.tables c.args.client)
     (search rules)
 
 pub returns-clause-opens : goal.returns-clause-opens
@@ -40,19 +40,19 @@ returns-clause-opens c =
 pub returns-clause-facts : goal.returns-clause-facts
 returns-clause-facts c =
     if-opened (λ opened. option_map (facts_of c.args.self.now.setup c.args.self.now.events) (session_in (reading c.args.buffer.now)) ≡ Some opened.facts)
-    c.in_ok-reply.field-0.opened (opened_to c.args.self.now.setup c.args.self.now.events c.args.locality c.args.buffer.now) (opened-is c)
+    c.finish-opened.result (opened_to c.args.self.now.setup c.args.self.now.events c.args.locality c.args.buffer.now) (opened-is c)
     (opened-facts c.args.self.now.setup c.args.self.now.events c.args.locality c.args.buffer.now)
 
 pub returns-clause-pcrs : goal.returns-clause-pcrs
 returns-clause-pcrs c =
     if-opened (λ opened. AreOfPcrs (pcrs_of c.args.self.now.setup c.args.self.now.events) opened.facts)
-    c.in_ok-reply.field-0.opened (opened_to c.args.self.now.setup c.args.self.now.events c.args.locality c.args.buffer.now) (opened-is c)
+    c.finish-opened.result (opened_to c.args.self.now.setup c.args.self.now.events c.args.locality c.args.buffer.now) (opened-is c)
     (opened-pcrs c.args.self.now.setup c.args.self.now.events c.args.locality c.args.buffer.now)
 
 pub returns-clause-policy : goal.returns-clause-policy
 returns-clause-policy c =
     if-opened (λ opened. option_map auth_policy_of (entity_at (world_of c.args.self.now.setup) opened.entity) ≡ Some (digest_of_moves (moves_of opened.facts)).bytes)
-    c.in_ok-reply.field-0.opened (opened_to c.args.self.now.setup c.args.self.now.events c.args.locality c.args.buffer.now) (opened-is c)
+    c.finish-opened.result (opened_to c.args.self.now.setup c.args.self.now.events c.args.locality c.args.buffer.now) (opened-is c)
     (opened-policy c.args.self.now.setup c.args.self.now.events c.args.locality c.args.buffer.now)
 
 pub returns-clause-authorizes : goal.returns-clause-authorizes
