@@ -1,5 +1,5 @@
 -- The events that a journal keeps among its bytes, also where more bytes come behind them.
-use Rattle.std.proofs.Common.{◌≡◌, ℕ, ◌≤◌, ◌+◌, ◌-◌, List, [], ◌∷◌, ◌++◌, length, map, reverse, slice_get, take, drop, Option, Some, refl, ap, sym, ◌∙◌, arith}
+use Rattle.std.proofs.Common.{◌≡◌, ℕ, ◌≤◌, ◌+◌, ◌-◌, List, [], ◌∷◌, ◌++◌, length, map, reverse, slice_get, take, drop, Some, refl, ap, sym, ◌∙◌, arith}
 use Rattle.std.specs.List.{All, slice_range}
 use Rattle.std.specs.Option.{option_map}
 use Rattle.std.proofs.lemmas.List.{append_assoc, drop-append-le, drop_at, length-append, length-drop, map-append, reverse-append, reverse-reverse, take-append-le, take_all}
