@@ -1,13 +1,18 @@
-//! Tests of the sighted runs of `tpol_driver` on outside values, and the steps that those of its blind runs have too. They
-//! stand in a crate of their own, over the one that they test, so that it is proved once and not a second time with its tests.
+//! Tests of `tpol_driver` on outside values: of its sighted runs and of its blind ones. They stand in a crate of their own,
+//! over the one that they test, so that it is proved once and not a second time with its tests.
 #![tactic(auto)]
 
+#[cfg(test)]
+mod blind;
+#[cfg(test)]
+mod plans;
 #[cfg(test)]
 mod runs;
 #[cfg(test)]
 mod sighted;
 #[cfg(test)]
 mod states;
-pub mod steps;
+#[cfg(test)]
+mod steps;
 #[cfg(test)]
 mod tickets;

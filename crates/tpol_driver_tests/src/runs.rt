@@ -1,13 +1,14 @@
 //! What a run is to do, as a table of the tests has it, and the state behind its steps.
 
-use crate::states::{BOOT, OWNER, ZERO_PCRS, at_start, turn};
+use crate::plans::{Act, push_entries, push_moves, push_secrets};
+use crate::states::{at_start, turn};
 use crate::steps::Step;
 use std::alloc::Global;
-use tpol_base::{Blob, Compare, Digest32, Digests, Name, NoMemory, Sequence, Text};
+use tpol_base::{Blob, Digest32, Name, NoMemory};
 use tpol_driver::{HeldTicket, Next, Plan, Stage, Tickets};
 use tpol_goal::{Goal, Grants, Secrets};
-use tpol_name::{DirEntry, Directory};
-use tpol_tree::{Assertion, Move, Moves, Path};
+use tpol_name::Directory;
+use tpol_tree::{Moves, Path, PathSteps};
 
 /// A reply to the step at this place by which a run fails: the code that denies it, 0 where the reply is bad,
 /// and the stage of the end.
@@ -17,33 +18,6 @@ pub struct Failing<'a> {
     pub reply: &'a [u8],
     pub code: u32,
     pub stage: Stage,
-}
-
-// The digests in other Names.
-
-pub const KEY: [u8; 32] = [0x11; 32];
-
-pub const COUNTER: [u8; 32] = [0x22; 32];
-
-pub const APPROVALS: [u8; 32] = [0x33; 32];
-
-const APPROVED: Digest32 = Digest32 { bytes: [0x88; 32] };
-
-/// The move of a path.
-#[derive(Clone, Copy)]
-pub enum Act {
-    Pcrs,
-    AuthValue,
-    Branches,
-    Signed,
-    Secret,
-    /// The same at the expiration -1, so that it earns a ticket.
-    TicketedSecret,
-    Counter,
-    Approval,
-    ApprovalByIndex,
-    Timer,
-    Password,
 }
 
 /// What a client uses its session for.
@@ -65,115 +39,6 @@ pub struct Run {
     pub nonce_seed: [u8; 32],
     pub steps: &'static [Step<'static>],
     pub flush: &'static [u8],
-}
-
-fn name(digest: [u8; 32]) -> Name {
-    Name::Hash(Digest32 { bytes: digest })
-}
-
-fn signed(alloc: Global) -> Result<Move, NoMemory> {
-    Ok(Move::Assert(Assertion::Signed {
-        key: name(KEY),
-        policy_ref: Blob::from_slice(alloc, b"ref")?,
-        cp_hash: Some(Digest32 { bytes: [0x77; 32] }),
-        expiration: -2,
-    }))
-}
-
-fn secret(alloc: Global, expiration: i32) -> Move {
-    Move::Assert(Assertion::Secret {
-        entity: Name::Handle(0x4000_000b),
-        policy_ref: Blob::new(alloc),
-        cp_hash: None,
-        expiration,
-    })
-}
-
-fn counter(alloc: Global) -> Result<Move, NoMemory> {
-    Ok(Move::Assert(Assertion::Nv {
-        index: name(COUNTER),
-        operand: Blob::from_slice(alloc, b"\x05\x06")?,
-        offset: 1,
-        operation: Compare::UnsignedLe,
-    }))
-}
-
-fn approval(alloc: Global) -> Result<Move, NoMemory> {
-    Ok(Move::Approve {
-        key: name(KEY),
-        policy_ref: Blob::from_slice(alloc, b"app")?,
-        approved: APPROVED,
-        signature: Digest32 { bytes: [0x99; 32] },
-    })
-}
-
-fn timer(alloc: Global) -> Result<Move, NoMemory> {
-    Ok(Move::Assert(Assertion::CounterTimer {
-        operand: Blob::from_slice(alloc, b"\x07")?,
-        offset: 8,
-        operation: Compare::SignedGt,
-    }))
-}
-
-fn pcrs(alloc: Global) -> Move {
-    Move::Assert(Assertion::Pcr {
-        mask: 0x95,
-        pcr_digest: ZERO_PCRS,
-        values: Digests::new(alloc),
-    })
-}
-
-fn move_of(alloc: Global, act: Act) -> Result<Move, NoMemory> {
-    match act {
-        Act::Pcrs => Ok(pcrs(alloc)),
-        Act::AuthValue => Ok(Move::Assert(Assertion::AuthValue)),
-        Act::Branches => Ok(Move::Or(Digests::from_slice(alloc, &[BOOT, OWNER])?)),
-        Act::Signed => signed(alloc),
-        Act::Secret => Ok(secret(alloc, 0)),
-        Act::TicketedSecret => Ok(secret(alloc, -1)),
-        Act::Counter => counter(alloc),
-        Act::Approval => approval(alloc),
-        Act::ApprovalByIndex => Ok(Move::ApproveNv {
-            index: name(APPROVALS),
-            approved: APPROVED,
-        }),
-        Act::Timer => timer(alloc),
-        Act::Password => Ok(Move::Assert(Assertion::Password)),
-    }
-}
-
-fn push_moves(moves: &mut Moves, alloc: Global, path: &[Act]) -> Result<(), NoMemory> {
-    for act in path {
-        moves.push(move_of(alloc, *act)?)?;
-    }
-    Ok(())
-}
-
-fn push_secrets(
-    secrets: &mut Secrets,
-    alloc: Global,
-    values: &[(u32, &[u8])],
-) -> Result<(), NoMemory> {
-    for (handle, value) in values {
-        secrets.push((*handle, Blob::from_slice(alloc, value)?))?;
-    }
-    Ok(())
-}
-
-fn push_entries(
-    directory: &mut Directory,
-    alloc: Global,
-    lines: &[(u32, [u8; 32], u32)],
-) -> Result<(), NoMemory> {
-    for (handle, digest, attributes) in lines {
-        directory.push(DirEntry {
-            path: Text::from_str(alloc, "/x")?,
-            handle: *handle,
-            name: name(*digest),
-            attributes: *attributes,
-        })?;
-    }
-    Ok(())
 }
 
 /// A ticket of the endorsement hierarchy at the deadline 1,000.
@@ -219,7 +84,7 @@ fn goal(run: &Run) -> Goal {
 fn empty_plan(alloc: Global, run: &Run) -> Plan {
     Plan {
         path: Path {
-            steps: Sequence::new(alloc),
+            steps: PathSteps::new(alloc),
             moves: Moves::new(alloc),
             outside: false,
         },

@@ -2,7 +2,8 @@
 //! commands, and the ends that replies lead to. The run of the disk is on a machine whose seed is 32 zero
 //! bytes; its end has the HMAC that `tpm_auth` has from there too.
 
-use crate::runs::{APPROVALS, Act, COUNTER, Failing, KEY, Run, Use, state_after};
+use crate::plans::{APPROVALS, Act, COUNTER, KEY};
+use crate::runs::{Failing, Run, Use, state_after};
 use crate::steps::{NONCE_SEED, Step};
 use std::alloc::Global;
 use tpol_driver::{End, Next, Stage};
@@ -257,6 +258,21 @@ const DISK_FLUSH: &[u8] = b"\x80\x01\x00\x00\x00\x0e\x00\x00\x01\x65\x03\x00\x00
 /// FlushContext of the device's session.
 const DEVICE_FLUSH: &[u8] = b"\x80\x01\x00\x00\x00\x0e\x00\x00\x01\x65\x03\x00\x00\x02";
 
+/// The digest of the branch of PCRs.
+const BOOT: [u8; 32] =
+    *b"\x90\x93\x8e\x03\xc6\x35\x65\x05\xa1\x82\xcf\x9c\x16\x6d\xaa\x30\xc0\xa6\x9c\x6f\
+      \x13\xf6\xbb\xca\x77\x7d\xf6\xa8\x83\xdd\xf7\xb6";
+
+/// The digest of the owner's branch.
+const OWNER: [u8; 32] =
+    *b"\x51\xae\x7a\x4a\xb4\xb3\xef\xdd\xde\xd3\xe8\x78\xf9\x2b\xec\x2c\x9f\x5e\x2e\x88\
+      \xb9\xc7\xe6\x7e\x1b\x22\x96\x94\xef\x4b\x90\xf2";
+
+/// The digest of zero PCRs.
+const ZERO_PCRS: [u8; 32] =
+    *b"\x38\x72\x3a\x2e\x5e\x8a\x17\xaa\x79\x50\xdc\x00\x82\x09\x94\x4e\x89\x8f\x69\xa7\
+      \xbd\x10\xa2\x3c\x83\x9d\x34\x1e\x93\x5f\xd5\xca";
+
 /// The digest in the Name of the disk key.
 const DISK_KEY: [u8; 32] =
     *b"\x01\x17\x0c\x0c\xcc\xc3\x8e\xa2\xeb\x61\x29\xdc\x09\xe9\x7f\x4e\xe7\x13\x35\x1d\
@@ -264,7 +280,11 @@ const DISK_KEY: [u8; 32] =
 
 /// The branch `boot` of the policy of a disk key: PCRs and the value of the key.
 static DISK: Run = Run {
-    path: &[Act::Pcrs, Act::AuthValue, Act::Branches],
+    path: &[
+        Act::Pcrs(ZERO_PCRS),
+        Act::AuthValue,
+        Act::Branches(BOOT, OWNER),
+    ],
     goal: Use::Unseal {
         object: 0x8000_0000,
     },
@@ -280,8 +300,15 @@ static DISK: Run = Run {
 /// A path with each command that takes a handle, a value or a key, and a goal by password.
 static DEVICE: Run = Run {
     path: &[
-        Act::Signed,
-        Act::Secret,
+        Act::Signed {
+            policy_ref: b"ref",
+            cp_hash: Some([0x77; 32]),
+            expiration: -2,
+        },
+        Act::Secret {
+            entity: 0x4000_000b,
+            expiration: 0,
+        },
         Act::Counter,
         Act::Approval,
         Act::ApprovalByIndex,

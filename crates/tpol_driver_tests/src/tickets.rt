@@ -1,7 +1,8 @@
 //! Tickets of a run. The commands and the ticket are computed by another program (Python's `hashlib` and `hmac`) from
 //! the rules of the commands, on a machine whose seed is 32 zero bytes.
 
-use crate::runs::{Act, Run, Use, state_after};
+use crate::plans::Act;
+use crate::runs::{Run, Use, state_after};
 use crate::steps::{DENIED, NONCE_SEED, OK, START, Step};
 use std::alloc::Global;
 use tpol_base::Name;
@@ -52,6 +53,12 @@ const FLUSH: &[u8] = b"\x80\x01\x00\x00\x00\x0e\x00\x00\x01\x65\x03\x00\x00\x01"
 const TICKET: [u8; 32] =
     *b"\x7c\xee\x05\x1b\xe5\x69\x77\xce\x84\x5a\x60\xf6\xaa\x30\x1b\x16\xe6\x3b\xf4\x13\
       \xd6\x98\xe9\x8f\x79\x08\x93\x8e\xc0\x6f\x53\x9b";
+
+/// The same as the move of a path.
+const TICKETED_SECRET: Act = Act::Secret {
+    entity: 0x4000_000b,
+    expiration: -1,
+};
 
 /// A run that earns a ticket, and is denied its goal.
 const EARNING_STEPS: [Step<'static>; 4] = [
@@ -115,7 +122,7 @@ const SHOWING_STEPS: [Step<'static>; 4] = [
 
 /// A run without tickets whose reply has a deadline.
 static EARNING: Run = Run {
-    path: &[Act::TicketedSecret],
+    path: &[TICKETED_SECRET],
     goal: Use::Unseal {
         object: 0x8000_0000,
     },
@@ -130,7 +137,7 @@ static EARNING: Run = Run {
 
 /// One whose reply has none.
 static NOT_EARNING: Run = Run {
-    path: &[Act::TicketedSecret],
+    path: &[TICKETED_SECRET],
     goal: Use::Unseal {
         object: 0x8000_0000,
     },
@@ -145,7 +152,7 @@ static NOT_EARNING: Run = Run {
 
 /// One that holds a ticket with another policyRef, and two that stand for the move, the right one first.
 static SHOWING: Run = Run {
-    path: &[Act::TicketedSecret],
+    path: &[TICKETED_SECRET],
     goal: Use::Unseal {
         object: 0x8000_0000,
     },

@@ -3,16 +3,17 @@
 
 ghost use Rattle.std.specs.Prelude.{◌≤◌, All, IsTrue, length};
 
+use crate::plans::{Act, push_entries, push_moves, push_secrets};
+use crate::steps::{DENIED, NONCE_SEED, OK, START, Step, is_made};
 use std::alloc::Global;
-use tpol_base::{Blob, Digest32, Digests, Name, NoMemory, Rc, Text};
+use tpol_base::{Digest32, NoMemory, Rc};
 use tpol_driver::{
     BlindAgain, BlindAsserting, BlindClosing, BlindEnd, BlindNext, BlindPlan, BlindReady,
     BlindStart, Stage, Tried,
 };
-use tpol_driver_tests::steps::{DENIED, NONCE_SEED, OK, START, Step, is_made};
 use tpol_goal::{Goal, Grants, Secrets};
-use tpol_name::{DirEntry, Directory};
-use tpol_tree::{Assertion, Move, Moves, Path, PathSteps, Paths};
+use tpol_name::Directory;
+use tpol_tree::{Moves, Path, PathSteps, Paths};
 
 /// The reply to StartAuthSession: the session 0x0300_0000.
 const STARTED: &[u8] =
@@ -27,7 +28,7 @@ const PCRS: &[u8] =
       \x0b\x0b\x0b\x0b\x0b\x0b\x0b\x0b\x00\x00\x00\x01\x00\x0b\x03\x95\x00\x00";
 
 /// Its digest.
-const OF_PCRS: Digest32 = Digest32 { bytes: [0x0b; 32] };
+const OF_PCRS: [u8; 32] = [0x0b; 32];
 
 /// PolicyPCR refused: 0x1c4 (TPM_RC_VALUE, parameter 1).
 const NOT_THE_PCRS: &[u8] = b"\x80\x01\x00\x00\x00\x0a\x00\x00\x01\xc4";
@@ -51,9 +52,9 @@ const SECRET_OK: &[u8] =
 const CODE: &[u8] = b"\x80\x01\x00\x00\x00\x12\x00\x00\x01\x6c\x03\x00\x00\x00\x00\x00\x01\x5e";
 
 /// The digests of the branches.
-const FIRST: Digest32 = Digest32 { bytes: [0x0c; 32] };
+const FIRST: [u8; 32] = [0x0c; 32];
 
-const OTHER: Digest32 = Digest32 { bytes: [0x0d; 32] };
+const OTHER: [u8; 32] = [0x0d; 32];
 
 /// The PolicyOR of both.
 const BRANCHES: &[u8] =
@@ -191,55 +192,31 @@ static START_MALFORMED: [Step<'static>; 1] = [Step {
     reply: OK,
 }];
 
-fn assert_move(moves: &mut Moves, assertion: Assertion) -> Result<(), NoMemory> {
-    moves.push(Move::Assert(assertion))
-}
-
-fn branches(alloc: Global) -> Result<Move, NoMemory> {
-    Ok(Move::Or(Digests::from_slice(alloc, &[FIRST, OTHER])?))
-}
-
-fn pcr_moves(moves: &mut Moves, alloc: Global) -> Result<(), NoMemory> {
-    assert_move(
-        moves,
-        Assertion::Pcr {
-            mask: 0x95,
-            pcr_digest: OF_PCRS,
-            values: Digests::new(alloc),
-        },
-    )?;
-    assert_move(moves, Assertion::AuthValue)?;
-    moves.push(branches(alloc)?)
-}
-
-// A key that is in no directory.
-fn unknown_moves(moves: &mut Moves, alloc: Global) -> Result<(), NoMemory> {
-    assert_move(
-        moves,
-        Assertion::Signed {
-            key: Name::Hash(Digest32 { bytes: [0x11; 32] }),
-            policy_ref: Blob::new(alloc),
-            cp_hash: None,
+/// The paths, of which the second one has a key that is in no directory.
+static PATHS: [&[Act]; 3] = [
+    &[
+        Act::Pcrs(OF_PCRS),
+        Act::AuthValue,
+        Act::Branches(FIRST, OTHER),
+    ],
+    &[Act::Signed {
+        policy_ref: b"",
+        cp_hash: None,
+        expiration: 0,
+    }],
+    &[
+        Act::Secret {
+            entity: 0x4000_0001,
             expiration: 0,
         },
-    )
-}
+        Act::CommandCode(0x15e),
+        Act::Branches(FIRST, OTHER),
+    ],
+];
 
-fn owner_moves(moves: &mut Moves, alloc: Global) -> Result<(), NoMemory> {
-    assert_move(
-        moves,
-        Assertion::Secret {
-            entity: Name::Handle(0x4000_0001),
-            policy_ref: Blob::new(alloc),
-            cp_hash: None,
-            expiration: 0,
-        },
-    )?;
-    assert_move(moves, Assertion::CommandCode(0x15e))?;
-    moves.push(branches(alloc)?)
-}
-
-fn push_path(paths: &mut Paths, alloc: Global, moves: Moves) -> Result<(), NoMemory> {
+fn push_path(paths: &mut Paths, alloc: Global, path: &[Act]) -> Result<(), NoMemory> {
+    let mut moves = Moves::new(alloc);
+    push_moves(&mut moves, alloc, path)?;
     paths.push(Path {
         steps: PathSteps::new(alloc),
         moves,
@@ -248,15 +225,10 @@ fn push_path(paths: &mut Paths, alloc: Global, moves: Moves) -> Result<(), NoMem
 }
 
 fn push_paths(paths: &mut Paths, alloc: Global) -> Result<(), NoMemory> {
-    let mut moves = Moves::new(alloc);
-    pcr_moves(&mut moves, alloc)?;
-    push_path(paths, alloc, moves)?;
-    let mut moves = Moves::new(alloc);
-    unknown_moves(&mut moves, alloc)?;
-    push_path(paths, alloc, moves)?;
-    let mut moves = Moves::new(alloc);
-    owner_moves(&mut moves, alloc)?;
-    push_path(paths, alloc, moves)
+    for path in &PATHS {
+        push_path(paths, alloc, path)?;
+    }
+    Ok(())
 }
 
 fn empty_plan(alloc: Global) -> BlindPlan {
@@ -276,15 +248,12 @@ fn empty_plan(alloc: Global) -> BlindPlan {
 
 fn fill(plan: &mut BlindPlan, alloc: Global) -> Result<(), NoMemory> {
     push_paths(&mut plan.paths, alloc)?;
-    plan.grants
-        .secrets
-        .push((0x4000_0001, Blob::from_slice(alloc, b"owner")?))?;
-    plan.directory.push(DirEntry {
-        path: Text::from_str(alloc, "/x")?,
-        handle: 0x8000_0000,
-        name: Name::Hash(Digest32 { bytes: [0x22; 32] }),
-        attributes: 0x40,
-    })
+    push_secrets(&mut plan.grants.secrets, alloc, &[(0x4000_0001, b"owner")])?;
+    push_entries(
+        &mut plan.directory,
+        alloc,
+        &[(0x8000_0000, [0x22; 32], 0x40)],
+    )
 }
 
 // One command and its reply in each state: the state after them, nothing where the command is another one.
