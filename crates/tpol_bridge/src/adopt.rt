@@ -10,7 +10,7 @@ ghost use Rattle.tpol_write.specs.Canonical.{canonical_text};
 use crate::export::read_export;
 use std::alloc::Global;
 use tpol_base::NoMemory;
-use tpol_lines::{Lines, push_bytes};
+use tpol_lines::Lines;
 use tpol_steps::{Answer, Halt, Verdict};
 use tpol_tree::Policy;
 use tpol_write::write_policy;
@@ -32,8 +32,7 @@ fn canonical(alloc: Global, policy: &Policy) -> Result<Answer, NoMemory>
     ensures { IfOk result (λ answer. answer
         ≡ one_line (canonical_text (erased_policy policy.now)) Verdict.Done) }
 {
-    let mut lines = Lines::new(alloc);
-    push_bytes(&mut lines, write_policy(alloc, policy)?)?;
+    let lines = Lines::of_line(alloc, write_policy(alloc, policy)?)?;
     let verdict = Verdict::Done;
     Ok(Answer { lines, verdict })
 }

@@ -24,7 +24,7 @@ use tpol_adopt::dropped;
 use tpol_base::{Digest32, NoMemory, Shelf, Text};
 use tpol_digest::digest_of;
 use tpol_json::{Place, place_text};
-use tpol_lines::{Lines, push_line};
+use tpol_lines::Lines;
 use tpol_marks::{Mark, marks_of, own_digests};
 use tpol_name::Sight;
 use tpol_prepare::sight_of_scene;
@@ -95,7 +95,7 @@ fn tell(alloc: Global, export: &Export, closed: &Closed) -> Result<Answer, NoMem
     let mut lines = Lines::new(alloc);
     push_export(alloc, &mut lines, export, closed)?;
     let digest = digest_line(alloc, &digest_of(closed))?;
-    push_line(alloc, &mut lines, digest.as_str())?;
+    lines.push_line(digest.as_str())?;
     Ok(Answer {
         lines,
         verdict: Verdict::Done,
@@ -126,7 +126,7 @@ fn push_dropped(alloc: Global, lines: &mut Lines, places: &[Place]) -> Result<()
     for place in places {
         let mut line = Text::from_str(alloc, "dropped ")?;
         line.push_str(place_text(alloc, place)?.as_str())?;
-        push_line(alloc, lines, line.as_str())?;
+        lines.push_line(line.as_str())?;
     }
     Ok(())
 }
@@ -137,7 +137,7 @@ fn push_notes(alloc: Global, lines: &mut Lines, places: &[Place]) -> Result<(), 
 {
     for place in places {
         let note = note_line(alloc, place)?;
-        push_line(alloc, lines, note.as_str())?;
+        lines.push_line(note.as_str())?;
     }
     Ok(())
 }
@@ -210,5 +210,5 @@ fn push_digest(
     line.push_str(place_text(alloc, place)?.as_str())?;
     line.push_str(" ")?;
     line.push_str(hex::encode(alloc, digest.bytes.as_slice())?.as_str())?;
-    push_line(alloc, lines, line.as_str())
+    lines.push_line(line.as_str())
 }

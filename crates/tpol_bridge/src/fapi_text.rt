@@ -14,7 +14,7 @@ use crate::export::read_export;
 use std::alloc::Global;
 use tpol_base::NoMemory;
 use tpol_export::export_policy;
-use tpol_lines::{Lines, push_bytes};
+use tpol_lines::Lines;
 use tpol_steps::{Answer, Halt, Verdict};
 use tpol_tree::Policy;
 
@@ -37,8 +37,7 @@ fn spelled(alloc: Global, policy: &Policy) -> Result<Answer, NoMemory>
     ensures { IfOk result (λ answer. answer
         ≡ one_line (export_text (erased_policy policy.now)) Verdict.Done) }
 {
-    let mut lines = Lines::new(alloc);
-    push_bytes(&mut lines, export_policy(alloc, policy)?)?;
+    let lines = Lines::of_line(alloc, export_policy(alloc, policy)?)?;
     let verdict = Verdict::Done;
     Ok(Answer { lines, verdict })
 }

@@ -15,7 +15,7 @@ use crate::export::read_export;
 use std::alloc::Global;
 use tpol_base::{NoMemory, Shelf, Text};
 use tpol_digest::{count_paths, digest_of, path_at};
-use tpol_lines::{Lines, push_line};
+use tpol_lines::Lines;
 use tpol_moves::{path_line, push_steps};
 use tpol_prepare::opening_of;
 use tpol_scene::Scene;
@@ -140,10 +140,10 @@ fn tell_path(alloc: Global, closed: &Closed, position: u32, path: &Path) -> Resu
 {
     let mut lines = Lines::new(alloc);
     let line = path_line(alloc, position, path)?;
-    push_line(alloc, &mut lines, line.as_str())?;
+    lines.push_line(line.as_str())?;
     push_steps(alloc, &mut lines, path.moves.as_slice())?;
     let digest = digest_line(alloc, &digest_of(closed))?;
-    push_line(alloc, &mut lines, digest.as_str())?;
+    lines.push_line(digest.as_str())?;
     Ok(Answer {
         lines,
         verdict: Verdict::Done,

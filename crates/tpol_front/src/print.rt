@@ -4,7 +4,8 @@ ghost use Rattle.tpol_steps.specs.Answer.{text_of};
 ghost use Rattle.tpol_front.specs.Status.{status_of};
 
 use crate::Status;
-use tpol_base::{Blob, Failed, Sink};
+use tpol_base::{Failed, Sink};
+use tpol_lines::Lines;
 use tpol_steps::Answer;
 
 /// Prints an answer: the status that it ends with, or that the sink failed.
@@ -18,22 +19,22 @@ pub fn print_answer<K: Sink>(out: &mut K, answer: &Answer) -> Status
     ensures write_told { (result ≡ Status.WriteFault) ⊎ (K.faults out.new ≡ K.faults out.old) }
     ensures sink_count { K.faults out.old ≤ K.faults out.new }
 {
-    match print_lines(out, answer.lines.as_slice()) {
+    match print_lines(out, &answer.lines) {
         Ok(()) => Status::of_verdict(answer.verdict),
         Err(Failed) => Status::WriteFault,
     }
 }
 
 // Writes lines, each in one write.
-fn print_lines<K: Sink>(out: &mut K, lines: &[Blob]) -> Result<(), Failed>
+fn print_lines<K: Sink>(out: &mut K, lines: &Lines) -> Result<(), Failed>
     ensures written { MatchResult result
         (λ _. Grows (K.contents out.old) (K.contents out.new) (text_of lines.now))
         (λ _. GrowsInPart (K.contents out.old) (K.contents out.new) (text_of lines.now)) }
     ensures cause { HasCause (K.faults out.old) (K.faults out.new) result }
     ensures quiet { OnOk result (K.faults out.new ≡ K.faults out.old) }
 {
-    for line in lines {
-        match out.write(line.as_slice()) {
+    for index in 0..lines.len() {
+        match out.write(lines.line(index)) {
             Ok(()) => {}
             Err(failed) => return Err(failed),
         }

@@ -22,7 +22,7 @@ use crate::generated::{generated_policy, generated_run, generated_setup};
 use std::alloc::Global;
 use tpol_base::{Digest32, NoMemory, Sequence, Text};
 use tpol_digest::count_paths;
-use tpol_lines::{Lines, command_count_line, generated_line, path_count_line, push_line};
+use tpol_lines::{Lines, command_count_line, generated_line, path_count_line};
 use tpol_name::{Setup, directory};
 use tpol_perform::Performance;
 use tpol_prepare::{Manner, Scenario, Way};
@@ -129,21 +129,21 @@ fn push_made(alloc: Global, lines: &mut Lines, ors: u8, order: u32) -> Result<()
     ensures { OnOk result (lines.new ≡ lines.old ++ line_of (generated_line ors order) ∷ []) }
 {
     let line = generated_line(alloc, u32::from(ors), order)?;
-    push_line(alloc, lines, line.as_str())
+    lines.push_line(line.as_str())
 }
 
 fn push_path_count(alloc: Global, lines: &mut Lines, count: u32) -> Result<(), NoMemory>
     ensures { OnOk result (lines.new ≡ lines.old ++ line_of (path_count_line count) ∷ []) }
 {
     let line = path_count_line(alloc, count)?;
-    push_line(alloc, lines, line.as_str())
+    lines.push_line(line.as_str())
 }
 
 fn push_digest(alloc: Global, lines: &mut Lines, digest: &Digest32) -> Result<(), NoMemory>
     ensures { OnOk result (lines.new ≡ lines.old ++ line_of (digest_line digest.now) ∷ []) }
 {
     let line = digest_line(alloc, digest)?;
-    push_line(alloc, lines, line.as_str())
+    lines.push_line(line.as_str())
 }
 
 // The lines of the run of the policy.
@@ -174,18 +174,19 @@ fn push_performance(
     requires few { length performance.now.past < 2 ^ 32 }
     ensures { OnOk result (lines.new ≡ lines.old ++ generated_run_lines performance.now) }
 {
-    let told = performance.lines.as_slice();
-    lines.extend_with_clones(&told[..told.len().min(1)])?;
+    let told = &performance.lines;
+    let all = told.len();
+    lines.append(told, 0, all.min(1))?;
     let count = performance.machine.journal().len() as u32;
     push_command_count(alloc, lines, count)?;
-    lines.extend_with_clones(&told[told.len() - told.len().min(2)..])
+    lines.append(told, all - all.min(2), all)
 }
 
 fn push_command_count(alloc: Global, lines: &mut Lines, count: u32) -> Result<(), NoMemory>
     ensures { OnOk result (lines.new ≡ lines.old ++ line_of (command_count_line count) ∷ []) }
 {
     let line = command_count_line(alloc, count)?;
-    push_line(alloc, lines, line.as_str())
+    lines.push_line(line.as_str())
 }
 
 // The run begins, and goes to its end.

@@ -1,3 +1,4 @@
+pub mod Cuts
 pub mod LabelLaws
 pub mod Loads
 pub mod Numbers

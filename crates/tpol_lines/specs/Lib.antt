@@ -1,4 +1,5 @@
 pub mod BlockLine
+pub mod Buffer
 pub mod CertLine
 pub mod Events
 pub mod Generated

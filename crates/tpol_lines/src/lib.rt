@@ -1,7 +1,7 @@
 //! The text of the lines that the program prints: of a policy's paths, of a machine's events, of runs, of
 //! openings, and of their certificates.
 //!
-//! Each line is a definition over what it tells, without its line end, and `push_line` adds it to the lines
+//! Each line is a definition over what it tells, without its line end, and `Lines::push_line` adds it to the lines
 //! with that. `path_lines` is the list of all lines of a policy's paths; `write_paths` writes it on one walk
 //! through the policy and holds no path, and `labels` the choices of each path alone. `label_at` gives those of
 //! one path, and `assertion_kind` the word for an assertion's policy command.
@@ -32,7 +32,7 @@ pub use dead_paths::{dead_line_at, lint_line};
 pub use events::{command_line, presence_line, reset_line, time_line};
 pub use generated::{command_count_line, generated_line, path_count_line};
 pub use kinds::assertion_kind;
-pub use lines::{Lines, push_bytes, push_line};
+pub use lines::Lines;
 pub use one_label::label_at;
 pub use openings::opening_line;
 pub use path_label::label;

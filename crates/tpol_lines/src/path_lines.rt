@@ -214,7 +214,7 @@ fn write_ahead(shelf: &Shelf<'_>, pen: &mut Pen, ahead: &Ahead<'_>) -> Result<()
         (texts.texts_ahead shelf.now.approvals.now ahead.now)) }
 {
     match ahead {
-        Ahead::Nothing => pen.write(shelf.alloc, shelf.form),
+        Ahead::Nothing => pen.write(shelf.form),
         Ahead::After {
             kind,
             rest,

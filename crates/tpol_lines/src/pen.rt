@@ -1,16 +1,13 @@
-ghost use Rattle.std.specs.Prelude.{◌≡◌, ◌+◌, ◌∷◌, ◌++◌, [], codes, length, IfOk, OnOk};
+ghost use Rattle.std.specs.Prelude.{◌≡◌, ◌+◌, ◌∷◌, ◌++◌, [], codes, length, OnOk};
 ghost use Rattle.json.specs.Print.{quoted};
 ghost use Rattle.tpol_lines.specs.Lines.{line_of};
 ghost use Rattle.tpol_lines.specs.Pen.{behind_separator, line_behind, written};
 
-use crate::decimal::push_decimal;
 use crate::lines::Lines;
 use crate::names::push_name;
+use itoa::Buffer;
 use std::alloc::Global;
-use tpol_base::{Blob, NoMemory};
-
-// Room for all of a path's line but its choices and kinds: 27 bytes at most.
-const ROOM_BESIDE_CHOICES: usize = 32;
+use tpol_base::NoMemory;
 
 // What is written of a path that is whole.
 #[derive(Clone, Copy)]
@@ -79,50 +76,60 @@ impl Pen {
     }
 
     // Writes what is asked of the path that is whole.
-    pub fn write(&mut self, alloc: Global, form: Form) -> Result<(), NoMemory>
+    pub fn write(&mut self, form: Form) -> Result<(), NoMemory>
         ensures lines { OnOk result (self.new.lines ≡ self.old.lines
             ++ written form (length self.old.lines + 1) self.old.choices.items self.old.kinds.items
             ∷ []) }
         ensures choices { self.new.choices ≡ self.old.choices }
         ensures kinds { self.new.kinds ≡ self.old.kinds }
     {
-        let text = match form {
-            Form::Line => self.line(alloc)?,
-            Form::Label => self.label(alloc)?,
-        };
-        self.lines.push(text)
+        match form {
+            Form::Line => self.write_line(),
+            Form::Label => self.write_label(),
+        }
     }
 
-    // The line of the path that is whole, with its line end.
-    fn line(&self, alloc: Global) -> Result<Blob, NoMemory>
-        ensures { IfOk result (λ line. line
-            ≡ line_of (line_behind (length self.now.lines + 1) self.now.choices.items
-            self.now.kinds.items)) }
+    // Writes the line of the path that is whole.
+    fn write_line(&mut self) -> Result<(), NoMemory>
+        ensures lines { OnOk result (self.new.lines ≡ self.old.lines
+            ++ line_of (line_behind (length self.old.lines + 1) self.old.choices.items
+            self.old.kinds.items) ∷ []) }
+        ensures choices { self.new.choices ≡ self.old.choices }
+        ensures kinds { self.new.kinds ≡ self.old.kinds }
     {
         let position = self.lines.len().checked_add(1).ok_or(NoMemory)?;
-        let choices = behind_separator(self.choices.as_slice(), b"-");
-        let kinds = behind_separator(self.kinds.as_slice(), b"");
-        let room = choices
-            .len()
-            .saturating_add(kinds.len())
-            .saturating_add(ROOM_BESIDE_CHOICES);
-        let mut line = Vec::with_capacity(alloc, room)?;
-        line.extend_from_slice(b"path ")?;
-        push_decimal(&mut line, position as u64)?;
-        line.push(b' ')?;
-        line.extend_from_slice(choices)?;
-        line.push(b' ')?;
-        line.extend_from_slice(kinds)?;
-        line.push(b'\n')?;
-        Ok(Blob::from_vec(line))
+        let mut digits = Buffer::new();
+        push_path(
+            &mut self.lines,
+            digits.format(position as u64).as_bytes(),
+            behind_separator(self.choices.as_slice(), b"-"),
+            behind_separator(self.kinds.as_slice(), b""),
+        )
     }
 
-    // The choices of the path that is whole.
-    fn label(&self, alloc: Global) -> Result<Blob, NoMemory>
-        ensures { IfOk result (λ label. label ≡ behind_separator self.now.choices.items (codes "-")) }
+    // Writes the choices of the path that is whole.
+    fn write_label(&mut self) -> Result<(), NoMemory>
+        ensures lines { OnOk result (self.new.lines ≡ self.old.lines
+            ++ behind_separator self.old.choices.items (codes "-") ∷ []) }
+        ensures choices { self.new.choices ≡ self.old.choices }
+        ensures kinds { self.new.kinds ≡ self.old.kinds }
     {
-        Blob::from_slice(alloc, behind_separator(self.choices.as_slice(), b"-"))
+        self.lines
+            .push(behind_separator(self.choices.as_slice(), b"-"))
     }
+}
+
+// Adds the line of a path at this position, with these choices and kinds.
+fn push_path<'a>(
+    lines: &mut Lines,
+    position: &'a [u8],
+    choices: &'a [u8],
+    kinds: &'a [u8],
+) -> Result<(), NoMemory>
+    ensures { OnOk result (lines.new ≡ lines.old ++ line_of (codes "path " ++ position.now ++ codes " "
+        ++ choices.now ++ codes " " ++ kinds.now) ∷ []) }
+{
+    lines.push_pieces(&[b"path ", position, b" ", choices, b" ", kinds, b"\n"])
 }
 
 // The pieces without the separator in front of the first, or what stands for none.

@@ -11,7 +11,7 @@ use crate::values::digest_text;
 use std::alloc::Global;
 use tpol_base::{Digest32, NoMemory, Text};
 use tpol_digest::{digest_after_move, zero_digest};
-use tpol_lines::{Lines, push_line};
+use tpol_lines::Lines;
 use tpol_tree::Move;
 
 /// Adds a line for each policy command of a path, in their order: its number from 1, its kind, its arguments (TPM 2.0
@@ -40,7 +40,7 @@ fn push_from(
         Some((act, rest)) => {
             let after = digest_after_move(before, act);
             let line = step_line(alloc, number, act, &after)?;
-            push_line(alloc, lines, line.as_str())?;
+            lines.push_line(line.as_str())?;
             push_from(alloc, lines, number + 1, after, rest)
         }
     }

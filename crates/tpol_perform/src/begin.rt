@@ -22,11 +22,11 @@ ghost use Rattle.tpol_runs.specs.Courses.{begun};
 use crate::new_run::{NewRun, run_seed};
 use crate::performance::Performance;
 use std::alloc::Global;
-use tpol_base::{Blob, ExactClone, NoMemory};
+use tpol_base::{ExactClone, NoMemory};
 use tpol_choose::{Block, blocks, choose_with_memo};
 use tpol_digest::path_at_with_memo;
 use tpol_driver::{Plan, Tickets};
-use tpol_lines::{block_line, chosen_line, labels, nobranch_line};
+use tpol_lines::{Lines, block_line, chosen_line, labels, nobranch_line};
 use tpol_name::Sight;
 use tpol_prepare::{Scenario, Way};
 use tpol_steps::CompiledDocument;
@@ -232,7 +232,7 @@ impl Performance {
             ≡ with_line (chosen_line number position path.now.steps) self.old) }
     {
         let line = chosen_line(alloc, number, position, path.steps.as_slice())?;
-        self.print(alloc, line.as_str())
+        self.print(line.as_str())
     }
 
     // One more run, along this path with these tickets.
@@ -287,7 +287,7 @@ impl Performance {
     {
         self.runs.begin_without_path(number)?;
         let line = nobranch_line(alloc, number)?;
-        self.print(alloc, line.as_str())
+        self.print(line.as_str())
     }
 
     // A line for each path tells what stands in its way.
@@ -322,7 +322,7 @@ impl Performance {
         )?;
         match labels(alloc, policy, documents) {
             Ok(labels) => {
-                let printed = self.print_block_list(alloc, labels.as_slice(), &blocks);
+                let printed = self.print_block_list(alloc, &labels, &blocks);
                 drop(labels);
                 drop(blocks);
                 printed
@@ -339,7 +339,7 @@ impl Performance {
     fn print_block_list(
         &mut self,
         alloc: Global,
-        labels: &[Blob],
+        labels: &Lines,
         blocks: &[Option<Block>],
     ) -> Result<(), NoMemory>
         requires alike { length labels.now ≡ length blocks.now }
@@ -354,7 +354,7 @@ impl Performance {
     {
         for index in 0..blocks.len() {
             let position = index as u32 + 1;
-            self.print_block(alloc, position, labels[index].as_slice(), &blocks[index])?;
+            self.print_block(alloc, position, labels.line(index), &blocks[index])?;
         }
         Ok(())
     }
@@ -376,7 +376,7 @@ impl Performance {
             None => Ok(()),
             Some(block) => {
                 let line = block_line(alloc, position, choices, block)?;
-                self.print_bytes(line)
+                self.print_bytes(line.as_slice())
             }
         }
     }

@@ -80,7 +80,7 @@ impl Performance {
         ensures { OnOk result (self.new ≡ with_line (blind_line number) self.old) }
     {
         let line = blind_line(alloc, number)?;
-        self.print(alloc, line.as_str())
+        self.print(line.as_str())
     }
 
     // The run of a number, which a client sends from a locality, begins with this plan; where no path can be tried it

@@ -134,6 +134,6 @@ impl Performance {
         ensures { OnOk result (self.new ≡ with_line (end_line number end.now) self.old) }
     {
         let line = end_line(alloc, number, end)?;
-        self.print(alloc, line.as_str())
+        self.print(line.as_str())
     }
 }

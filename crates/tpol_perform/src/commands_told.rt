@@ -127,7 +127,7 @@ impl Performance {
             done.reply.as_slice(),
             &done.outcome,
         )?;
-        self.print_bytes(line)
+        self.print_bytes(line.as_slice())
     }
 }
 

@@ -119,7 +119,7 @@ impl Performance {
     {
         let approvals = scenario.approvals.documents();
         let line = opening_line(alloc, event, policy, approvals, opening)?;
-        self.print_bytes(line)?;
+        self.print_bytes(line.as_slice())?;
         if scenario.manner.certifies() {
             self.print_certificate(alloc, event, policy, approvals, opening)
         } else {
@@ -150,7 +150,7 @@ impl Performance {
                 let bytes = certify(alloc, policy, approvals, *path)?;
                 let line = certificate_line(alloc, event, bytes.as_slice());
                 drop(bytes);
-                self.print(alloc, line?.as_str())
+                self.print(line?.as_str())
             }
             Opening::Clash { .. } => Ok(()),
             Opening::ZeroInput { .. } => Ok(()),

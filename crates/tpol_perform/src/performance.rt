@@ -10,8 +10,8 @@ use crate::tickets::Kept;
 use std::alloc::Global;
 use std::marker::Model;
 use tpm_engine::Machine;
-use tpol_base::{Blob, NoMemory, Sequence};
-use tpol_lines::{Lines, presence_line, push_bytes, push_line, reset_line, time_line};
+use tpol_base::{NoMemory, Sequence};
+use tpol_lines::{Lines, presence_line, reset_line, time_line};
 use tpol_name::Setup;
 use tpol_runs::Runs;
 
@@ -59,17 +59,17 @@ impl Performance {
     }
 
     /// Prints one more line, whose line end is added here. It fails only where memory ran out.
-    pub fn print(&mut self, alloc: Global, line: &str) -> Result<(), NoMemory>
+    pub fn print(&mut self, line: &str) -> Result<(), NoMemory>
         ensures { OnOk result (self.new ≡ with_line line.now self.old) }
     {
-        push_line(alloc, &mut self.lines, line)
+        self.lines.push_line(line)
     }
 
     /// Prints one more line of these bytes, whose line end is added here. It fails only where memory ran out.
-    pub fn print_bytes(&mut self, line: Blob) -> Result<(), NoMemory>
-        ensures { OnOk result (self.new ≡ with_line line self.old) }
+    pub fn print_bytes(&mut self, line: &[u8]) -> Result<(), NoMemory>
+        ensures { OnOk result (self.new ≡ with_line line.now self.old) }
     {
-        push_bytes(&mut self.lines, line)
+        self.lines.push_bytes(line)
     }
 
     /// So many milliseconds pass. The call fails only where memory ran out.
@@ -86,7 +86,7 @@ impl Performance {
         self.machine.reserve()?;
         let event = self.machine.advance(ms);
         let line = time_line(alloc, event, ms)?;
-        self.print(alloc, line.as_str())
+        self.print(line.as_str())
     }
 
     /// Physical presence is on or off from now on. The call fails only where memory ran out.
@@ -102,7 +102,7 @@ impl Performance {
         self.machine.reserve()?;
         let event = self.machine.set_presence(on);
         let line = presence_line(alloc, event, on)?;
-        self.print(alloc, line.as_str())
+        self.print(line.as_str())
     }
 
     /// A TPM Reset. The call fails only where memory ran out.
@@ -118,7 +118,7 @@ impl Performance {
         let event = self.machine.reset();
         self.reset_count = counted_on(self.reset_count);
         let line = reset_line(alloc, event)?;
-        self.print(alloc, line.as_str())
+        self.print(line.as_str())
     }
 }
 

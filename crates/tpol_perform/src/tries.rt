@@ -27,7 +27,7 @@ impl Performance {
         ensures setup { OnOk result (self.new.setup ≡ self.old.setup) }
     {
         let line = nobranch_line(alloc, number)?;
-        self.print(alloc, line.as_str())?;
+        self.print(line.as_str())?;
         self.print_tries(alloc, paths, tries)
     }
 
@@ -62,6 +62,6 @@ impl Performance {
             ≡ with_line (tried_line position path.now.steps tried.now) self.old) }
     {
         let line = tried_line(alloc, position, path.steps.as_slice(), tried)?;
-        self.print(alloc, line.as_str())
+        self.print(line.as_str())
     }
 }

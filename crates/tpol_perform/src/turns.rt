@@ -196,7 +196,7 @@ impl Performance {
         ensures { OnOk result (self.new ≡ with_line (over_line run) self.old) }
     {
         let line = over_line(alloc, run)?;
-        self.print(alloc, line.as_str())
+        self.print(line.as_str())
     }
 }
 

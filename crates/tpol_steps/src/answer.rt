@@ -3,7 +3,7 @@ ghost use Rattle.tpol_lines.specs.Lines.{line_of};
 
 use std::alloc::Global;
 use tpol_base::NoMemory;
-use tpol_lines::{Lines, push_line};
+use tpol_lines::Lines;
 
 /// The whole ends of a run: neither the outside nor memory failed.
 #[derive(Clone, Copy)]
@@ -31,7 +31,7 @@ impl Answer {
             ≡ record { lines = line_of line.now ∷ []; verdict = verdict }) }
     {
         let mut lines = Lines::new(alloc);
-        push_line(alloc, &mut lines, line)?;
+        lines.push_line(line)?;
         Ok(Answer { lines, verdict })
     }
 }

@@ -9,7 +9,7 @@ ghost use Rattle.tpol_write.specs.Canonical.{canonical_text};
 
 use std::alloc::Global;
 use tpol_base::NoMemory;
-use tpol_lines::{Lines, push_bytes};
+use tpol_lines::Lines;
 use tpol_steps::{Answer, Halt, Verdict, read_document};
 use tpol_tree::Policy;
 use tpol_write::write_policy_in;
@@ -40,8 +40,7 @@ fn canonical(alloc: Global, room: Vec<u8>, policy: &Policy) -> Result<Answer, No
     ensures { IfOk result (λ answer. answer
         ≡ one_line (canonical_text (erased_policy policy.now)) Verdict.Done) }
 {
-    let mut lines = Lines::new(alloc);
-    push_bytes(&mut lines, write_policy_in(room, alloc, policy)?)?;
+    let lines = Lines::of_line(alloc, write_policy_in(room, alloc, policy)?)?;
     let verdict = Verdict::Done;
     Ok(Answer { lines, verdict })
 }

@@ -19,7 +19,7 @@ use std::alloc::Global;
 use tpol_base::{NoMemory, Shelf, Text};
 use tpol_cert::{CertFault, check};
 use tpol_digest::{digest_of, path_at};
-use tpol_lines::{Lines, certified_line, push_line};
+use tpol_lines::{Lines, certified_line};
 use tpol_prepare::opening_of;
 use tpol_scene::Scene;
 use tpol_steps::{
@@ -177,9 +177,9 @@ fn accept(
     let line = certified_line(alloc, position, path.steps.as_slice());
     drop(path);
     let mut lines = Lines::new(alloc);
-    push_line(alloc, &mut lines, line?.as_str())?;
+    lines.push_line(line?.as_str())?;
     let digest = digest_line(alloc, &digest_of(closed))?;
-    push_line(alloc, &mut lines, digest.as_str())?;
+    lines.push_line(digest.as_str())?;
     let verdict = Verdict::Done;
     Ok(Answer { lines, verdict })
 }

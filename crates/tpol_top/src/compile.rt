@@ -14,7 +14,7 @@ use std::alloc::Global;
 use tpol_base::{NoMemory, Shelf, Text};
 use tpol_digest::digest_of;
 use tpol_json::Place;
-use tpol_lines::{Lines, push_line};
+use tpol_lines::Lines;
 use tpol_name::Sight;
 use tpol_prepare::sight_of_scene;
 use tpol_steps::{Answer, Halt, Verdict, digest_line, fill_document, note_line, read_document};
@@ -88,7 +88,7 @@ fn compiled(alloc: Global, notes: &[Place], closed: &Closed) -> Result<Answer, N
     let mut lines = Lines::new(alloc);
     push_notes(alloc, &mut lines, notes)?;
     let digest = digest_line(alloc, &digest_of(closed))?;
-    push_line(alloc, &mut lines, digest.as_str())?;
+    lines.push_line(digest.as_str())?;
     Ok(Answer {
         lines,
         verdict: Verdict::Done,
@@ -101,7 +101,7 @@ fn push_notes(alloc: Global, lines: &mut Lines, notes: &[Place]) -> Result<(), N
 {
     for place in notes {
         let note = note_line(alloc, place)?;
-        push_line(alloc, lines, note.as_str())?;
+        lines.push_line(note.as_str())?;
     }
     Ok(())
 }

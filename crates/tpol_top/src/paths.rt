@@ -15,7 +15,7 @@ ghost use Rattle.tpol_tree.specs.Erased.{erased_policy};
 use std::alloc::Global;
 use tpol_base::{NoMemory, Shelf, Text};
 use tpol_digest::{count_paths, digest_of};
-use tpol_lines::{Lines, dead_line_at, lint_line, push_line, write_paths};
+use tpol_lines::{Lines, dead_line_at, lint_line, write_paths};
 use tpol_lint::{Dead, lint};
 use tpol_prepare::opening_of;
 use tpol_scene::Scene;
@@ -128,7 +128,7 @@ fn path_answer(alloc: Global, closed: &Closed, approvals: &Approvals) -> Result<
 {
     let mut lines = write_paths(alloc, closed, approvals)?;
     let digest = digest_line(alloc, &digest_of(closed))?;
-    push_line(alloc, &mut lines, digest.as_str())?;
+    lines.push_line(digest.as_str())?;
     let verdict = Verdict::Done;
     Ok(Answer { lines, verdict })
 }
@@ -145,7 +145,7 @@ fn dead_answer(alloc: Global, closed: &Closed, approvals: &Approvals) -> Result<
     push_dead_lines(alloc, &mut lines, closed, approvals, dead.as_slice())?;
     let all = count_paths(closed, approvals);
     let told = lint_line(alloc, dead.len(), all)?;
-    push_line(alloc, &mut lines, told.as_str())?;
+    lines.push_line(told.as_str())?;
     let verdict = Verdict::Done;
     Ok(Answer { lines, verdict })
 }
@@ -184,5 +184,5 @@ fn push_dead_line(
         ≡ lines.old ++ dead_lines (paths_of closed.now approvals.now) (dead.now ∷ [])) }
 {
     let line = dead_line_at(alloc, closed, approvals, dead)?;
-    push_line(alloc, lines, line.as_str())
+    lines.push_line(line.as_str())
 }

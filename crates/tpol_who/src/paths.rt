@@ -14,9 +14,9 @@ ghost use Rattle.tpol_who.specs.Lines.{block_for, path_told, paths_told};
 
 use crate::lines::path_told;
 use std::alloc::Global;
-use tpol_base::{Blob, NoMemory};
+use tpol_base::NoMemory;
 use tpol_choose::{Block, blocks};
-use tpol_lines::{Lines, labels, push_bytes};
+use tpol_lines::{Lines, labels};
 use tpol_name::Sight;
 use tpol_perform::NewRun;
 use tpol_steps::CompiledDocument;
@@ -52,7 +52,7 @@ pub fn push_paths(
     )?;
     match labels(alloc, policy, documents) {
         Ok(labels) => {
-            let pushed = push_list(alloc, labels.as_slice(), &blocks, lines);
+            let pushed = push_list(alloc, &labels, &blocks, lines);
             drop(labels);
             drop(blocks);
             pushed
@@ -68,7 +68,7 @@ pub fn push_paths(
 #[tactic(auto, using(crate::proofs::PathLines::paths_over))]
 fn push_list(
     alloc: Global,
-    labels: &[Blob],
+    labels: &Lines,
     blocks: &[Option<Block>],
     lines: &mut Lines,
 ) -> Result<(), NoMemory>
@@ -81,13 +81,7 @@ fn push_list(
 {
     for index in 0..blocks.len() {
         let position = index as u32 + 1;
-        push_path(
-            alloc,
-            position,
-            labels[index].as_slice(),
-            &blocks[index],
-            lines,
-        )?;
+        push_path(alloc, position, labels.line(index), &blocks[index], lines)?;
     }
     Ok(())
 }
@@ -104,5 +98,5 @@ fn push_path(
         → OnOk result (lines.new ≡ lines.old ++ line_of (path_told position steps block.now) ∷ []) }
 {
     let line = path_told(alloc, position, choices, block)?;
-    push_bytes(lines, line)
+    lines.push_bytes(line.as_slice())
 }

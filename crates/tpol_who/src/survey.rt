@@ -13,7 +13,7 @@ use crate::lines::begin_line;
 use crate::paths::push_paths;
 use std::alloc::Global;
 use tpol_base::{ExactClone, NoMemory};
-use tpol_lines::{Lines, push_line};
+use tpol_lines::Lines;
 use tpol_name::{Setup, Sight};
 use tpol_perform::{NewRun, Performance};
 use tpol_prepare::{Scenario, StagedScene};
@@ -202,7 +202,7 @@ impl Survey {
         ensures stays { OnOk result (self.new.performance ≡ self.old.performance) }
     {
         let line = begin_line(alloc, run, policy)?;
-        push_line(alloc, &mut self.lines, line.as_str())?;
+        self.lines.push_line(line.as_str())?;
         let sight = self.performance.machine.sight(alloc)?;
         let told = self.tell_paths(alloc, scenario, policy, &sight, run);
         drop(sight);

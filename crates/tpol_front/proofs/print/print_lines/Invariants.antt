@@ -4,8 +4,8 @@ use Rattle.tpol_steps.specs.Answer.{text_of}
 use Rattle.tpol_front.proofs.print.print_lines.Given as goal
 
 -- the lines so far are written
-abbrev pub invariant-loop-line : goal.invariant-loop-line
-invariant-loop-line g l = record {
-  written : Grows (g.K.Sink.contents l.initial.out) (g.K.Sink.contents l.out) (text_of (take l.line-index l.lines));
+abbrev pub invariant-loop-index : goal.invariant-loop-index
+invariant-loop-index g l = record {
+  written : Grows (g.K.Sink.contents l.initial.out) (g.K.Sink.contents l.out) (text_of (take l.index l.lines));
   faults : g.K.Sink.faults l.out ≡ g.K.Sink.faults l.initial.out;
 }

@@ -1,11 +1,10 @@
-use Rattle.std.proofs.Common.{get_or, refl, sym, ap, ◌∙◌}
+use Rattle.std.proofs.Common.{refl, ◌∙◌}
 use Rattle.tpol_who.proofs.PathLines.{path_step}
 use Rattle.tpol_who.proofs.paths.push_list.Goals as goal
 
 pub loop-index-preserved : goal.loop-index-preserved
 loop-index-preserved c =
     let index = c.loop-index.index in
-    let read = c.as_slice.ensures ∙ c.index-labels-index.is ∙ ap (λ x. get_or c.args.labels.now index x) (sym c.as_slice.ensures) in
     λ sight run paths e f.
-    path_step sight run paths c.args.blocks.now c.args.labels.now index c.loop-index.lines c.push_path.new.lines c.as_slice.result.now _ _ e f c.loop-index-test.true c.in_ok-push_path.ensures read refl
+    path_step sight run paths c.args.blocks.now c.args.labels.now index c.loop-index.lines c.push_path.new.lines c.line.result.now _ _ e f c.loop-index-test.true c.in_ok-push_path.ensures c.line.ensures refl
     ∙ c.loop-index.invariant sight run paths e f

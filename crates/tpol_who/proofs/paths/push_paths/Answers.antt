@@ -16,7 +16,7 @@ blocks-requires-clause-few c =
 pub push_list-pushed-requires-clause-alike : goal.push_list-pushed-requires-clause-alike
 push_list-pushed-requires-clause-alike c =
     let paths = paths_of c.filled.result.now.closed c.documents-documents.result.now in
-    let count = ap length (c.as_slice.ensures ∙ c.in-Ok.ensures) ∙ length-map paths (λ path. label path.steps) in
+    let count = ap length (c.in-Ok.ensures) ∙ length-map paths (λ path. label path.steps) in
     let same = ap length (c.deref.ensures.value ∙ c.in_ok-blocks.ensures) ∙ length-map paths (block_for c.args.sight.now c.args.run.now) in
     count ∙ sym same
 
@@ -35,4 +35,4 @@ returns-in-Ok c =
     let same = ap (λ (document : FilledDocument). paths_of document.closed c.documents-documents.result.now) c.filled.ensures ∙ listed in
     let blocks = ap (map (block_for c.args.sight.now c.args.run.now)) same in
     let labels = ap (map (λ path. label path.steps)) same in
-    c.push_list-pushed.ensures c.args.sight.now c.args.run.now (paths_of c.args.document.now.closed approvals) (c.deref.ensures.value ∙ c.in_ok-blocks.ensures ∙ blocks) (c.as_slice.ensures ∙ c.in-Ok.ensures ∙ labels)
+    c.push_list-pushed.ensures c.args.sight.now c.args.run.now (paths_of c.args.document.now.closed approvals) (c.deref.ensures.value ∙ c.in_ok-blocks.ensures ∙ blocks) (c.in-Ok.ensures ∙ labels)

@@ -17,7 +17,7 @@ pub print_block_list-printed-requires-clause-alike : goal.print_block_list-print
 print_block_list-printed-requires-clause-alike c =
     let paths = paths_of c.filled.result.now.closed c.documents-documents.result.now in
     let run = c.args.run.now in
-    let count = ap length (c.as_slice.ensures ∙ c.in-Ok.ensures) ∙ length-map paths (λ path. label path.steps) in
+    let count = ap length (c.in-Ok.ensures) ∙ length-map paths (λ path. label path.steps) in
     let same = ap length (c.deref.ensures.value ∙ c.in_ok-blocks.ensures) ∙ length-map paths (λ path. first_block path c.args.sight.now run.grants run.goal run.locality) in
     count ∙ sym same
 
@@ -38,4 +38,4 @@ returns-in-Ok-clause-told c =
     let same = ap (λ (document : FilledDocument). paths_of document.closed c.documents-documents.result.now) c.filled.ensures ∙ listed in
     let blocks = ap (map (λ path. first_block path c.args.sight.now run.grants run.goal run.locality)) same in
     let labels = ap (map (λ path. label path.steps)) same in
-    c.print_block_list-printed.ensures.told c.args.sight.now run (paths_of c.args.document.now.closed approvals) (c.deref.ensures.value ∙ c.in_ok-blocks.ensures ∙ blocks) (c.as_slice.ensures ∙ c.in-Ok.ensures ∙ labels)
+    c.print_block_list-printed.ensures.told c.args.sight.now run (paths_of c.args.document.now.closed approvals) (c.deref.ensures.value ∙ c.in_ok-blocks.ensures ∙ blocks) (c.in-Ok.ensures ∙ labels)
