@@ -6,7 +6,6 @@ pub mod Laws
 pub mod Limits
 pub mod Memos
 pub mod Paths
-pub mod Pieces
 pub mod Positions
 pub mod Sound
 pub mod Update

@@ -5,7 +5,7 @@ ghost use Rattle.tpol_digest.specs.Update.{update_of_assertion};
 ghost use Rattle.tpol_hash.specs.Messages.{Holds};
 
 use crate::command_code::code_of_assertion;
-use crate::pieces::{comparison_of, policy_ref_of, rest_of};
+use crate::pieces::{comparison_of, policy_ref_of, put_rest};
 use crate::update::{digest_of_two, hash_again, start};
 use tpol_base::Digest32;
 use tpol_hash::Hasher;
@@ -20,7 +20,7 @@ pub fn extend(old: Digest32, assertion: &Assertion) -> Digest32
 {
     let mut hasher = start(&old, code_of_assertion(assertion));
     put_comparison(&mut hasher, assertion);
-    rest_of(assertion).put(&mut hasher);
+    put_rest(&mut hasher, assertion);
     hash_again(hasher.done(), policy_ref_of(assertion))
 }
 

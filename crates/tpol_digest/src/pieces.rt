@@ -1,123 +1,111 @@
-// What an assertion hashes, once for the digest after it and for the strings: the code, what is compared, the
-// rest and the policyRef. Nothing here takes memory.
+// What an assertion hashes behind its command's code: what is compared, the rest and the policyRef. The rest
+// comes as part of a message, for the digest, and as bytes, for the strings.
 
 ghost use Rattle.std.specs.Prelude.{◌≡◌, ◌++◌, List, ℕ, IfOk};
 ghost use Rattle.std.specs.Option.{option_copied, option_map};
-ghost use Rattle.tpol_digest.specs.Pieces.{piece_bytes, rest_bytes};
 ghost use Rattle.tpol_digest.specs.Update.{update_of_assertion};
 ghost use Rattle.tpol_hash.specs.Messages.{Holds};
 
 use crate::update::comparison_end;
 use std::alloc::Global;
-use tpol_base::{Blob, Digest32, NameBytes, NoMemory, pcr};
+use tpol_base::{Blob, NoMemory, pcr};
 use tpol_hash::Hasher;
 use tpol_tree::Assertion;
 
-// Bytes that stand together in what is hashed.
-#[derive(Drop)]
-pub enum Piece {
-    Nothing,
-    Byte([u8; 1]),
-    Number([u8; 4]),
-    Selection([u8; 10]),
-    Digest(Digest32),
-    Name(NameBytes),
-}
-
-impl Piece {
-    fn as_slice(&self) -> &[u8]
-        ensures { result.now ≡ piece_bytes self.now }
-    {
-        match self {
-            Piece::Nothing => &[],
-            Piece::Byte(bytes) => bytes,
-            Piece::Number(bytes) => bytes,
-            Piece::Selection(bytes) => bytes,
-            Piece::Digest(digest) => &digest.bytes,
-            Piece::Name(bytes) => bytes.as_slice(),
-        }
-    }
-}
-
-// The bytes of a first hash behind the code and the digest of a comparison.
-#[derive(Drop)]
-pub struct Rest {
-    first: Piece,
-    second: Piece,
-    third: Piece,
-}
-
-impl Rest {
-    fn of(piece: Piece) -> Rest
-        ensures { rest_bytes result ≡ piece_bytes piece }
-    {
-        Rest {
-            first: Piece::Nothing,
-            second: Piece::Nothing,
-            third: piece,
-        }
-    }
-
-    // Adds the bytes to a message.
-    pub fn put(&self, hasher: &mut Hasher)
-        ensures longer { (m : List ℕ) → Holds hasher.old m
-            → Holds hasher.new (m ++ rest_bytes self.now) }
-    {
-        hasher.put(self.first.as_slice());
-        hasher.put(self.second.as_slice());
-        hasher.put(self.third.as_slice());
-    }
-
-    // The bytes as a string.
-    pub fn to_bytes(&self, alloc: Global) -> Result<Blob, NoMemory>
-        ensures { IfOk result (λ bytes. bytes ≡ rest_bytes self.now) }
-    {
-        let mut bytes = Blob::from_slice(alloc, self.first.as_slice())?;
-        bytes.extend_from_slice(self.second.as_slice())?;
-        bytes.extend_from_slice(self.third.as_slice())?;
-        Ok(bytes)
-    }
-}
-
-// What an assertion hashes behind its command's code and the digest of a comparison.
-pub fn rest_of(assertion: &Assertion) -> Rest
-    ensures { rest_bytes result ≡ (update_of_assertion assertion.now).rest }
+// Adds what an assertion hashes behind its command's code and the digest of a comparison to a message. It takes
+// no memory.
+pub fn put_rest(hasher: &mut Hasher, assertion: &Assertion)
+    ensures longer { (m : List ℕ) → Holds hasher.old m
+        → Holds hasher.new (m ++ (update_of_assertion assertion.now).rest) }
 {
     match assertion {
         Assertion::Pcr {
             mask,
             pcr_digest,
             ..
-        } => Rest {
-            first: Piece::Nothing,
-            second: Piece::Selection(pcr::selection(*mask)),
-            third: Piece::Digest(*pcr_digest),
-        },
+        } => put_both(hasher, &pcr::selection(*mask), &pcr_digest.bytes),
         Assertion::Nv { index: name, .. }
         | Assertion::Secret { entity: name, .. }
-        | Assertion::Signed { key: name, .. } => Rest::of(Piece::Name(name.bytes())),
+        | Assertion::Signed { key: name, .. } => hasher.put_name(name),
         Assertion::CounterTimer { .. }
         | Assertion::AuthValue
         | Assertion::Password
-        | Assertion::PhysicalPresence => Rest::of(Piece::Nothing),
-        Assertion::CommandCode(command) => Rest::of(Piece::Number(command.to_be_bytes())),
-        Assertion::Locality(localities) => Rest::of(Piece::Byte([*localities])),
-        Assertion::CpHash(digest) | Assertion::NameHash(digest) => Rest::of(Piece::Digest(*digest)),
-        Assertion::NvWritten(written) => Rest::of(Piece::Byte([u8::from(*written)])),
+        | Assertion::PhysicalPresence => {}
+        Assertion::CommandCode(command) => hasher.put(&command.to_be_bytes()),
+        Assertion::Locality(localities) => hasher.put(&[*localities]),
+        Assertion::CpHash(digest) | Assertion::NameHash(digest) => hasher.put(&digest.bytes),
+        Assertion::NvWritten(written) => hasher.put(&[u8::from(*written)]),
         Assertion::Duplication {
             object,
             parent,
             include,
-        } => Rest {
-            first: if *include {
-                Piece::Name(object.bytes())
-            } else {
-                Piece::Nothing
-            },
-            second: Piece::Name(parent.bytes()),
-            third: Piece::Byte([u8::from(*include)]),
-        },
+        } => {
+            if *include {
+                hasher.put_name(object);
+            }
+            hasher.put_name(parent);
+            hasher.put(&[u8::from(*include)]);
+        }
     }
+}
+
+// Adds two strings to a message.
+fn put_both(hasher: &mut Hasher, front: &[u8], behind: &[u8])
+    ensures longer { (m : List ℕ) → Holds hasher.old m
+        → Holds hasher.new (m ++ (front.now ++ behind.now)) }
+{
+    hasher.put(front);
+    hasher.put(behind);
+}
+
+// What an assertion hashes behind its command's code and the digest of a comparison, as bytes.
+pub fn rest_of(alloc: Global, assertion: &Assertion) -> Result<Blob, NoMemory>
+    ensures { IfOk result (λ bytes. bytes ≡ (update_of_assertion assertion.now).rest) }
+{
+    match assertion {
+        Assertion::Pcr {
+            mask,
+            pcr_digest,
+            ..
+        } => both(alloc, &pcr::selection(*mask), &pcr_digest.bytes),
+        Assertion::Nv { index: name, .. }
+        | Assertion::Secret { entity: name, .. }
+        | Assertion::Signed { key: name, .. } => name.to_bytes(alloc),
+        Assertion::CounterTimer { .. }
+        | Assertion::AuthValue
+        | Assertion::Password
+        | Assertion::PhysicalPresence => Ok(Blob::new(alloc)),
+        Assertion::CommandCode(command) => Blob::from_slice(alloc, &command.to_be_bytes()),
+        Assertion::Locality(localities) => Blob::from_slice(alloc, &[*localities]),
+        Assertion::CpHash(digest) | Assertion::NameHash(digest) => {
+            Blob::from_slice(alloc, &digest.bytes)
+        }
+        Assertion::NvWritten(written) => Blob::from_slice(alloc, &[u8::from(*written)]),
+        Assertion::Duplication {
+            object,
+            parent,
+            include,
+        } => {
+            let mut bytes = Blob::new(alloc);
+            if *include {
+                bytes.extend_from_slice(object.bytes().as_slice())?;
+            }
+            bytes.extend_from_slice(parent.bytes().as_slice())?;
+            bytes.extend_from_slice(&[u8::from(*include)])?;
+            Ok(bytes)
+        }
+    }
+}
+
+// Two strings joined, in room for both.
+pub fn both(alloc: Global, front: &[u8], behind: &[u8]) -> Result<Blob, NoMemory>
+    ensures { IfOk result (λ bytes. bytes ≡ front.now ++ behind.now) }
+{
+    let room = front.len().saturating_add(behind.len());
+    let mut bytes = Vec::with_capacity(alloc, room)?;
+    bytes.extend_from_slice(front)?;
+    bytes.extend_from_slice(behind)?;
+    Ok(Blob::from_vec(bytes))
 }
 
 // What PolicyNV and PolicyCounterTimer compare with, and the bytes behind it.

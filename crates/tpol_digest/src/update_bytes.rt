@@ -7,7 +7,7 @@ ghost use Rattle.tpol_digest.specs.Update as spec;
 ghost use Rattle.tpol_digest.specs.UpdateBytes.{update_value};
 
 use crate::command_code::code_of_assertion;
-use crate::pieces::{comparison_of, policy_ref_of, rest_of};
+use crate::pieces::{both, comparison_of, policy_ref_of, rest_of};
 use std::alloc::Global;
 use tpol_base::{Blob, CommandCode, Digests, Name, NoMemory};
 use tpol_tree::{Assertion, Move};
@@ -66,7 +66,7 @@ fn two_hashes(
 pub fn update_of_assertion(alloc: Global, assertion: &Assertion) -> Result<UpdateBytes, NoMemory>
     ensures { IfOk result (λ update. update_value update ≡ spec.update_of_assertion assertion.now) }
 {
-    let rest = rest_of(assertion).to_bytes(alloc)?;
+    let rest = rest_of(alloc, assertion)?;
     let inner = comparison(alloc, assertion)?;
     let policy_ref = policy_ref(alloc, assertion)?;
     Ok(UpdateBytes {
@@ -85,8 +85,7 @@ fn comparison(alloc: Global, assertion: &Assertion) -> Result<Option<Blob>, NoMe
     match comparison_of(assertion) {
         None => Ok(None),
         Some(compared) => {
-            let mut inner = Blob::from_slice(alloc, compared.0.as_slice())?;
-            inner.extend_from_slice(&compared.1)?;
+            let inner = both(alloc, compared.0.as_slice(), &compared.1)?;
             Ok(Some(inner))
         }
     }
