@@ -5,13 +5,13 @@ ghost use Rattle.std.specs.Option.{option_map, option_to_list};
 ghost use Rattle.tpol_digest.specs.Digest as digest;
 ghost use Rattle.tpol_digest.specs.Inputs as spec;
 ghost use Rattle.tpol_tree.specs.Facts.{moves_of};
-ghost use Rattle.tpol_digest.specs.Update.{joined, update_of};
+ghost use Rattle.tpol_digest.specs.Update.{update_of};
 ghost use Rattle.tpol_digest.specs.UpdateBytes.{update_value};
 
 use crate::policy::zero_digest;
 use crate::update_bytes::{
-    UpdateBytes, update_of_approve, update_of_approve_nv, update_of_assertion, update_of_move,
-    update_of_or,
+    UpdateBytes, joined_digests, update_of_approve, update_of_approve_nv, update_of_assertion,
+    update_of_move, update_of_or,
 };
 use std::alloc::Global;
 use tpol_base::{Blob, Digest32, Digests, NoMemory};
@@ -129,22 +129,11 @@ fn push_pcr_values(
             pcr_digest: _,
             values,
         } => {
-            let string = joined_digests(alloc, values)?;
+            let string = joined_digests(alloc, values.as_slice())?;
             inputs.push(string)
         }
         _ => Ok(()),
     }
-}
-
-// The bytes of digests, joined.
-fn joined_digests(alloc: Global, digests: &Digests) -> Result<Blob, NoMemory>
-    ensures { IfOk result (λ bytes. bytes ≡ joined digests.now) }
-{
-    let mut bytes = Blob::new(alloc);
-    for digest in digests.as_slice() {
-        bytes.extend_from_slice(&digest.bytes)?;
-    }
-    Ok(bytes)
 }
 
 // Adds the strings of elements at the end, and answers the digest after them.

@@ -9,8 +9,11 @@ ghost use Rattle.tpol_digest.specs.UpdateBytes.{update_value};
 use crate::command_code::code_of_assertion;
 use crate::pieces::{both, comparison_of, policy_ref_of, rest_of};
 use std::alloc::Global;
-use tpol_base::{Blob, CommandCode, Digests, Name, NoMemory};
+use tpol_base::{Blob, CommandCode, Digest32, Digests, Name, NoMemory};
 use tpol_tree::{Assertion, Move};
+
+/// The bytes of a digest.
+const DIGEST_SIZE: usize = 32;
 
 /// What a policy command hashes (TPM 2.0 Part 3, the policy commands). The new digest is
 /// H(H(start || code || H(inner) || rest) || policy_ref), where the parts that are None are left out, and the
@@ -102,14 +105,23 @@ fn policy_ref(alloc: Global, assertion: &Assertion) -> Result<Option<Blob>, NoMe
     }
 }
 
+// The bytes of digests joined, in room for all.
+pub(crate) fn joined_digests(alloc: Global, digests: &[Digest32]) -> Result<Blob, NoMemory>
+    ensures { IfOk result (λ bytes. bytes ≡ spec.joined digests.now) }
+{
+    let room = digests.len().saturating_mul(DIGEST_SIZE);
+    let mut bytes = Vec::with_capacity(alloc, room)?;
+    for digest in digests {
+        bytes.extend_from_slice(&digest.bytes)?;
+    }
+    Ok(Blob::from_vec(bytes))
+}
+
 /// What an OR hashes.
 pub fn update_of_or(alloc: Global, digests: &Digests) -> Result<UpdateBytes, NoMemory>
     ensures { IfOk result (λ update. update_value update ≡ spec.update_of_or digests.now) }
 {
-    let mut rest = Blob::new(alloc);
-    for digest in digests.as_slice() {
-        rest.extend_from_slice(&digest.bytes)?;
-    }
+    let rest = joined_digests(alloc, digests.as_slice())?;
     let mut update = one_hash(CommandCode::PolicyOr, rest);
     update.fresh = true;
     Ok(update)
