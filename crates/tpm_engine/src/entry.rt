@@ -10,8 +10,8 @@ pub enum Entry {
         client: u32,
         outcome: Outcome,
         start: usize,
-        buffer: u32,
-        reply: u32,
+        buffer: usize,
+        reply: usize,
     },
     /// A change of the surroundings.
     Change(Change),

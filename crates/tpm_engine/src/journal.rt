@@ -1,6 +1,6 @@
 //! The events of a machine.
 
-ghost use Rattle.std.specs.Prelude.{◌≡◌, [], ◌∷◌, ◌<◌, ◌≤◌, ◌+◌, ◌-◌, ◌^◌, length, reverse, slice_get, option_map, IfOk, OnErr, OnOk, min};
+ghost use Rattle.std.specs.Prelude.{◌≡◌, [], ◌∷◌, ◌<◌, ◌≤◌, ◌+◌, ◌-◌, ◌^◌, length, reverse, slice_get, option_map, OnErr, OnOk, min};
 ghost use Rattle.tpm_engine.specs.declared.event.Event.TheVariants as events;
 ghost use Rattle.tpm_engine.specs.Journals.{LiesWithin, event_kept, event_of_change, event_seen};
 
@@ -103,8 +103,8 @@ impl Journal {
             client,
             outcome,
             start: self.bytes.len(),
-            buffer: length_of(buffer)?,
-            reply: length_of(reply)?,
+            buffer: buffer.len(),
+            reply: reply.len(),
         };
         self.entries.reserve(1)?;
         self.bytes.reserve(buffer.len() + reply.len())?;
@@ -138,8 +138,8 @@ fn view_of(bytes: &[u8], entry: Entry) -> EventView<'_>
             buffer,
             reply,
         } => {
-            let middle = start + buffer as usize;
-            let end = middle + reply as usize;
+            let middle = start + buffer;
+            let end = middle + reply;
             EventView::Command {
                 client,
                 locality,
@@ -151,15 +151,5 @@ fn view_of(bytes: &[u8], entry: Entry) -> EventView<'_>
         Entry::Change(Change::Time(ms)) => EventView::Time(ms),
         Entry::Change(Change::Presence(on)) => EventView::Presence(on),
         Entry::Change(Change::Reset) => EventView::Reset,
-    }
-}
-
-// The length of a command or of a reply; those of 4 GiB and more find no room.
-fn length_of(bytes: &[u8]) -> Result<u32, NoMemory>
-    ensures length { IfOk result (λ count. count ≡ length bytes.now) }
-{
-    match u32::try_from(bytes.len()) {
-        Ok(count) => Ok(count),
-        Err(_) => Err(NoMemory),
     }
 }
