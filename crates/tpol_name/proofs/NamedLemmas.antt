@@ -23,3 +23,12 @@ image_not_found p f xs images same h =
     let place : position_or_len p images ≡ position_or_len (λ x. p (f x)) xs = ap (position_or_len p) same ∙ place_of_image p f xs in
     let long : length images ≡ length xs = ap length same ∙ length-map xs f in
     sym (find_at (λ x. p (f x)) xs ∙ slice_get_past xs (position_or_len (λ x. p (f x)) xs) (omega arith))
+
+-- The first that passes stands where the first place is.
+pub first_found : {A : Type 0} (p : A → Bool) (xs : List A) (place : ℕ) → position p xs ≡ Some place → slice_get xs place ≡ find p xs
+first_found p xs place h = sym (find_at p xs ∙ ap (slice_get xs) (same_place _ _ place h))
+
+pub none_found : {A : Type 0} (p : A → Bool) (xs : List A) → position p xs ≡ None → None ≡ find p xs
+none_found p xs h =
+    let past : length xs ≤ position_or_len p xs = ltb-false _ _ (no_place _ _ h) in
+    sym (find_at p xs ∙ slice_get_past xs (position_or_len p xs) past)

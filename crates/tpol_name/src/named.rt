@@ -1,20 +1,28 @@
 //! Entities that are kept beside their Names.
 
-ghost use Rattle.std.specs.Prelude.{◌≡◌, IfOk, find, length, map, position};
-ghost use Rattle.std.specs.Option.{option_copied};
+ghost use Rattle.std.specs.Prelude.{◌≡◌, ℕ, List, IfOk, IfSome, find, length, map, position, slice_get};
+ghost use Rattle.std.specs.Option.{option_copied, option_map};
 ghost use Rattle.tpol_base.specs.Name.{is_same_name};
 ghost use Rattle.tpol_base.specs.declared.name.Name.{Name as EntityName};
 ghost use Rattle.tpol_name.specs.Areas.{index_name, object_name, with_written};
+ghost use Rattle.tpol_name.specs.Paths.{is_same_path};
 
-use crate::{IndexEntry, ObjectEntry, nv_name_once_written, object_name};
+use crate::{IndexEntry, ObjectEntry, nv_name_once_written, object_name, same_path};
 use std::alloc::Global;
 use std::marker::Model;
 use tpol_base::{Name, NoMemory, Sequence};
 
-/// An entity with the Name by which a directory lists it.
+/// An entity with its path and the Name by which a directory lists it.
 pub trait HasName: Drop {
+    /// The path in the key store.
+    ghost path_of: { Self → List ℕ };
+
     /// The Name.
     ghost name_of: { Self → EntityName };
+
+    /// The path in the key store.
+    fn path(&self) -> &str
+        ensures path { result.now ≡ path_of self.now };
 
     /// The Name; it is hashed anew at each call.
     fn name(&self) -> Name
@@ -23,7 +31,13 @@ pub trait HasName: Drop {
 
 /// An object has the Name of its public area.
 impl HasName for ObjectEntry {
+    ghost path_of = { λ object. object.path };
+
     ghost name_of = { λ object. object_name object.public };
+
+    fn path(&self) -> &str {
+        self.path.as_str()
+    }
 
     fn name(&self) -> Name {
         object_name(&self.public)
@@ -32,7 +46,13 @@ impl HasName for ObjectEntry {
 
 /// An index has the Name that it has once it is written.
 impl HasName for IndexEntry {
+    ghost path_of = { λ index. index.path };
+
     ghost name_of = { λ index. index_name (with_written index.public) };
+
+    fn path(&self) -> &str {
+        self.path.as_str()
+    }
 
     fn name(&self) -> Name {
         nv_name_once_written(&self.public)
@@ -118,6 +138,38 @@ impl<T: HasName> Named<T> {
             None => None,
         }
     }
+
+    /// The first entity that has this path, and its Name, which is not hashed anew.
+    pub fn at(&self, path: &str) -> Option<(&T, Name)>
+        ensures entry { option_map (λ found. found.0.now) result
+            ≡ find (λ entry. is_same_path (T.path_of entry) path.now) self.now }
+        ensures name { IfSome result (λ found. found.1 ≡ T.name_of found.0.now) }
+    {
+        match place_at(self.entries.as_slice(), path) {
+            Some(place) => self.entry(place),
+            None => None,
+        }
+    }
+
+    // The entity at this place, and its Name.
+    fn entry(&self, place: usize) -> Option<(&T, Name)>
+        ensures entry { option_map (λ found. found.0.now) result ≡ slice_get self.now place }
+        ensures name { IfSome result (λ found. found.1 ≡ T.name_of found.0.now) }
+    {
+        match (self.entries.get(place), self.names.get(place)) {
+            (Some(entry), Some(name)) => Some((entry, *name)),
+            _ => None,
+        }
+    }
+}
+
+// Where the first of these entities stands that has this path.
+fn place_at<T: HasName>(entries: &[T], path: &str) -> Option<usize>
+    ensures { result ≡ position (λ entry. is_same_path (T.path_of entry) path.now) entries.now }
+{
+    entries
+        .iter()
+        .position(|entry| same_path(entry.path(), path))
 }
 
 // Where the first of these Names stands that is this one.

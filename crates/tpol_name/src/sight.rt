@@ -3,6 +3,7 @@
 ghost use Rattle.std.specs.Prelude.{◌≡◌, IfOk};
 ghost use Rattle.tpol_name.specs.Setups.{IsSetup, IsSight, first_sight};
 
+use crate::setup::{Entities, Values};
 use crate::{NamedIndices, NamedObjects, Setup};
 use std::alloc::Global;
 use tpol_base::{Blob, Digests, NoMemory};
@@ -34,19 +35,48 @@ pub fn opening_sight(alloc: Global, setup: &Setup) -> Result<Sight, NoMemory>
     ensures sight { IfOk result (λ sight. sight ≡ first_sight setup.now) }
     ensures condition { IsSetup setup.now → IfOk result IsSight }
 {
-    Ok(Sight {
-        objects: NamedObjects::new(alloc, setup.objects.clone()?)?,
-        indices: NamedIndices::new(alloc, setup.indices.clone()?)?,
-        owner: setup.owner.clone()?,
-        endorsement: setup.endorsement.clone()?,
-        lockout: setup.lockout.clone()?,
-        pcrs: setup.pcrs.clone()?,
-        pcr_counter: setup.pcr_counter,
-        time: setup.time,
-        reset_count: setup.reset_count,
-        restart_count: setup.restart_count,
-        safe: setup.safe,
-        presence: setup.presence,
-        free_sessions: SESSIONS,
-    })
+    let Values {
+        owner,
+        endorsement,
+        lockout,
+        pcrs,
+    } = Values::of(setup)?;
+    match NamedEntities::of(alloc, setup) {
+        Ok(NamedEntities { objects, indices }) => Ok(Sight {
+            objects,
+            indices,
+            owner,
+            endorsement,
+            lockout,
+            pcrs,
+            pcr_counter: setup.pcr_counter,
+            time: setup.time,
+            reset_count: setup.reset_count,
+            restart_count: setup.restart_count,
+            safe: setup.safe,
+            presence: setup.presence,
+            free_sessions: SESSIONS,
+        }),
+        Err(NoMemory) => Err(NoMemory),
+    }
+}
+
+// The objects and the indices of a setup, with their Names.
+#[derive(Drop)]
+struct NamedEntities {
+    objects: NamedObjects,
+    indices: NamedIndices,
+}
+
+impl NamedEntities {
+    fn of(alloc: Global, setup: &Setup) -> Result<NamedEntities, NoMemory>
+        ensures objects { IfOk result (λ named. named.objects ≡ setup.now.objects) }
+        ensures indices { IfOk result (λ named. named.indices ≡ setup.now.indices) }
+    {
+        let Entities { objects, indices } = Entities::of(setup)?;
+        Ok(NamedEntities {
+            objects: NamedObjects::new(alloc, objects)?,
+            indices: NamedIndices::new(alloc, indices)?,
+        })
+    }
 }
