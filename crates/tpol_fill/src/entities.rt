@@ -1,17 +1,17 @@
 //! The Names of what a policy names by a path or by a public area.
 
-ghost use Rattle.std.specs.Prelude.{◌≡◌};
-ghost use Rattle.std.specs.Option.{option_copied};
+ghost use Rattle.std.specs.Prelude.{◌≡◌, IfSome};
+ghost use Rattle.std.specs.Option.{option_copied, option_map};
 ghost use Rattle.std.specs.Result.{result_ok};
 ghost use Rattle.tpol_fill.specs.Entities.{entity_name, index_area_of, indices_of, key_name, name_of_index_wish, object_area_of, objects_of, parent_name, path_name, scheme_of, signing_key_name};
-ghost use Rattle.tpol_name.specs.Areas.{index_name, object_name};
+ghost use Rattle.tpol_name.specs.Areas.{index_name, object_name, with_written};
 ghost use Rattle.tpol_name.specs.Entities.{index_at, object_at};
 
 use crate::FillKind;
 use tpol_base::Name;
 use tpol_name::{
-    IndexEntry, ObjectEntry, ObjectPublic, Scheme, Sight, hierarchy_at, index_name_of_parts,
-    is_signing_key, may_sign, nv_name_once_written, object_name, object_name_of_parts,
+    IndexEntry, ObjectEntry, Scheme, Sight, hierarchy_at, index_name_of_parts, is_signing_key,
+    may_sign, object_name_of_parts,
 };
 use tpol_tree::{EntityWish, IndexWish, KeyWish, NvPublicText, ObjectPublicText, ParentWish};
 
@@ -38,7 +38,8 @@ pub fn name_of_key_wish(wish: &KeyWish, sight: Option<&Sight>) -> Result<Name, F
 {
     match wish {
         KeyWish::Path(path) => match object_at(sight, path.as_str()) {
-            Some(object) => name_of_signing_key(&object.public),
+            Some((object, name)) if is_signing_key(&object.public) => Ok(name),
+            Some(_) => Err(FillKind::NotKeyedHash),
             None => Err(FillKind::NoSuchPath),
         },
         KeyWish::Public(text) => name_of_key_text(text),
@@ -51,7 +52,7 @@ pub fn name_of_index_wish(wish: &IndexWish, sight: Option<&Sight>) -> Result<Nam
 {
     match wish {
         IndexWish::Path(path) => match index_at(sight, path.as_str()) {
-            Some(index) => Ok(nv_name_once_written(&index.public)),
+            Some((_, name)) => Ok(name),
             None => Err(FillKind::NoSuchPath),
         },
         IndexWish::Public(text) => Ok(name_of_index_text(text)),
@@ -74,7 +75,7 @@ pub fn name_of_parent_wish(wish: &ParentWish, sight: Option<&Sight>) -> Result<N
 {
     match wish {
         ParentWish::Path(path) => match object_at(sight, path.as_str()) {
-            Some(object) => Ok(object_name(&object.public)),
+            Some((_, name)) => Ok(name),
             None => Err(FillKind::NoSuchPath),
         },
         ParentWish::Public(text) => Ok(name_of_object_text(text)),
@@ -89,40 +90,37 @@ pub fn name_at(path: &str, sight: Option<&Sight>) -> Result<Name, FillKind>
     if let Some(handle) = hierarchy_at(path) {
         return Ok(Name::Handle(handle));
     }
-    if let Some(object) = object_at(sight, path) {
-        return Ok(object_name(&object.public));
+    if let Some((_, name)) = object_at(sight, path) {
+        return Ok(name);
     }
     match index_at(sight, path) {
-        Some(index) => Ok(nv_name_once_written(&index.public)),
+        Some((_, name)) => Ok(name),
         None => Err(FillKind::NoSuchPath),
     }
 }
 
-fn object_at<'a>(sight: Option<&'a Sight>, path: &str) -> Option<&'a ObjectEntry>
-    ensures { option_copied result ≡ object_at (objects_of (option_copied sight.entry)) path.now }
+// The object of this path, and its Name, which the sight has.
+fn object_at<'a>(sight: Option<&'a Sight>, path: &str) -> Option<(&'a ObjectEntry, Name)>
+    ensures object { option_map (λ found. found.0.now) result
+        ≡ object_at (objects_of (option_copied sight.entry)) path.now }
+    ensures name { IfSome result (λ found. found.1 ≡ object_name found.0.now.public) }
 {
     match sight {
-        Some(sight) => tpol_name::object_at(sight.objects.as_slice(), path),
+        Some(sight) => sight.objects.at(path),
         None => None,
     }
 }
 
-fn index_at<'a>(sight: Option<&'a Sight>, path: &str) -> Option<&'a IndexEntry>
-    ensures { option_copied result ≡ index_at (indices_of (option_copied sight.entry)) path.now }
+// The index of this path, and its Name once it is written, which the sight has.
+fn index_at<'a>(sight: Option<&'a Sight>, path: &str) -> Option<(&'a IndexEntry, Name)>
+    ensures index { option_map (λ found. found.0.now) result
+        ≡ index_at (indices_of (option_copied sight.entry)) path.now }
+    ensures name { IfSome result (λ found.
+        found.1 ≡ index_name (with_written found.0.now.public)) }
 {
     match sight {
-        Some(sight) => tpol_name::index_at(sight.indices.as_slice(), path),
+        Some(sight) => sight.indices.at(path),
         None => None,
-    }
-}
-
-fn name_of_signing_key(public: &ObjectPublic) -> Result<Name, FillKind>
-    ensures { result ≡ signing_key_name public.now }
-{
-    if is_signing_key(public) {
-        Ok(object_name(public))
-    } else {
-        Err(FillKind::NotKeyedHash)
     }
 }
 

@@ -10,7 +10,7 @@ use crate::documents::fill_references;
 use crate::entities::{CompiledEntity, CompiledSetup, compile_entities};
 use crate::references::{Reference, check_entities, check_references, script_references};
 use std::alloc::Global;
-use tpol_base::{ExactClone, NoMemory, Sequence, Shelf, Text};
+use tpol_base::{NoMemory, Sequence, Shelf, Text};
 use tpol_name::{Setup, Sight, opening_sight};
 use tpol_scene::Scene;
 use tpol_steps::{CompiledDocument, Halt, load_store, scene_of_shelf};
@@ -65,7 +65,7 @@ fn fill_scene(
         → IfOk result (λ prepared. All IsReadyDocument prepared.begun) }
     ensures setup { IsSetup scene.now.setup → IfOk result (λ prepared. IsSetup prepared.setup) }
 {
-    let setup = scene.setup.exact_clone()?;
+    let setup = scene.setup.try_clone()?;
     let compiled = compile_entities(alloc, store, setup, scene.policies.as_slice())?;
     fill_begun(alloc, store, compiled, references)
 }
