@@ -72,6 +72,10 @@ pub record IsSight (sight : Sight) : Type 0 where
   pub time : sight.time ≤ 2 ^ 63
   pub entities : AreEntities sight.objects sight.indices
 
+-- a setup with other entities
+abbrev pub with_entities : Setup → List ObjectEntry → List IndexEntry → Setup
+with_entities setup objects indices = record setup { objects = objects; indices = indices }
+
 -- what a machine shows that just started: 64 sessions are free
 abbrev pub first_sight : Setup → Sight
 first_sight setup = record {

@@ -1,10 +1,10 @@
 //! What a machine shows.
 
 ghost use Rattle.std.specs.Prelude.{◌≡◌, IfOk};
-ghost use Rattle.tpol_name.specs.Setups.{IsSetup, IsSight, first_sight};
+ghost use Rattle.tpol_name.specs.Setups.{IsSetup, IsSight, first_sight, with_entities};
 
-use crate::setup::{Entities, Values};
-use crate::{NamedIndices, NamedObjects, Setup};
+use crate::setup::Values;
+use crate::{Entities, NamedIndices, NamedObjects, Setup};
 use std::alloc::Global;
 use tpol_base::{Blob, Digests, NoMemory};
 
@@ -35,20 +35,23 @@ pub fn opening_sight(alloc: Global, setup: &Setup) -> Result<Sight, NoMemory>
     ensures sight { IfOk result (λ sight. sight ≡ first_sight setup.now) }
     ensures condition { IsSetup setup.now → IfOk result IsSight }
 {
-    let Values {
-        owner,
-        endorsement,
-        lockout,
-        pcrs,
-    } = Values::of(setup)?;
-    match NamedEntities::of(alloc, setup) {
-        Ok(NamedEntities { objects, indices }) => Ok(Sight {
-            objects,
-            indices,
-            owner,
-            endorsement,
-            lockout,
-            pcrs,
+    opening_sight_of(alloc, setup, Entities::of(setup)?)
+}
+
+/// What a machine shows that just started from this setup, with these entities in the place of its own.
+pub fn opening_sight_of(alloc: Global, setup: &Setup, entities: Entities) -> Result<Sight, NoMemory>
+    ensures sight { IfOk result (λ sight. sight
+        ≡ first_sight (with_entities setup.now entities.objects entities.indices)) }
+{
+    let named = NamedEntities::new(alloc, entities)?;
+    match Values::of(setup) {
+        Ok(values) => Ok(Sight {
+            objects: named.objects,
+            indices: named.indices,
+            owner: values.owner,
+            endorsement: values.endorsement,
+            lockout: values.lockout,
+            pcrs: values.pcrs,
             pcr_counter: setup.pcr_counter,
             time: setup.time,
             reset_count: setup.reset_count,
@@ -57,11 +60,14 @@ pub fn opening_sight(alloc: Global, setup: &Setup) -> Result<Sight, NoMemory>
             presence: setup.presence,
             free_sessions: SESSIONS,
         }),
-        Err(NoMemory) => Err(NoMemory),
+        Err(NoMemory) => {
+            drop(named);
+            Err(NoMemory)
+        }
     }
 }
 
-// The objects and the indices of a setup, with their Names.
+// Objects and indices with their Names.
 #[derive(Drop)]
 struct NamedEntities {
     objects: NamedObjects,
@@ -69,11 +75,11 @@ struct NamedEntities {
 }
 
 impl NamedEntities {
-    fn of(alloc: Global, setup: &Setup) -> Result<NamedEntities, NoMemory>
-        ensures objects { IfOk result (λ named. named.objects ≡ setup.now.objects) }
-        ensures indices { IfOk result (λ named. named.indices ≡ setup.now.indices) }
+    fn new(alloc: Global, entities: Entities) -> Result<NamedEntities, NoMemory>
+        ensures objects { IfOk result (λ named. named.objects ≡ entities.objects) }
+        ensures indices { IfOk result (λ named. named.indices ≡ entities.indices) }
     {
-        let Entities { objects, indices } = Entities::of(setup)?;
+        let Entities { objects, indices } = entities;
         Ok(NamedEntities {
             objects: NamedObjects::new(alloc, objects)?,
             indices: NamedIndices::new(alloc, indices)?,

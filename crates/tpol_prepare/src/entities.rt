@@ -12,8 +12,7 @@ use crate::references::policy_at;
 use std::alloc::Global;
 use tpol_base::{Blob, Digest32, NoMemory, Sequence};
 use tpol_name::{
-    IndexEntry, Indices, NamedIndices, NamedObjects, ObjectEntry, Objects, Setup, Sight,
-    opening_sight,
+    Entities, IndexEntry, Indices, ObjectEntry, Objects, Setup, Sight, opening_sight_of,
 };
 use tpol_scene::EntityPolicy;
 use tpol_steps::{CompiledDocument, FilledDocument, Halt, fill_document};
@@ -110,12 +109,25 @@ fn entity_policy(
 fn sight_before(alloc: Global, policy: &EntityPolicy, setup: &Setup) -> Result<Sight, NoMemory>
     ensures { IfOk result (λ sight. sight ≡ sight_before policy.now setup.now) }
 {
-    let objects = first_objects(alloc, setup.objects.as_slice(), policy.objects_before)?;
-    let indices = first_indices(alloc, setup.indices.as_slice(), policy.indices_before)?;
-    let mut sight = opening_sight(alloc, setup)?;
-    sight.objects = NamedObjects::new(alloc, objects)?;
-    sight.indices = NamedIndices::new(alloc, indices)?;
-    Ok(sight)
+    let entities = entities_before(alloc, policy, setup)?;
+    opening_sight_of(alloc, setup, entities)
+}
+
+// The entities before this one.
+fn entities_before(
+    alloc: Global,
+    policy: &EntityPolicy,
+    setup: &Setup,
+) -> Result<Entities, NoMemory>
+    ensures objects { IfOk result (λ entities.
+        entities.objects ≡ take policy.now.objects_before setup.now.objects) }
+    ensures indices { IfOk result (λ entities.
+        entities.indices ≡ take policy.now.indices_before setup.now.indices) }
+{
+    Ok(Entities {
+        objects: first_objects(alloc, setup.objects.as_slice(), policy.objects_before)?,
+        indices: first_indices(alloc, setup.indices.as_slice(), policy.indices_before)?,
+    })
 }
 
 fn first_objects(alloc: Global, objects: &[ObjectEntry], count: usize) -> Result<Objects, NoMemory>
