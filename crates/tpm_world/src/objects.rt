@@ -39,7 +39,7 @@ impl ObjectTable {
     {
         let mut table = IndexMap::with_capacity(alloc, objects.len())?;
         for object in objects.into_vec() {
-            table.insert(object.handle, object)?;
+            drop(table.insert(object.handle, object)?);
         }
         Ok(ObjectTable { objects: table })
     }

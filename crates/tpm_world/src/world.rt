@@ -68,26 +68,29 @@ impl World {
         requires setup { IsSetup setup.now }
         ensures world { IfOk result (λ world. world ≡ world_of setup.now) }
     {
-        let object_names = names_of(alloc, setup.objects.as_slice())?;
-        let index_names = names_of(alloc, setup.indices.as_slice())?;
-        let objects = ObjectTable::new(alloc, setup.objects.clone()?)?;
-        let indices = NvTable::new(alloc, setup.indices.clone()?)?;
-        Ok(World {
-            seed: setup.seed,
-            owner: setup.owner.clone()?,
-            endorsement: setup.endorsement.clone()?,
-            lockout: setup.lockout.clone()?,
-            objects,
-            object_names,
-            indices,
-            index_names,
-            pcrs: Pcrs::new(setup.pcrs.clone()?, setup.pcr_counter),
-            time: setup.time,
-            reset_count: setup.reset_count,
-            restart_count: setup.restart_count,
-            safe: setup.safe,
-            presence: setup.presence,
-        })
+        let values = Values::of_setup(setup)?;
+        match Entities::of(alloc, setup) {
+            Ok(entities) => Ok(World {
+                seed: setup.seed,
+                owner: values.owner,
+                endorsement: values.endorsement,
+                lockout: values.lockout,
+                objects: entities.objects,
+                object_names: entities.object_names,
+                indices: entities.indices,
+                index_names: entities.index_names,
+                pcrs: Pcrs::new(values.pcrs, setup.pcr_counter),
+                time: setup.time,
+                reset_count: setup.reset_count,
+                restart_count: setup.restart_count,
+                safe: setup.safe,
+                presence: setup.presence,
+            }),
+            Err(NoMemory) => {
+                drop(values);
+                Err(NoMemory)
+            }
+        }
     }
 
     /// What the machine shows at this moment, where it can still start so many sessions.
@@ -95,21 +98,28 @@ impl World {
         ensures sight { IfOk result (λ sight. sight ≡ sight_of self.now free_sessions) }
         ensures condition { IfOk result IsSight }
     {
-        Ok(Sight {
-            objects: named_objects(alloc, &self.objects, &self.object_names)?,
-            indices: named_indices(alloc, &self.indices, &self.index_names)?,
-            owner: self.owner.clone()?,
-            endorsement: self.endorsement.clone()?,
-            lockout: self.lockout.clone()?,
-            pcrs: Digests::from_slice(alloc, self.pcrs.values())?,
-            pcr_counter: self.pcrs.counter(),
-            time: self.time,
-            reset_count: self.reset_count,
-            restart_count: self.restart_count,
-            safe: self.safe,
-            presence: self.presence,
-            free_sessions,
-        })
+        let values = Values::of_world(alloc, self)?;
+        match NamedEntities::of(alloc, self) {
+            Ok(entities) => Ok(Sight {
+                objects: entities.objects,
+                indices: entities.indices,
+                owner: values.owner,
+                endorsement: values.endorsement,
+                lockout: values.lockout,
+                pcrs: values.pcrs,
+                pcr_counter: self.pcrs.counter(),
+                time: self.time,
+                reset_count: self.reset_count,
+                restart_count: self.restart_count,
+                safe: self.safe,
+                presence: self.presence,
+                free_sessions,
+            }),
+            Err(NoMemory) => {
+                drop(values);
+                Err(NoMemory)
+            }
+        }
     }
 
     // ---- what it has
@@ -278,6 +288,114 @@ impl World {
         ensures err { OnErr result (self.new ≡ self.old) }
     {
         self.indices.increment(index)
+    }
+}
+
+// The authorization values of the hierarchies and the values of the PCRs, copied.
+#[derive(Drop)]
+struct Values {
+    owner: Blob,
+    endorsement: Blob,
+    lockout: Blob,
+    pcrs: Digests,
+}
+
+impl Values {
+    // Those of this setup.
+    fn of_setup(setup: &Setup) -> Result<Values, NoMemory>
+        ensures owner { IfOk result (λ values. values.owner ≡ setup.now.owner) }
+        ensures endorsement { IfOk result (λ values. values.endorsement ≡ setup.now.endorsement) }
+        ensures lockout { IfOk result (λ values. values.lockout ≡ setup.now.lockout) }
+        ensures pcrs { IfOk result (λ values. values.pcrs ≡ setup.now.pcrs) }
+    {
+        Ok(Values {
+            owner: setup.owner.clone()?,
+            endorsement: setup.endorsement.clone()?,
+            lockout: setup.lockout.clone()?,
+            pcrs: setup.pcrs.clone()?,
+        })
+    }
+
+    // Those of this world, as they are now.
+    fn of_world(alloc: Global, world: &World) -> Result<Values, NoMemory>
+        ensures owner { IfOk result (λ values. values.owner ≡ world.now.owner) }
+        ensures endorsement { IfOk result (λ values. values.endorsement ≡ world.now.endorsement) }
+        ensures lockout { IfOk result (λ values. values.lockout ≡ world.now.lockout) }
+        ensures pcrs { IfOk result (λ values. values.pcrs ≡ world.now.pcrs.values) }
+    {
+        Ok(Values {
+            owner: world.owner.clone()?,
+            endorsement: world.endorsement.clone()?,
+            lockout: world.lockout.clone()?,
+            pcrs: Digests::from_slice(alloc, world.pcrs.values())?,
+        })
+    }
+}
+
+// The objects and the indices of a setup by handle, and their Names.
+#[derive(Drop)]
+struct Entities {
+    objects: ObjectTable,
+    object_names: Names,
+    indices: NvTable,
+    index_names: Names,
+}
+
+impl Entities {
+    fn of(alloc: Global, setup: &Setup) -> Result<Entities, NoMemory>
+        requires setup { IsSetup setup.now }
+        ensures objects { IfOk result (λ entities. entities.objects ≡ setup.now.objects) }
+        ensures object_names { IfOk result (λ entities. entities.object_names
+            ≡ map (λ object. object_name object.public) setup.now.objects) }
+        ensures indices { IfOk result (λ entities. entities.indices ≡ setup.now.indices) }
+        ensures index_names { IfOk result (λ entities. entities.index_names
+            ≡ map (λ index. index_name (with_written index.public)) setup.now.indices) }
+    {
+        let object_names = names_of(alloc, setup.objects.as_slice())?;
+        let index_names = names_of(alloc, setup.indices.as_slice())?;
+        let objects = object_table(alloc, setup)?;
+        let indices = nv_table(alloc, setup)?;
+        Ok(Entities {
+            objects,
+            object_names,
+            indices,
+            index_names,
+        })
+    }
+}
+
+// The objects of a setup by handle.
+fn object_table(alloc: Global, setup: &Setup) -> Result<ObjectTable, NoMemory>
+    requires { IsSetup setup.now }
+    ensures { IfOk result (λ objects. objects ≡ setup.now.objects) }
+{
+    ObjectTable::new(alloc, setup.objects.clone()?)
+}
+
+// Its indices by handle.
+fn nv_table(alloc: Global, setup: &Setup) -> Result<NvTable, NoMemory>
+    requires { IsSetup setup.now }
+    ensures { IfOk result (λ indices. indices ≡ setup.now.indices) }
+{
+    NvTable::new(alloc, setup.indices.clone()?)
+}
+
+// The objects and the indices of a world, copied, with their Names.
+#[derive(Drop)]
+struct NamedEntities {
+    objects: NamedObjects,
+    indices: NamedIndices,
+}
+
+impl NamedEntities {
+    fn of(alloc: Global, world: &World) -> Result<NamedEntities, NoMemory>
+        ensures objects { IfOk result (λ named. named.objects ≡ world.now.objects) }
+        ensures indices { IfOk result (λ named. named.indices ≡ world.now.indices) }
+    {
+        Ok(NamedEntities {
+            objects: named_objects(alloc, &world.objects, &world.object_names)?,
+            indices: named_indices(alloc, &world.indices, &world.index_names)?,
+        })
     }
 }
 

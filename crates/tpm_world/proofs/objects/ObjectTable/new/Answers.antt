@@ -8,11 +8,6 @@ use Rattle.tpm_world.specs.Objects.{IsByHandle}
 use Rattle.tpm_world.proofs.ObjectLemmas.{filled_by_handle, one_placed, under_handle, values_of-filled}
 use Rattle.tpm_world.proofs.objects.ObjectTable.new.Goals as goal
 
-pub loop-object-preserved-in_ok-insert : goal.loop-object-preserved-in_ok-insert
-loop-object-preserved-in_ok-insert c =
-    one_placed c.loop-object.table.entries _ c.loop-object.yielded (into_iter_items c.loop-object.object-iterator) _ c.args.objects c.in-Some.object
-    c.loop-object.invariant.0 c.loop-object.invariant.1 c.in-Some.ensures.steps.0 c.in_ok-insert.ensures.entries c.requires.handles
-
 pub loop-object-preserved : goal.loop-object-preserved
 loop-object-preserved c =
     one_placed c.loop-object.table.entries _ c.loop-object.yielded (into_iter_items c.loop-object.object-iterator) _ c.args.objects c.in-Some.object
