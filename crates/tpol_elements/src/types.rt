@@ -13,7 +13,7 @@ use tpol_json::PlaceRef;
 use tpol_members::{ElementFault, PolicyKind, Walk, note_unknown, only_word};
 
 /// What an element of a policy document is, by its `type`.
-#[derive(Clone, Copy, Debug, PartialEq, Eq)]
+#[derive(Clone, Copy)]
 pub enum ElementType {
     /// POLICYOR.
     Or,
@@ -24,7 +24,7 @@ pub enum ElementType {
 }
 
 /// The elements that hold no other elements.
-#[derive(Clone, Copy, Debug, PartialEq, Eq)]
+#[derive(Clone, Copy)]
 pub enum LeafType {
     /// POLICYPCR.
     Pcr,
