@@ -19,7 +19,7 @@ pub enum Fault<K> {
 }
 
 /// What is wrong with a value.
-#[derive(Clone, Copy, Debug, PartialEq, Eq)]
+#[derive(Clone, Copy)]
 pub enum JsonKind {
     /// The value is of another JSON kind than what is wanted.
     WrongKind,
@@ -33,7 +33,7 @@ pub enum JsonKind {
 pub type JsonFault = Fault<JsonKind>;
 
 /// What is wrong with a member of an object, or with an item of a list.
-#[derive(Clone, Copy, Debug, PartialEq, Eq)]
+#[derive(Clone, Copy)]
 pub enum MemberKind {
     /// A member that is needed is not there.
     Missing,
