@@ -55,12 +55,20 @@ fn string_of_first(alloc: Global, update: &UpdateBytes, before: &Digest32) -> Re
     } else {
         Blob::from_slice(alloc, &before.bytes)?
     };
+    push_hashed(&mut string, update)?;
+    Ok(string)
+}
+
+// Adds what the first hash takes behind its start: the code, the digest of the inner string and the rest.
+fn push_hashed(string: &mut Blob, update: &UpdateBytes) -> Result<(), NoMemory>
+    ensures { OnOk result (string.new
+        ≡ string.old ++ digest.head_of (update_value update.now)) }
+{
     string.extend_from_slice(&update.code.to_be_bytes())?;
     if let Some(inner) = &update.inner {
         string.extend_from_slice(&hash(inner.as_slice()).bytes)?;
     }
-    string.extend_from_slice(update.rest.as_slice())?;
-    Ok(string)
+    string.extend_from_slice(update.rest.as_slice())
 }
 
 // Adds the string of a second hash, if there is one, at the end, and answers the digest after it.
@@ -113,6 +121,21 @@ fn push_strings(
     let first = hash(string.as_slice());
     inputs.push(string)?;
     push_second(alloc, inputs, first, &update.policy_ref)
+}
+
+// The same of an update that nothing else uses.
+fn push_update(
+    alloc: Global,
+    inputs: &mut Inputs,
+    update: UpdateBytes,
+    before: &Digest32,
+) -> Result<Digest32, NoMemory>
+    ensures digest { IfOk result (λ after. after
+        ≡ digest.after_update (update_value update) before.now) }
+    ensures strings { OnOk result (inputs.new
+        ≡ inputs.old ++ spec.strings_of (update_value update) before.now) }
+{
+    push_strings(alloc, inputs, &update, before)
 }
 
 // Adds the joined values of a PCR assertion at the end.
@@ -172,21 +195,21 @@ fn push_element(
         ClosedElement::Assert(assertion) => {
             push_pcr_values(alloc, inputs, assertion)?;
             let update = update_of_assertion(alloc, assertion)?;
-            push_strings(alloc, inputs, &update, &before)
+            push_update(alloc, inputs, update, &before)
         }
         ClosedElement::Or(branches) => {
             let mut digests = Digests::new(alloc);
             push_branches(alloc, inputs, &mut digests, branches, before)?;
             let update = update_of_or(alloc, &digests)?;
-            push_strings(alloc, inputs, &update, &before)
+            push_update(alloc, inputs, update, &before)
         }
         ClosedElement::Authorize { key, policy_ref } => {
             let update = update_of_approve(alloc, key, policy_ref)?;
-            push_strings(alloc, inputs, &update, &before)
+            push_update(alloc, inputs, update, &before)
         }
         ClosedElement::AuthorizeNv { index } => {
             let update = update_of_approve_nv(alloc, index)?;
-            push_strings(alloc, inputs, &update, &before)
+            push_update(alloc, inputs, update, &before)
         }
     }
 }
@@ -227,7 +250,7 @@ fn push_move(
         ≡ inputs.old ++ spec.strings_of (update_of act.now) before.now) }
 {
     let update = update_of_move(alloc, act)?;
-    push_strings(alloc, inputs, &update, before)
+    push_update(alloc, inputs, update, before)
 }
 
 // Adds the strings of the moves of facts at the end.

@@ -1,6 +1,6 @@
 //! The digests of a policy, kept beside it, so that none is computed twice, and how many ways its ORs have.
 
-ghost use Rattle.std.specs.Prelude.{◌≡◌, ◌++◌, IfOk, IfSome, OnOk};
+ghost use Rattle.std.specs.Prelude.{◌≡◌, ◌++◌, ◌∷◌, [], IfOk, IfSome, Ok, OnOk};
 ghost use Rattle.tpol_digest.specs.Digest as spec;
 ghost use Rattle.tpol_digest.specs.Extent.{IsCapped, document_extent, extent_at, extent_at_element};
 ghost use Rattle.tpol_digest.specs.Memos.{AreMemos, IsMemo, IsMemoOf, Knows, KnowsBranch, KnowsBranches, KnowsFirst};
@@ -67,9 +67,7 @@ pub fn memo_of_elements(
                 let extent = own_extent_of_branches(branches);
                 let branches = memos_of_branches(alloc, &mut digests, branches, before)?;
                 let after = or_digest(digests.as_slice());
-                let rest = memo_of_elements(alloc, rest, after)?;
-                let branches = Box::new(alloc, branches)?;
-                let rest = Box::new(alloc, rest)?;
+                let rest = boxed(alloc, memo_of_elements(alloc, rest, after))?;
                 Ok(Memo::Or {
                     after,
                     digests,
@@ -80,8 +78,7 @@ pub fn memo_of_elements(
             }
             _ => {
                 let after = digest_after_element(element, before);
-                let rest = memo_of_elements(alloc, rest, after)?;
-                let rest = Box::new(alloc, rest)?;
+                let rest = boxed(alloc, memo_of_elements(alloc, rest, after))?;
                 Ok(Memo::Plain { after, rest })
             }
         },
@@ -95,21 +92,49 @@ fn memos_of_branches(
     digests: &mut Digests,
     branches: &ClosedBranches,
     before: Digest32,
-) -> Result<BranchMemos, NoMemory>
+) -> Result<Box<BranchMemos>, NoMemory>
     ensures digests { OnOk result
         (digests.new ≡ digests.old ++ spec.branch_digests branches.now before) }
-    ensures memos { IfOk result (AreMemos branches.now before) }
+    ensures memos { IfOk result (λ memos. AreMemos branches.now before memos.value) }
 {
     match branches {
-        ClosedBranches::End => Ok(BranchMemos::End),
+        ClosedBranches::End => boxed_branches(alloc, BranchMemos::End),
         ClosedBranches::More(branch, rest) => {
             let first = memo_of_elements(alloc, &branch.policy.elements, before)?;
-            digests.push(first.last(before))?;
-            let first = Box::new(alloc, first)?;
+            let first = branch_memo(alloc, digests, first, before)?;
             let others = memos_of_branches(alloc, digests, rest, before)?;
-            Ok(BranchMemos::More(first, Box::new(alloc, others)?))
+            boxed_branches(alloc, BranchMemos::More(first, others))
         }
     }
+}
+
+// The digests of a branch in a box; adds the last of them to the digests of the branches.
+fn branch_memo(
+    alloc: Global,
+    digests: &mut Digests,
+    branch: Memo,
+    before: Digest32,
+) -> Result<Box<Memo>, NoMemory>
+    ensures digest { (elements : AnyElements) → IsMemo elements before branch
+        → OnOk result (digests.new ≡ digests.old ++ spec.digest_at elements before ∷ []) }
+    ensures memo { IfOk result (λ boxed. boxed.value ≡ branch) }
+{
+    digests.push(branch.last(before))?;
+    Ok(Box::new(alloc, branch)?)
+}
+
+// The digests of elements in a box, unless memory ran out before.
+fn boxed(alloc: Global, memo: Result<Memo, NoMemory>) -> Result<Box<Memo>, NoMemory>
+    ensures { IfOk result (λ boxed. memo ≡ Ok boxed.value) }
+{
+    Ok(Box::new(alloc, memo?)?)
+}
+
+// The digests within branches in a box.
+fn boxed_branches(alloc: Global, memos: BranchMemos) -> Result<Box<BranchMemos>, NoMemory>
+    ensures { IfOk result (λ boxed. boxed.value ≡ memos) }
+{
+    Ok(Box::new(alloc, memos)?)
 }
 
 impl Memo {

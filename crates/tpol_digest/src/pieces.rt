@@ -1,14 +1,15 @@
 // What an assertion hashes behind its command's code: what is compared, the rest and the policyRef. The rest
 // comes as part of a message, for the digest, and as bytes, for the strings.
 
-ghost use Rattle.std.specs.Prelude.{◌≡◌, ◌++◌, List, ℕ, IfOk};
+ghost use Rattle.std.specs.Prelude.{◌≡◌, ◌++◌, List, ℕ, IfOk, OnOk};
 ghost use Rattle.std.specs.Option.{option_copied, option_map};
-ghost use Rattle.tpol_digest.specs.Update.{update_of_assertion};
+ghost use Rattle.tpol_base.specs.Name.{name_bytes};
+ghost use Rattle.tpol_digest.specs.Update.{duplication, update_of_assertion};
 ghost use Rattle.tpol_hash.specs.Messages.{Holds};
 
 use crate::update::comparison_end;
 use std::alloc::Global;
-use tpol_base::{Blob, NoMemory, pcr};
+use tpol_base::{Blob, Name, NoMemory, pcr};
 use tpol_hash::Hasher;
 use tpol_tree::Assertion;
 
@@ -87,14 +88,27 @@ pub fn rest_of(alloc: Global, assertion: &Assertion) -> Result<Blob, NoMemory>
             include,
         } => {
             let mut bytes = Blob::new(alloc);
-            if *include {
-                bytes.extend_from_slice(object.bytes().as_slice())?;
-            }
-            bytes.extend_from_slice(parent.bytes().as_slice())?;
-            bytes.extend_from_slice(&[u8::from(*include)])?;
+            push_duplication(&mut bytes, object, parent, *include)?;
             Ok(bytes)
         }
     }
+}
+
+// Adds the Names that a duplication is bound to, and whether the object's is one of them.
+fn push_duplication(
+    bytes: &mut Blob,
+    object: &Name,
+    parent: &Name,
+    include: bool,
+) -> Result<(), NoMemory>
+    ensures { OnOk result (bytes.new
+        ≡ bytes.old ++ duplication include (name_bytes object.now) (name_bytes parent.now)) }
+{
+    if include {
+        bytes.extend_from_slice(object.bytes().as_slice())?;
+    }
+    bytes.extend_from_slice(parent.bytes().as_slice())?;
+    bytes.extend_from_slice(&[u8::from(include)])
 }
 
 // Two strings joined, in room for both.
