@@ -26,7 +26,8 @@ use tpm_rules::Entity;
 use tpol_base::handle::{TPM_RH_ENDORSEMENT, TPM_RH_LOCKOUT, TPM_RH_OWNER};
 use tpol_base::{Blob, Digest32, Digests, Name, NoMemory, Rc};
 use tpol_name::{
-    IndexEntry, NamedIndices, NamedObjects, Names, ObjectEntry, Setup, Sight, names_of,
+    AuthsAndPcrs, IndexEntry, NamedIndices, NamedObjects, Names, ObjectEntry, Setup, Sight,
+    names_of,
 };
 
 /// What a machine has beside its policy sessions: the seed, the hierarchies, objects, NV indices and PCRs, and
@@ -68,8 +69,8 @@ impl World {
         requires setup { IsSetup setup.now }
         ensures world { IfOk result (λ world. world ≡ world_of setup.now) }
     {
-        let values = Values::of_setup(setup)?;
-        match Entities::of(alloc, setup) {
+        let values = AuthsAndPcrs::of(setup)?;
+        match EntityTables::of(alloc, setup) {
             Ok(entities) => Ok(World {
                 seed: setup.seed,
                 owner: values.owner,
@@ -98,7 +99,7 @@ impl World {
         ensures sight { IfOk result (λ sight. sight ≡ sight_of self.now free_sessions) }
         ensures condition { IfOk result IsSight }
     {
-        let values = Values::of_world(alloc, self)?;
+        let values = auths_and_pcrs(alloc, self)?;
         match NamedEntities::of(alloc, self) {
             Ok(entities) => Ok(Sight {
                 objects: entities.objects,
@@ -291,58 +292,32 @@ impl World {
     }
 }
 
-// The authorization values of the hierarchies and the values of the PCRs, copied.
-#[derive(Drop)]
-struct Values {
-    owner: Blob,
-    endorsement: Blob,
-    lockout: Blob,
-    pcrs: Digests,
-}
-
-impl Values {
-    // Those of this setup.
-    fn of_setup(setup: &Setup) -> Result<Values, NoMemory>
-        ensures owner { IfOk result (λ values. values.owner ≡ setup.now.owner) }
-        ensures endorsement { IfOk result (λ values. values.endorsement ≡ setup.now.endorsement) }
-        ensures lockout { IfOk result (λ values. values.lockout ≡ setup.now.lockout) }
-        ensures pcrs { IfOk result (λ values. values.pcrs ≡ setup.now.pcrs) }
-    {
-        Ok(Values {
-            owner: setup.owner.clone()?,
-            endorsement: setup.endorsement.clone()?,
-            lockout: setup.lockout.clone()?,
-            pcrs: setup.pcrs.clone()?,
-        })
-    }
-
-    // Those of this world, as they are now.
-    fn of_world(alloc: Global, world: &World) -> Result<Values, NoMemory>
-        ensures owner { IfOk result (λ values. values.owner ≡ world.now.owner) }
-        ensures endorsement { IfOk result (λ values. values.endorsement ≡ world.now.endorsement) }
-        ensures lockout { IfOk result (λ values. values.lockout ≡ world.now.lockout) }
-        ensures pcrs { IfOk result (λ values. values.pcrs ≡ world.now.pcrs.values) }
-    {
-        Ok(Values {
-            owner: world.owner.clone()?,
-            endorsement: world.endorsement.clone()?,
-            lockout: world.lockout.clone()?,
-            pcrs: Digests::from_slice(alloc, world.pcrs.values())?,
-        })
-    }
+// The authorization values of the hierarchies and the values of the PCRs, as they are now.
+fn auths_and_pcrs(alloc: Global, world: &World) -> Result<AuthsAndPcrs, NoMemory>
+    ensures owner { IfOk result (λ values. values.owner ≡ world.now.owner) }
+    ensures endorsement { IfOk result (λ values. values.endorsement ≡ world.now.endorsement) }
+    ensures lockout { IfOk result (λ values. values.lockout ≡ world.now.lockout) }
+    ensures pcrs { IfOk result (λ values. values.pcrs ≡ world.now.pcrs.values) }
+{
+    Ok(AuthsAndPcrs {
+        owner: world.owner.clone()?,
+        endorsement: world.endorsement.clone()?,
+        lockout: world.lockout.clone()?,
+        pcrs: Digests::from_slice(alloc, world.pcrs.values())?,
+    })
 }
 
 // The objects and the indices of a setup by handle, and their Names.
 #[derive(Drop)]
-struct Entities {
+struct EntityTables {
     objects: ObjectTable,
     object_names: Names,
     indices: NvTable,
     index_names: Names,
 }
 
-impl Entities {
-    fn of(alloc: Global, setup: &Setup) -> Result<Entities, NoMemory>
+impl EntityTables {
+    fn of(alloc: Global, setup: &Setup) -> Result<EntityTables, NoMemory>
         requires setup { IsSetup setup.now }
         ensures objects { IfOk result (λ entities. entities.objects ≡ setup.now.objects) }
         ensures object_names { IfOk result (λ entities. entities.object_names
@@ -355,7 +330,7 @@ impl Entities {
         let index_names = names_of(alloc, setup.indices.as_slice())?;
         let objects = object_table(alloc, setup)?;
         let indices = nv_table(alloc, setup)?;
-        Ok(Entities {
+        Ok(EntityTables {
             objects,
             object_names,
             indices,

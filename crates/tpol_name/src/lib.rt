@@ -23,5 +23,5 @@ pub use entries::{DirEntry, Directory, IndexEntry, Indices, ObjectEntry, Objects
 pub use listing::directory;
 pub use named::{HasName, Named, NamedIndices, NamedObjects, Names, names_of};
 pub use paths::same_path;
-pub use setup::{Entities, Setup};
+pub use setup::{AuthsAndPcrs, EntityLists, Setup};
 pub use sight::{Sight, opening_sight, opening_sight_of};

@@ -30,13 +30,13 @@ impl Setup {
     pub fn try_clone(&self) -> Result<Setup, NoMemory>
         ensures copy { IfOk result (λ copy. copy ≡ self.now) }
     {
-        let Values {
+        let AuthsAndPcrs {
             owner,
             endorsement,
             lockout,
             pcrs,
-        } = Values::of(self)?;
-        let Entities { objects, indices } = Entities::of(self)?;
+        } = AuthsAndPcrs::of(self)?;
+        let EntityLists { objects, indices } = EntityLists::of(self)?;
         Ok(Setup {
             seed: self.seed,
             owner,
@@ -55,24 +55,24 @@ impl Setup {
     }
 }
 
-/// The authorization values of the hierarchies and the values of the PCRs, copied.
+/// The authorization values of the hierarchies and the values of the PCRs.
 #[derive(Drop)]
-pub struct Values {
+pub struct AuthsAndPcrs {
     pub owner: Blob,
     pub endorsement: Blob,
     pub lockout: Blob,
     pub pcrs: Digests,
 }
 
-impl Values {
-    /// Those of this setup.
-    pub fn of(setup: &Setup) -> Result<Values, NoMemory>
+impl AuthsAndPcrs {
+    /// Copies of those of this setup.
+    pub fn of(setup: &Setup) -> Result<AuthsAndPcrs, NoMemory>
         ensures owner { IfOk result (λ values. values.owner ≡ setup.now.owner) }
         ensures endorsement { IfOk result (λ values. values.endorsement ≡ setup.now.endorsement) }
         ensures lockout { IfOk result (λ values. values.lockout ≡ setup.now.lockout) }
         ensures pcrs { IfOk result (λ values. values.pcrs ≡ setup.now.pcrs) }
     {
-        Ok(Values {
+        Ok(AuthsAndPcrs {
             owner: setup.owner.clone()?,
             endorsement: setup.endorsement.clone()?,
             lockout: setup.lockout.clone()?,
@@ -81,20 +81,20 @@ impl Values {
     }
 }
 
-/// The objects and the indices, copied.
+/// A list of objects and one of indices.
 #[derive(Drop)]
-pub struct Entities {
+pub struct EntityLists {
     pub objects: Objects,
     pub indices: Indices,
 }
 
-impl Entities {
-    /// Those of this setup.
-    pub fn of(setup: &Setup) -> Result<Entities, NoMemory>
+impl EntityLists {
+    /// Copies of those of this setup.
+    pub fn of(setup: &Setup) -> Result<EntityLists, NoMemory>
         ensures objects { IfOk result (λ entities. entities.objects ≡ setup.now.objects) }
         ensures indices { IfOk result (λ entities. entities.indices ≡ setup.now.indices) }
     {
-        Ok(Entities {
+        Ok(EntityLists {
             objects: setup.objects.clone()?,
             indices: setup.indices.clone()?,
         })

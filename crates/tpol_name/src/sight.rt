@@ -3,8 +3,8 @@
 ghost use Rattle.std.specs.Prelude.{◌≡◌, IfOk};
 ghost use Rattle.tpol_name.specs.Setups.{IsSetup, IsSight, first_sight, with_entities};
 
-use crate::setup::Values;
-use crate::{Entities, NamedIndices, NamedObjects, Setup};
+use crate::setup::AuthsAndPcrs;
+use crate::{EntityLists, NamedIndices, NamedObjects, Setup};
 use std::alloc::Global;
 use tpol_base::{Blob, Digests, NoMemory};
 
@@ -35,16 +35,20 @@ pub fn opening_sight(alloc: Global, setup: &Setup) -> Result<Sight, NoMemory>
     ensures sight { IfOk result (λ sight. sight ≡ first_sight setup.now) }
     ensures condition { IsSetup setup.now → IfOk result IsSight }
 {
-    opening_sight_of(alloc, setup, Entities::of(setup)?)
+    opening_sight_of(alloc, setup, EntityLists::of(setup)?)
 }
 
 /// What a machine shows that just started from this setup, with these entities in the place of its own.
-pub fn opening_sight_of(alloc: Global, setup: &Setup, entities: Entities) -> Result<Sight, NoMemory>
+pub fn opening_sight_of(
+    alloc: Global,
+    setup: &Setup,
+    entities: EntityLists,
+) -> Result<Sight, NoMemory>
     ensures sight { IfOk result (λ sight. sight
         ≡ first_sight (with_entities setup.now entities.objects entities.indices)) }
 {
     let named = NamedEntities::new(alloc, entities)?;
-    match Values::of(setup) {
+    match AuthsAndPcrs::of(setup) {
         Ok(values) => Ok(Sight {
             objects: named.objects,
             indices: named.indices,
@@ -75,11 +79,11 @@ struct NamedEntities {
 }
 
 impl NamedEntities {
-    fn new(alloc: Global, entities: Entities) -> Result<NamedEntities, NoMemory>
+    fn new(alloc: Global, entities: EntityLists) -> Result<NamedEntities, NoMemory>
         ensures objects { IfOk result (λ named. named.objects ≡ entities.objects) }
         ensures indices { IfOk result (λ named. named.indices ≡ entities.indices) }
     {
-        let Entities { objects, indices } = entities;
+        let EntityLists { objects, indices } = entities;
         Ok(NamedEntities {
             objects: NamedObjects::new(alloc, objects)?,
             indices: NamedIndices::new(alloc, indices)?,

@@ -12,7 +12,7 @@ use crate::references::policy_at;
 use std::alloc::Global;
 use tpol_base::{Blob, Digest32, NoMemory, Sequence};
 use tpol_name::{
-    Entities, IndexEntry, Indices, ObjectEntry, Objects, Setup, Sight, opening_sight_of,
+    EntityLists, IndexEntry, Indices, ObjectEntry, Objects, Setup, Sight, opening_sight_of,
 };
 use tpol_scene::EntityPolicy;
 use tpol_steps::{CompiledDocument, FilledDocument, Halt, fill_document};
@@ -118,13 +118,13 @@ fn entities_before(
     alloc: Global,
     policy: &EntityPolicy,
     setup: &Setup,
-) -> Result<Entities, NoMemory>
+) -> Result<EntityLists, NoMemory>
     ensures objects { IfOk result (λ entities.
         entities.objects ≡ take policy.now.objects_before setup.now.objects) }
     ensures indices { IfOk result (λ entities.
         entities.indices ≡ take policy.now.indices_before setup.now.indices) }
 {
-    Ok(Entities {
+    Ok(EntityLists {
         objects: first_objects(alloc, setup.objects.as_slice(), policy.objects_before)?,
         indices: first_indices(alloc, setup.indices.as_slice(), policy.indices_before)?,
     })
