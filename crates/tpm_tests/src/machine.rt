@@ -4,7 +4,7 @@
 ghost use Rattle.tpol_name.specs.Setups.{IsSetup};
 
 use std::alloc::Global;
-use tpm_engine::Machine;
+use tpm_engine::{EventView, Machine};
 use tpol_name::Sight;
 use tpol_scene::{Scene, read_scene};
 
@@ -269,6 +269,25 @@ fn resets(machine: &mut Machine) -> bool {
     machine.time() == 0
 }
 
+/// Whether a machine's journal tells this command and its reply in this place.
+fn has_recorded(machine: &Machine, place: usize, command: &[u8], answer: &[u8]) -> bool {
+    match machine.journal().get(place) {
+        Some(EventView::Command { buffer, reply, .. }) => buffer == command && reply == answer,
+        _ => false,
+    }
+}
+
+/// Whether it tells what happened around a reset, in order.
+fn has_recorded_all(machine: &Machine) -> bool {
+    let journal = machine.journal();
+    has_recorded(machine, 0, START, STARTED)
+        && has_recorded(machine, 1, PCR_EXTEND, SERVED)
+        && matches!(journal.get(2), Some(EventView::Time(5)))
+        && matches!(journal.get(3), Some(EventView::Reset))
+        && has_recorded(machine, 5, PCR_READ, ZERO_READ)
+        && journal.get(6).is_none()
+}
+
 fn begins_anew(alloc: Global) -> bool {
     match machine_of(alloc, "{}") {
         Some(mut machine) => {
@@ -276,6 +295,7 @@ fn begins_anew(alloc: Global) -> bool {
                 && passes_time(&mut machine)
                 && resets(&mut machine)
                 && answers_each(&mut machine, alloc, &BEHIND_RESET)
+                && has_recorded_all(&machine)
         }
         None => false,
     }
