@@ -126,8 +126,14 @@ impl Machine {
             outcome,
             success,
         } = self.tables.prepare(alloc, event, locality, buffer)?;
-        self.journal
-            .push_command(client, locality, buffer, reply.as_slice(), outcome)?;
+        let pushed = self
+            .journal
+            .push_command(client, locality, buffer, reply.as_slice(), outcome);
+        if let Err(NoMemory) = pushed {
+            drop(success);
+            drop(reply);
+            return Err(NoMemory);
+        }
         let opened = self.tables.finish(alloc, event, success);
         Ok(Executed {
             event,

@@ -28,7 +28,7 @@ invariant_of-self-2 c =
     let past = c.self.inside.journal.events in
     let count : c.next_number-event.result ≡ next_number past = c.next_number-event.ensures.number in
     machine-executed c.self.inside.setup past c.self.inside.tables c.self.invariant
-    c.next_number-event.result c.args.client c.args.locality c.args.buffer.now c.as_slice.result.now c.in_ok-reply.outcome c.push_command.new.self.events c.finish-opened.new.self
+    c.next_number-event.result c.args.client c.args.locality c.args.buffer.now c.as_slice.result.now c.in_ok-reply.outcome c.push_command-pushed.new.self.events c.finish-opened.new.self
     count (search rules) (search rules) (c.finish-opened.ensures.tables ∙ c.in_ok-reply.ensures.tables c.args.client)
     (search rules)
 
