@@ -46,7 +46,7 @@ impl NvTable {
     {
         let mut table = IndexMap::with_capacity(alloc, indices.len())?;
         for entry in indices.into_vec() {
-            table.insert(entry.public.index, entry)?;
+            drop(table.insert(entry.public.index, entry)?);
         }
         Ok(NvTable {
             indices: table,

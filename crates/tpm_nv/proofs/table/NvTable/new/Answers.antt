@@ -8,11 +8,6 @@ use Rattle.tpm_nv.specs.Tables.{IsByHandle}
 use Rattle.tpm_nv.proofs.FillLemmas.{filled_by_handle, one_placed, under_handle, values_of-filled}
 use Rattle.tpm_nv.proofs.table.NvTable.new.Goals as goal
 
-pub loop-entry-preserved-in_ok-insert : goal.loop-entry-preserved-in_ok-insert
-loop-entry-preserved-in_ok-insert c =
-    one_placed c.loop-entry.table.entries _ c.loop-entry.yielded (into_iter_items c.loop-entry.entry-iterator) _ c.args.indices c.in-Some.entry
-    c.loop-entry.invariant.0 c.loop-entry.invariant.1 c.in-Some.ensures.steps.0 c.in_ok-insert.ensures.entries c.requires.handles
-
 pub loop-entry-preserved : goal.loop-entry-preserved
 loop-entry-preserved c =
     one_placed c.loop-entry.table.entries _ c.loop-entry.yielded (into_iter_items c.loop-entry.entry-iterator) _ c.args.indices c.in-Some.entry
