@@ -19,7 +19,7 @@ use tpol_tree::{ApprovalWish, ApprovalWishes};
 pub const MAX_APPROVALS: usize = 8;
 
 /// What an authorization is, by its `type`.
-#[derive(Clone, Copy, Debug, PartialEq, Eq)]
+#[derive(Clone, Copy)]
 pub enum ApprovalType {
     /// `tpm`: a key's signature.
     Key,

@@ -12,6 +12,7 @@ use crate::lists::{branch_before, element_before};
 use crate::members::{description, name, type_of_element};
 use serde_json::Value;
 use std::alloc::Global;
+use tpol_base::NoMemory;
 use tpol_elements::{ElementType, LeafType, leaf_row, note_leaf};
 use tpol_json::{PlaceRef, check_object, needed, refuse};
 use tpol_members::{ElementFault, PolicyKind, Walk, note_unknown};
@@ -90,8 +91,13 @@ fn elements(
                 return Err(ElementFault::NoMemory);
             };
             let first = counted(alloc, item, &place, levels, walk)?;
-            let rest = elements(alloc, later, next, list, levels, walk)?;
-            Ok(element_before(alloc, first, rest)?)
+            match elements(alloc, later, next, list, levels, walk) {
+                Ok(rest) => Ok(element_before(alloc, first, rest)?),
+                Err(fault) => {
+                    drop(first);
+                    Err(fault)
+                }
+            }
         }
     }
 }
@@ -156,8 +162,13 @@ fn leaf_element(
         (leaf_element leaf (view value.now) place.now walk.old) }
 {
     let element = leaf_row(alloc, leaf, value, place, walk)?;
-    note_leaf(alloc, leaf, value, place, walk)?;
-    Ok(element)
+    match note_leaf(alloc, leaf, value, place, walk) {
+        Ok(()) => Ok(element),
+        Err(NoMemory) => {
+            drop(element);
+            Err(ElementFault::NoMemory)
+        }
+    }
 }
 
 // The branches of an OR.
@@ -234,8 +245,13 @@ fn branches(
                 return Err(ElementFault::NoMemory);
             };
             let first = branch(alloc, item, &place, levels, walk)?;
-            let rest = branches(alloc, later, next, list, levels, walk)?;
-            Ok(branch_before(alloc, first, rest)?)
+            match branches(alloc, later, next, list, levels, walk) {
+                Ok(rest) => Ok(branch_before(alloc, first, rest)?),
+                Err(fault) => {
+                    drop(first);
+                    Err(fault)
+                }
+            }
         }
     }
 }
