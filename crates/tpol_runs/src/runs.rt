@@ -186,7 +186,8 @@ fn hear(
         return Ok(None);
     };
     let (after, told) = hand(underway, alloc, reset_count, reply);
-    *run = after;
+    // Meanwhile None stands there.
+    drop(replace(run, after));
     told
 }
 
