@@ -91,8 +91,13 @@ fn fill_elements(
                 return Err(FillFault::NoMemory);
             };
             let first = fill_element(alloc, element, sight, leads, &place)?;
-            let others = fill_elements(alloc, rest, sight, false, list, next)?;
-            join_elements(alloc, first, others)
+            match fill_elements(alloc, rest, sight, false, list, next) {
+                Ok(others) => join_elements(alloc, first, others),
+                Err(fault) => {
+                    drop(first);
+                    Err(fault)
+                }
+            }
         }
     }
 }
