@@ -2,6 +2,8 @@
 
 ghost use Rattle.std.specs.Prelude.{◌≡◌, IfOk};
 ghost use Rattle.std.proofs.Common.{rules};
+ghost use Rattle.tpol_base.specs.Constants.{alg_sha256};
+ghost use Rattle.tpol_wire.specs.declared.command.Command.TheVariants as commands;
 ghost use Rattle.tpol_goal.specs.Commands.{command_of_goal};
 ghost use Rattle.tpol_goal.specs.Goals.{code_of_goal, entity_of_goal, second_handle};
 
@@ -100,12 +102,7 @@ impl Goal {
                 object: *object,
                 auth,
             }),
-            Goal::Hmac { key, buffer } => Ok(Command::Hmac {
-                key: *key,
-                auth,
-                buffer: buffer.clone()?,
-                hash: TPM_ALG_SHA256,
-            }),
+            Goal::Hmac { key, buffer } => hmac_command(*key, auth, buffer),
             Goal::NvRead {
                 index,
                 size,
@@ -121,13 +118,7 @@ impl Goal {
                 index,
                 offset,
                 bytes,
-            } => Ok(Command::NvWrite {
-                authority: *index,
-                index: *index,
-                auth,
-                bytes: bytes.clone()?,
-                offset: *offset,
-            }),
+            } => write_command(*index, auth, bytes, *offset),
             Goal::NvIncrement { index } => Ok(Command::NvIncrement {
                 authority: *index,
                 index: *index,
@@ -140,4 +131,30 @@ impl Goal {
             }),
         }
     }
+}
+
+// HMAC of a buffer under a key, over SHA-256.
+fn hmac_command(key: u32, auth: AuthArea, buffer: &Blob) -> Result<Command, NoMemory>
+    ensures { IfOk result (λ command. command ≡ commands.Hmac key auth buffer.now alg_sha256) }
+{
+    Ok(Command::Hmac {
+        key,
+        auth,
+        buffer: buffer.clone()?,
+        hash: TPM_ALG_SHA256,
+    })
+}
+
+// NV_Write of bytes into an index, which authorizes itself.
+fn write_command(index: u32, auth: AuthArea, bytes: &Blob, offset: u16) -> Result<Command, NoMemory>
+    ensures { IfOk result (λ command. command
+        ≡ commands.NvWrite index index auth bytes.now offset) }
+{
+    Ok(Command::NvWrite {
+        authority: index,
+        index,
+        auth,
+        bytes: bytes.clone()?,
+        offset,
+    })
 }
