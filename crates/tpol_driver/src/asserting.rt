@@ -13,6 +13,7 @@ use crate::closing::Closing;
 use crate::next::Next;
 use crate::plan::Plan;
 use crate::ready::Ready;
+use crate::sending::sent_bytes;
 use crate::session::Session;
 use crate::step::{Heard, answer, command, said};
 use crate::tickets::{HeldTicket, Tickets, earn};
@@ -20,7 +21,7 @@ use std::alloc::Global;
 use std::marker::Model;
 use tpol_base::{Blob, NoMemory};
 use tpol_tree::{Assertion, Move};
-use tpol_wire::{Ticket, write_command};
+use tpol_wire::Ticket;
 
 /// A run on its path, with a move before it.
 #[derive(Drop)]
@@ -84,7 +85,7 @@ impl Asserting {
             &self.ticket,
             move_at(&self.plan, self.done),
         )?;
-        write_command(alloc, &command)
+        sent_bytes(alloc, command)
     }
 
     /// Goes on with the reply. With `NoMemory` the state comes back unchanged.

@@ -9,11 +9,12 @@ use crate::attempt::Attempt;
 use crate::blind_end::BlindEnd;
 use crate::blind_next::BlindNext;
 use crate::end::Stage;
+use crate::sending::sent_bytes;
 use crate::tries::{closing, restarted};
 use std::alloc::Global;
 use std::marker::Model;
 use tpol_base::{Blob, CommandCode, NoMemory};
-use tpol_wire::{Command, write_command};
+use tpol_wire::Command;
 
 /// A blind run behind a refused path, before it begins the next one with the same session.
 #[derive(Drop)]
@@ -53,7 +54,7 @@ impl BlindAgain {
         let command = Command::PolicyRestart {
             session: self.attempt.session.handle,
         };
-        write_command(alloc, &command)
+        sent_bytes(alloc, command)
     }
 
     /// Goes on with the reply. With `NoMemory` the state comes back unchanged.

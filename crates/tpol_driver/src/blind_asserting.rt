@@ -7,13 +7,14 @@ ghost use Rattle.tpol_driver.specs.BlindStates.{IsBlindNext, IsBlindSent};
 
 use crate::attempt::Attempt;
 use crate::blind_next::BlindNext;
+use crate::sending::sent_bytes;
 use crate::step::{answer, command, said};
 use crate::tries::goes_on;
 use std::alloc::Global;
 use std::marker::Model;
 use tpol_base::{Blob, NoMemory};
 use tpol_tree::{Move, Path};
-use tpol_wire::{Ticket, write_command};
+use tpol_wire::Ticket;
 
 /// A blind run on one of its paths, with a move before it.
 #[derive(Drop)]
@@ -62,7 +63,7 @@ impl BlindAsserting {
         let plan = self.attempt.plan.along(self.attempt.place);
         let act = move_at(plan.path, self.done);
         let command = command(alloc, &plan, &self.attempt.session, &self.ticket, act)?;
-        write_command(alloc, &command)
+        sent_bytes(alloc, command)
     }
 
     /// Goes on with the reply. With `NoMemory` the state comes back unchanged.

@@ -7,10 +7,11 @@ ghost use Rattle.tpol_driver.specs.BlindStates.{IsBlindNext, IsBlindSent};
 use crate::blind_end::BlindEnd;
 use crate::blind_next::{BlindNext, BlindOver};
 use crate::blind_plan::BlindPlan;
+use crate::sending::sent_bytes;
 use std::alloc::Global;
 use std::marker::Model;
 use tpol_base::{Blob, NoMemory};
-use tpol_wire::{Command, write_command};
+use tpol_wire::Command;
 
 /// A blind run whose end is known, before its session is ended.
 #[derive(Drop)]
@@ -42,7 +43,7 @@ impl BlindClosing {
         let command = Command::FlushContext {
             session: self.session,
         };
-        write_command(alloc, &command)
+        sent_bytes(alloc, command)
     }
 
     /// Ends the run with the end that is known, whatever is answered.

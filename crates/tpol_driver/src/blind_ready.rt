@@ -8,11 +8,11 @@ ghost use Rattle.tpol_driver.specs.BlindStates.{IsBlindNext, IsBlindSent};
 use crate::attempt::Attempt;
 use crate::blind_next::BlindNext;
 use crate::goal_use;
+use crate::sending::sent_bytes;
 use crate::tries::after_goal;
 use std::alloc::Global;
 use std::marker::Model;
 use tpol_base::{Blob, NoMemory};
-use tpol_wire::write_command;
 
 /// A blind run whose session has all moves of one of its paths, before its use on the goal.
 #[derive(Drop)]
@@ -51,7 +51,7 @@ impl BlindReady {
     {
         let plan = self.attempt.plan.along(self.attempt.place);
         let command = goal_use::command(alloc, &plan, &self.attempt.session, self.attempt.sent)?;
-        write_command(alloc, &command)
+        sent_bytes(alloc, command)
     }
 
     /// Goes on with the reply. With `NoMemory` the state comes back unchanged.

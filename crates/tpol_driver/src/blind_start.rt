@@ -1,9 +1,10 @@
 //! The start of a blind run.
 
 ghost use Rattle.std.specs.Prelude.{◌≡◌, ◌≤◌, All, length, replicate, IfOk, IfErr};
-ghost use Rattle.tpol_driver.specs.Blind.{Starting, blind_hears, blind_sends, blind_start_heard, first_try, tried_from};
+ghost use Rattle.tpol_driver.specs.Blind.{Over as StandsOver, Starting, blind_hears, blind_sends, blind_start_heard, first_try, tried_from};
 ghost use Rattle.tpol_driver.specs.BlindStates.{IsBlindNext, IsBlindSent};
 ghost use Rattle.tpol_driver.specs.declared.blind_end.Tried.TheVariants.{Skipped};
+ghost use Rattle.tpol_driver.specs.declared.blind_plan.BlindPlan.{BlindPlan as BlindPlanOf};
 
 use crate::answer::{Answer, read_answer};
 use crate::attempt::Attempt;
@@ -13,12 +14,13 @@ use crate::blind_next::{BlindNext, BlindOver};
 use crate::blind_plan::BlindPlan;
 use crate::commands::start_auth_session;
 use crate::end::Stage;
+use crate::sending::sent_bytes;
 use crate::session::Session;
 use crate::tries::stands_before;
 use std::alloc::Global;
 use std::marker::Model;
 use tpol_base::{Blob, CommandCode, NoMemory};
-use tpol_wire::{Reply, write_command};
+use tpol_wire::Reply;
 
 /// A blind run before its start.
 #[derive(Drop)]
@@ -59,7 +61,7 @@ impl BlindStart {
         ensures sends { IfOk result (IsBlindSent (blind_sends self.now.plan self.now.standing)) }
     {
         let command = start_auth_session::command(&self.plan.nonce_seed);
-        write_command(alloc, &command)
+        sent_bytes(alloc, command)
     }
 
     /// Goes on with the reply. With `NoMemory` the state comes back unchanged.
@@ -78,20 +80,11 @@ impl BlindStart {
     fn after(self, answer: Answer) -> BlindNext
         ensures { IsBlindNext self.plan (blind_start_heard self.plan answer) result }
     {
-        match answer {
-            Answer::Done(Reply::StartAuthSession { session, nonce }, _) => self.started(Session {
-                handle: session,
-                nonce,
-            }),
-            Answer::Denied(rc) => BlindNext::Over(BlindOver {
-                end: BlindEnd::Denied {
-                    at: Stage::Start,
-                    rc,
-                },
-            }),
-            Answer::Done(..) | Answer::Malformed => BlindNext::Over(BlindOver {
-                end: BlindEnd::BadReply(Stage::Start),
-            }),
+        let heard = session_of(&answer);
+        drop(answer);
+        match heard {
+            Ok(session) => self.started(session),
+            Err(end) => BlindNext::Over(BlindOver { end }),
         }
     }
 
@@ -118,6 +111,26 @@ impl BlindStart {
                 BlindEnd::NoBranch(tries),
             )),
         }
+    }
+}
+
+// The session that was started, or the end where none was.
+fn session_of(answer: &Answer) -> Result<Session, BlindEnd>
+    ensures started { IfOk result (λ session. (plan : BlindPlanOf)
+        → blind_start_heard plan answer.now ≡ first_try plan session (tried_from plan 0)) }
+    ensures ends { IfErr result (λ end. (plan : BlindPlanOf)
+        → blind_start_heard plan answer.now ≡ StandsOver end) }
+{
+    match answer {
+        Answer::Done(Reply::StartAuthSession { session, nonce }, _) => Ok(Session {
+            handle: *session,
+            nonce: *nonce,
+        }),
+        Answer::Denied(rc) => Err(BlindEnd::Denied {
+            at: Stage::Start,
+            rc: *rc,
+        }),
+        Answer::Done(..) | Answer::Malformed => Err(BlindEnd::BadReply(Stage::Start)),
     }
 }
 

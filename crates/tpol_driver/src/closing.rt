@@ -7,11 +7,12 @@ ghost use Rattle.tpol_driver.specs.States.{IsNext, IsSent};
 use crate::end::End;
 use crate::next::{Next, Over};
 use crate::plan::Plan;
+use crate::sending::sent_bytes;
 use crate::tickets::{HeldTicket, Tickets};
 use std::alloc::Global;
 use std::marker::Model;
 use tpol_base::{Blob, NoMemory};
-use tpol_wire::{Command, write_command};
+use tpol_wire::Command;
 
 /// A run whose end is known, before its session is ended.
 #[derive(Drop)]
@@ -57,7 +58,7 @@ impl Closing {
         let command = Command::FlushContext {
             session: self.session,
         };
-        write_command(alloc, &command)
+        sent_bytes(alloc, command)
     }
 
     /// Ends the run with the end that is known, whatever is answered.

@@ -28,6 +28,7 @@ mod path_plan;
 mod plan;
 mod planned;
 mod ready;
+mod sending;
 mod session;
 mod step;
 mod tickets;

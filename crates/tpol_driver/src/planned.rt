@@ -1,7 +1,7 @@
 //! The start of a run.
 
-ghost use Rattle.std.specs.Prelude.{◌≡◌, ◌≤◌, ◌++◌, [], length, IfOk, IfErr};
-ghost use Rattle.tpol_driver.specs.Driving.{Moving, Starting, earned_by, hears, sends, start_heard};
+ghost use Rattle.std.specs.Prelude.{◌≡◌, ◌≤◌, ◌++◌, [], None, length, IfOk, IfErr};
+ghost use Rattle.tpol_driver.specs.Driving.{Moving, Over as StandsOver, Starting, earned_by, hears, sends, start_heard};
 ghost use Rattle.tpol_driver.specs.States.{IsNext, IsSent};
 
 use crate::answer::{Answer, read_answer};
@@ -11,12 +11,13 @@ use crate::end::{End, Stage};
 use crate::next::{Next, Over};
 use crate::plan::Plan;
 use crate::ready::Ready;
+use crate::sending::sent_bytes;
 use crate::session::Session;
 use crate::tickets::Tickets;
 use std::alloc::Global;
 use std::marker::Model;
 use tpol_base::{Blob, CommandCode, NoMemory};
-use tpol_wire::{Reply, write_command};
+use tpol_wire::Reply;
 
 /// A run before its start.
 #[derive(Drop)]
@@ -49,7 +50,7 @@ impl Planned {
         ensures sends { IfOk result (IsSent (sends self.now.plan self.now.standing)) }
     {
         let command = start_auth_session::command(&self.plan.nonce_seed);
-        write_command(alloc, &command)
+        sent_bytes(alloc, command)
     }
 
     /// Goes on with the reply. With `NoMemory` the state comes back unchanged.
@@ -70,25 +71,11 @@ impl Planned {
         ensures { IsNext self.plan [] (start_heard answer) result }
     {
         let earned = Tickets::new(alloc);
-        match answer {
-            Answer::Done(Reply::StartAuthSession { session, nonce }, _) => self.started(
-                Session {
-                    handle: session,
-                    nonce,
-                },
-                earned,
-            ),
-            Answer::Denied(rc) => Next::Over(Over {
-                end: End::Denied {
-                    at: Stage::Start,
-                    rc,
-                },
-                earned,
-            }),
-            Answer::Done(..) | Answer::Malformed => Next::Over(Over {
-                end: End::BadReply(Stage::Start),
-                earned,
-            }),
+        let heard = session_of(&answer);
+        drop(answer);
+        match heard {
+            Ok(session) => self.started(session, earned),
+            Err(end) => Next::Over(Over { end, earned }),
         }
     }
 
@@ -102,5 +89,23 @@ impl Planned {
         } else {
             Next::Asserting(Asserting::new(plan, session, earned))
         }
+    }
+}
+
+// The session that was started, or the end where none was.
+fn session_of(answer: &Answer) -> Result<Session, End>
+    ensures started { IfOk result (λ session. start_heard answer.now ≡ Moving session 1 None 0) }
+    ensures ends { IfErr result (λ end. start_heard answer.now ≡ StandsOver end) }
+{
+    match answer {
+        Answer::Done(Reply::StartAuthSession { session, nonce }, _) => Ok(Session {
+            handle: *session,
+            nonce: *nonce,
+        }),
+        Answer::Denied(rc) => Err(End::Denied {
+            at: Stage::Start,
+            rc: *rc,
+        }),
+        Answer::Done(..) | Answer::Malformed => Err(End::BadReply(Stage::Start)),
     }
 }

@@ -9,12 +9,12 @@ use crate::end::End;
 use crate::goal_use;
 use crate::next::{Next, Over};
 use crate::plan::Plan;
+use crate::sending::sent_bytes;
 use crate::session::Session;
 use crate::tickets::{HeldTicket, Tickets};
 use std::alloc::Global;
 use std::marker::Model;
 use tpol_base::{Blob, NoMemory};
-use tpol_wire::write_command;
 
 /// A run whose session has all moves of the path, before its use on the goal.
 #[derive(Drop)]
@@ -64,7 +64,7 @@ impl Ready {
         ensures sends { IfOk result (IsSent (sends self.now.plan self.now.standing)) }
     {
         let command = goal_use::command(alloc, &self.plan.lent(), &self.session, self.sent)?;
-        write_command(alloc, &command)
+        sent_bytes(alloc, command)
     }
 
     /// Goes on with the reply. With `NoMemory` the state comes back unchanged.

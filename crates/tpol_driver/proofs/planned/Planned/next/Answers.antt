@@ -8,7 +8,7 @@ use Rattle.tpol_wire.specs.Commands.{spelling}
 pub returns : goal.returns
 returns c = record {
   sends =
-      let P : Driving → Type 0 = λ d. IfOk c.write_command.result (IsSent (sends d.plan d.standing)) in
-      let Q : Command → Type 0 = λ command. IfOk c.write_command.result (λ bytes. bytes ≡ spelling command) in
-      subst P c.self.view_is (subst Q c.command-command.ensures c.write_command.ensures.spelling);
+      let P : Driving → Type 0 = λ d. IfOk c.sent_bytes.result (IsSent (sends d.plan d.standing)) in
+      let Q : Command → Type 0 = λ command. IfOk c.sent_bytes.result (λ bytes. bytes ≡ spelling command) in
+      subst P c.self.view_is (subst Q c.command-command.ensures c.sent_bytes.ensures);
 }
