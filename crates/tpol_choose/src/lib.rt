@@ -1,11 +1,11 @@
 //! The chooser: whether a client can go a path of a policy on a machine as a sight shows it, with what it is
 //! granted, and the first path that it can.
 //!
-//! The layers above use `choose`, `choose_with_memo`, for which the digests of the policy and of approved documents are
-//! kept, and `blocks`; `can` and `block_at` ask of one path. Their clauses cite `first_block`, the first thing that
-//! stands in the way of a path, and `chosen_path` over the list of all paths. In `specs/` a path is judged by the rules
-//! of `tpm_rules`, over its earlier moves as the facts of a session; the code keeps what they bind, merged, and makes no
-//! list of paths. Only `blocks` takes memory, for what it gives.
+//! The layers above use `choose_with_memo`, for which the digests of the policy and of approved documents are kept, and
+//! `blocks`. `choose` is the first with no digests kept; `can` and `block_at` ask of one path. Their clauses cite
+//! `first_block`, the first thing that stands in the way of a path, and `chosen_path` over the list of all paths. In
+//! `specs/` a path is judged by the rules of `tpm_rules`, over its earlier moves as the facts of a session; the code
+//! keeps what they bind, merged, and makes no list of paths. Only `blocks` takes memory, for what it gives.
 #![tactic(auto)]
 
 mod act;

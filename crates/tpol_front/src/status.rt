@@ -22,7 +22,7 @@ pub enum Status {
     BadPolicy,
     /// 7: a scene was refused.
     BadScene,
-    /// 8: memory ran out; a first part of the report was written.
+    /// 8: memory ran out; nothing was written.
     NoMemory,
     /// 9: a policy has too many paths, or one that is too long.
     PathLimit,

@@ -235,7 +235,8 @@ fn check_scene(
     Ok(directory(alloc, &prepared.setup)?)
 }
 
-// The same of the policies that a script begins, by how its runs are driven.
+// Nothing, or the end of the run at the first policy that a script begins and whose paths are too many or too long
+// for the way in which its runs are driven.
 fn check_begun(
     alloc: Global,
     way: Way,
@@ -257,7 +258,7 @@ fn check_begun(
     }
 }
 
-// The same of the policies of entities.
+// Nothing, or the end of the run at the first policy of an entity that has too many paths, or one that is too long.
 #[tactic(auto, using(crate::proofs::Walkable::walkable), unfolding(tpol_steps::specs::Limits::limits_step))]
 fn check_entities(
     alloc: Global,

@@ -2,7 +2,7 @@
 //!
 //! `Store::load` reads a shelf's documents, `Store::approvals` lists those that a key or an index approves,
 //! `Store::compiled_approvals` the same with their digests, and `put_policy` puts a policy's canonical text on the
-//! shelf. `Grants` and `Goal`, what a client may use and what it wants, are those of tpol_goal.
+//! shelf.
 #![tactic(auto)]
 
 mod approvals;
@@ -18,4 +18,3 @@ pub use fault::StoreFault;
 pub use load::MAX_DOCUMENTS;
 pub use put::put_policy;
 pub use store::{Store, StoredPolicy};
-pub use tpol_goal::{Goal, Grants};
