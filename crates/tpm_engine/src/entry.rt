@@ -3,13 +3,11 @@ use tpm_rules::Outcome;
 /// What a journal keeps of an event, beside bytes.
 #[derive(Clone, Copy)]
 pub enum Entry {
-    /// A command. Among the journal's bytes its own begin at `start`, and those of its reply come behind them; each
-    /// has a length.
+    /// A command, and the indices of its bytes and of its reply among those that the journal keeps.
     Command {
         locality: u8,
         client: u32,
         outcome: Outcome,
-        start: usize,
         buffer: usize,
         reply: usize,
     },

@@ -10,6 +10,7 @@ use std::alloc::Global;
 use std::marker::Model;
 use tpm_rules::Outcome;
 use tpol_base::NoMemory;
+use tpol_texts::Texts;
 
 /// All events of a machine; contracts see them newest first, and how many more have room.
 ///
@@ -17,7 +18,8 @@ use tpol_base::NoMemory;
 #[derive(Drop)]
 pub struct Journal {
     entries: Vec<Entry>,
-    bytes: Vec<u8>,
+    commands: Texts,
+    replies: Texts,
 }
 
 impl Model for Journal {
@@ -39,7 +41,8 @@ impl Journal {
     {
         Journal {
             entries: Vec::new(alloc),
-            bytes: Vec::new(alloc),
+            commands: Texts::new(alloc),
+            replies: Texts::new(alloc),
         }
     }
 
@@ -48,7 +51,7 @@ impl Journal {
         ensures event { option_map event_seen result ≡ slice_get (reverse self.now.events) index }
     {
         let entry = self.entries.get(index)?;
-        Some(view_of(self.bytes.as_slice(), *entry))
+        Some(view_of(&self.commands, &self.replies, *entry))
     }
 
     /// How many events there are.
@@ -98,19 +101,16 @@ impl Journal {
         ensures err { OnErr result (self.new.events ≡ self.old.events) }
         ensures spare { OnErr result (self.old.spare ≤ self.new.spare) }
     {
-        let entry = Entry::Command {
+        self.entries.reserve(1)?;
+        let buffer = self.commands.keep(buffer)?;
+        let reply = self.replies.keep(reply)?;
+        self.entries.push_reserved(Entry::Command {
             locality,
             client,
             outcome,
-            start: self.bytes.len(),
-            buffer: buffer.len(),
-            reply: reply.len(),
-        };
-        self.entries.reserve(1)?;
-        self.bytes.reserve(buffer.len() + reply.len())?;
-        self.bytes.extend_from_slice(buffer)?;
-        self.bytes.extend_from_slice(reply)?;
-        self.entries.push_reserved(entry);
+            buffer,
+            reply,
+        });
         Ok(())
     }
 
@@ -125,7 +125,7 @@ impl Journal {
 }
 
 // The event of an entry, over the bytes of its journal.
-fn view_of(bytes: &[u8], entry: Entry) -> EventView<'_>
+fn view_of<'a>(commands: &'a Texts, replies: &'a Texts, entry: Entry) -> EventView<'a>
     requires within { LiesWithin (length bytes.now) entry }
     ensures event { event_seen result ≡ event_kept bytes.now entry }
 {
@@ -134,20 +134,15 @@ fn view_of(bytes: &[u8], entry: Entry) -> EventView<'_>
             locality,
             client,
             outcome,
-            start,
             buffer,
             reply,
-        } => {
-            let middle = start + buffer;
-            let end = middle + reply;
-            EventView::Command {
-                client,
-                locality,
-                buffer: &bytes[start..middle],
-                reply: &bytes[middle..end],
-                outcome,
-            }
-        }
+        } => EventView::Command {
+            client,
+            locality,
+            buffer: commands.get(buffer),
+            reply: replies.get(reply),
+            outcome,
+        },
         Entry::Change(Change::Time(ms)) => EventView::Time(ms),
         Entry::Change(Change::Presence(on)) => EventView::Presence(on),
         Entry::Change(Change::Reset) => EventView::Reset,

@@ -34,10 +34,23 @@ fn print_lines<K: Sink>(out: &mut K, lines: &Lines) -> Result<(), Failed>
     ensures quiet { OnOk result (K.faults out.new ≡ K.faults out.old) }
 {
     for index in 0..lines.len() {
-        match out.write(lines.line(index)) {
-            Ok(()) => {}
-            Err(failed) => return Err(failed),
-        }
+        let (head, tail) = lines.parts(index);
+        print_line(out, head, tail)?;
     }
     Ok(())
+}
+
+// Writes a line, in one write where it has no tail.
+fn print_line<K: Sink>(out: &mut K, head: &[u8], tail: &[u8]) -> Result<(), Failed>
+    ensures written { MatchResult result
+        (λ _. Grows (K.contents out.old) (K.contents out.new) (head.now ++ tail.now))
+        (λ _. GrowsInPart (K.contents out.old) (K.contents out.new) (head.now ++ tail.now)) }
+    ensures cause { HasCause (K.faults out.old) (K.faults out.new) result }
+    ensures quiet { OnOk result (K.faults out.new ≡ K.faults out.old) }
+{
+    out.write(head)?;
+    if tail.is_empty() {
+        return Ok(());
+    }
+    out.write(tail)
 }

@@ -3,31 +3,31 @@
 ghost use Rattle.std.specs.Prelude.{◌≡◌, ◌+◌, ◌++◌, ◌≤◌, IfOk, length};
 ghost use Rattle.tpol_lines.specs.Events.{check_word, class_text, command_line, denial_word, presence_line, reset_line, switch_word, time_line};
 
-use crate::hexadecimal::push_hexadecimal;
+use crate::lines::Lines;
 use crate::piece::Piece;
+use itoa::Buffer;
 use std::alloc::Global;
 use tpm_rules::{Denial, Outcome};
-use tpol_base::{Blob, Check, NoMemory, Text};
+use tpol_base::{Check, NoMemory, Text};
 
-// Room for all of a command's line, and its line end, but its reply.
-const ROOM_BESIDE_REPLY: usize = 112;
-
-/// The line of a command: the number of its event, the client that sent it and from which locality, the
-/// codes of the command and of the reply, what became of it, and the reply. It fails only where memory ran out.
+/// Adds the line of a command: the number of its event, the client that sent it and from which locality, the
+/// codes of the command and of the reply, what became of it, and the reply. It fails only where memory ran out,
+/// and the lines are then as before.
 ///
 /// A code has eight hexadecimal digits, those of bytes 7 to 10 of the command or of the reply, whatever they
 /// say; where there are fewer than 10 bytes, dashes stand in its place.
-pub fn command_line(
-    alloc: Global,
+pub fn push_command_line(
+    lines: &mut Lines,
     event: u32,
     client: u32,
     locality: u8,
     buffer: &[u8],
     reply: &[u8],
     outcome: &Outcome,
-) -> Result<Blob, NoMemory>
-    ensures { IfOk result (λ line. line
-        ≡ command_line event client locality buffer.now reply.now outcome.now) }
+) -> Result<(), NoMemory>
+    ensures ok { OnOk result (lines.new ≡ lines.old
+        ++ line_of (command_line event client locality buffer.now reply.now outcome.now) ∷ []) }
+    ensures err { OnErr result (lines.new ≡ lines.old) }
 {
     let mut piece = Piece::new();
     piece.prepend(b" reply ");
@@ -41,15 +41,9 @@ pub fn command_line(
     piece.prepend(b" locality ");
     piece.prepend_decimal(client);
     piece.prepend(b" client ");
-    piece.prepend_decimal(event);
-    let room = reply
-        .len()
-        .saturating_mul(2)
-        .saturating_add(ROOM_BESIDE_REPLY);
-    let mut line = Vec::with_capacity(alloc, room)?;
-    line.extend_from_slice(piece.as_slice())?;
-    push_hexadecimal(&mut line, reply)?;
-    Ok(Blob::from_vec(line))
+    let mut digits = Buffer::new();
+    let number = digits.format(u64::from(event));
+    lines.push_numbered(number.as_bytes(), piece.as_slice(), reply)
 }
 
 // Sets what became of a command before what is there.

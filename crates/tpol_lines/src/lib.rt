@@ -29,7 +29,7 @@ mod tried;
 pub use blocks::block_line;
 pub use certificates::{certificate_line, certified_line};
 pub use dead_paths::{dead_line_at, lint_line};
-pub use events::{command_line, presence_line, reset_line, time_line};
+pub use events::{presence_line, push_command_line, reset_line, time_line};
 pub use generated::{command_count_line, generated_line, path_count_line};
 pub use kinds::assertion_kind;
 pub use lines::Lines;

@@ -1,29 +1,38 @@
-ghost use Rattle.std.specs.Prelude.{◌≡◌, ◌∷◌, ◌++◌, ◌<◌, ◌≤◌, [], length, slice_index_or, slice_range, take, IfOk, OnErr, OnOk};
+ghost use Rattle.std.specs.Prelude.{◌≡◌, ◌∷◌, ◌++◌, ◌<◌, ◌≤◌, [], length, slice_index_or, slice_range, IfOk, OnErr, OnOk};
 ghost use Rattle.std.specs.List.{flat_map};
+ghost use Rattle.hex.specs.Hex.{encode_lower};
 ghost use Rattle.tpol_lines.specs.Lines.{line_of};
 
+use crate::hexadecimal::push_hexadecimal;
 use std::alloc::Global;
 use std::marker::Model;
 use tpol_base::{Blob, NoMemory};
+use tpol_texts::Texts;
 
-/// Lines that are printed, behind one another in one buffer. Contracts see the list of the lines, each a list
-/// of bytes with its line end.
+/// Lines that are printed. Contracts see the list of the lines, each a list of bytes with its line end.
+///
+/// The line of a command differs from the one before by its number alone where the same command had the same
+/// reply. So what stands behind the number is kept once for such lines: each line is a head, and a tail that
+/// others may share.
 #[derive(Drop)]
 pub struct Lines {
-    bytes: Vec<u8>,
-    // Where each line ends.
-    ends: Vec<usize>,
+    heads: Texts,
+    tails: Texts,
+    // For each line the number of its tail, counted from 1; 0 where it has none.
+    tail_numbers: Vec<usize>,
+    // Room for a tail that is made.
+    room: Vec<u8>,
 }
 
 impl Model for Lines {
-    ghost use Rattle.std.specs.Prelude.{List, ℕ, length};
-    ghost use Rattle.tpol_lines.specs.Buffer.{AreEnds, cut};
+    ghost use Rattle.std.specs.Prelude.{List, ℕ, ◌≡◌, ◌×◌, All, ◌≤◌, length};
+    ghost use Rattle.tpol_lines.specs.Whole.{whole_lines};
 
     ghost Value = { List (List ℕ) };
 
-    ghost view = { λ l. cut 0 l.ends.items l.bytes.items };
+    ghost view = { λ l. whole_lines l.tails l.tail_numbers.items l.heads };
 
-    ghost invariant = { λ l. AreEnds 0 l.ends.items (length l.bytes.items) };
+    ghost invariant = { λ l. (length l.tail_numbers.items ≡ length l.heads) × All (λ n. n ≤ length l.tails) l.tail_numbers.items };
 }
 
 impl Lines {
@@ -32,8 +41,10 @@ impl Lines {
         ensures { result ≡ [] }
     {
         Lines {
-            bytes: Vec::new(alloc),
-            ends: Vec::new(alloc),
+            heads: Texts::new(alloc),
+            tails: Texts::new(alloc),
+            tail_numbers: Vec::new(alloc),
+            room: Vec::new(alloc),
         }
     }
 
@@ -43,26 +54,41 @@ impl Lines {
     {
         let mut bytes = line.into_vec();
         bytes.push(b'\n')?;
-        let mut ends = Vec::new(alloc);
-        ends.push(bytes.len())?;
-        Ok(Lines { bytes, ends })
+        Lines::of_texts(alloc, Texts::of_bytes(alloc, bytes)?)
+    }
+
+    /// Lines that are these texts; they are not copied.
+    pub(crate) fn of_texts(alloc: Global, texts: Texts) -> Result<Lines, NoMemory>
+        ensures { IfOk result (λ lines. lines ≡ texts) }
+    {
+        let mut tail_numbers = Vec::new(alloc);
+        tail_numbers.resize(texts.len(), 0)?;
+        Ok(Lines {
+            heads: texts,
+            tails: Texts::new(alloc),
+            tail_numbers,
+            room: Vec::new(alloc),
+        })
     }
 
     /// The number of lines.
     pub fn len(&self) -> usize
         ensures { result ≡ length self.now }
     {
-        self.ends.len()
+        self.heads.len()
     }
 
-    /// The line at `index`, counted from 0.
-    pub fn line(&self, index: usize) -> &[u8]
+    /// The line at `index`, counted from 0, in two parts.
+    pub fn parts(&self, index: usize) -> (&[u8], &[u8])
         requires { index < length self.now }
-        ensures { result.now ≡ slice_index_or self.now index result.now }
+        ensures { result.0.now ++ result.1.now
+            ≡ slice_index_or self.now index (result.0.now ++ result.1.now) }
     {
-        let start = start_of(self.ends.as_slice(), index);
-        let end = self.ends[index];
-        &self.bytes[start..end]
+        let tail = match self.tail_numbers[index].checked_sub(1) {
+            None => &[],
+            Some(place) => self.tails.get(place),
+        };
+        (self.heads.get(index), tail)
     }
 
     /// Adds a line with its line end. After `NoMemory` the lines are as before.
@@ -81,32 +107,37 @@ impl Lines {
         self.push_pieces(&[line, b"\n"])
     }
 
-    /// Adds a line that is these bytes alone. After `NoMemory` the lines are as before.
-    pub fn push(&mut self, line: &[u8]) -> Result<(), NoMemory>
-        ensures ok { OnOk result (self.new ≡ self.old ++ line.now ∷ []) }
-        ensures err { OnErr result (self.new ≡ self.old) }
-    {
-        self.push_pieces(&[line])
-    }
-
     /// Adds a line that is these pieces behind one another. After `NoMemory` the lines are as before.
     pub fn push_pieces(&mut self, pieces: &[&[u8]]) -> Result<(), NoMemory>
         ensures ok { OnOk result (self.new
             ≡ self.old ++ flat_map (λ piece. piece.now) pieces.now ∷ []) }
         ensures err { OnErr result (self.new ≡ self.old) }
     {
-        self.ends.reserve(1)?;
-        let kept = self.bytes.len();
-        for piece in pieces {
-            match self.bytes.extend_from_slice(piece) {
-                Ok(()) => {}
-                Err(_) => {
-                    self.bytes.truncate(kept);
-                    return Err(NoMemory);
-                }
-            }
-        }
-        self.ends.push_reserved(self.bytes.len());
+        self.tail_numbers.reserve(1)?;
+        self.heads.push_pieces(pieces)?;
+        self.tail_numbers.push_reserved(0);
+        Ok(())
+    }
+
+    /// Adds the line of a number, of bytes behind it and of the digits of a reply, with its line end. What stands
+    /// behind the number is kept once where the last such line has the same. After `NoMemory` the lines are as
+    /// before.
+    pub(crate) fn push_numbered(
+        &mut self,
+        number: &[u8],
+        behind: &[u8],
+        reply: &[u8],
+    ) -> Result<(), NoMemory>
+        ensures ok { OnOk result (self.new
+            ≡ self.old ++ line_of (number.now ++ behind.now ++ encode_lower reply.now) ∷ []) }
+        ensures err { OnErr result (self.new ≡ self.old) }
+    {
+        self.tail_numbers.reserve(1)?;
+        self.room.clear();
+        push_tail(&mut self.room, behind, reply)?;
+        let index = self.tails.keep(self.room.as_slice())?;
+        self.heads.push(number)?;
+        self.tail_numbers.push_reserved(index + 1);
         Ok(())
     }
 
@@ -120,7 +151,8 @@ impl Lines {
     {
         let kept = self.len();
         for index in start..end {
-            match self.push(others.line(index)) {
+            let (head, tail) = others.parts(index);
+            match self.push_pieces(&[head, tail]) {
                 Ok(()) => {}
                 Err(NoMemory) => {
                     self.truncate(kept);
@@ -136,19 +168,18 @@ impl Lines {
         requires { count ≤ length self.old }
         ensures { self.new ≡ take count self.old }
     {
-        let end = start_of(self.ends.as_slice(), count);
-        self.bytes.truncate(end);
-        self.ends.truncate(count);
+        self.heads.truncate(count);
+        self.tail_numbers.truncate(count);
     }
 }
 
-// Where the line at an index starts: at the end of the one before it.
-fn start_of(ends: &[usize], index: usize) -> usize
-    requires { index ≤ length ends.now }
-    ensures { result ≡ slice_index_or (0 ∷ ends.now) index result }
+// Adds what stands behind a line's number: these bytes, the digits of a reply and the line end.
+fn push_tail(tail: &mut Vec<u8>, behind: &[u8], reply: &[u8]) -> Result<(), NoMemory>
+    ensures { OnOk result (tail.new.items
+        ≡ tail.old.items ++ line_of (behind.now ++ encode_lower reply.now)) }
 {
-    match index.checked_sub(1) {
-        None => 0,
-        Some(before) => ends[before],
-    }
+    tail.extend_from_slice(behind)?;
+    push_hexadecimal(tail, reply)?;
+    tail.push(b'\n')?;
+    Ok(())
 }

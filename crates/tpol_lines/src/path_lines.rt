@@ -11,6 +11,7 @@ use crate::pen::{Form, Pen};
 use std::alloc::Global;
 use tpol_base::NoMemory;
 use tpol_digest::{MAX_LEVELS, accepts};
+use tpol_texts::Texts;
 use tpol_tree::{Approvals, ApprovedDoc, Closed, ClosedBranches, ClosedElement, ClosedElements};
 
 // What the walk goes through besides the policy: the approved documents; and what it writes of each path.
@@ -39,12 +40,12 @@ enum Ahead<'a> {
 pub fn write_paths(alloc: Global, policy: &Closed, approvals: &Approvals) -> Result<Lines, NoMemory>
     ensures { IfOk result (λ lines. lines ≡ path_lines 1 (paths_of policy.now approvals.now)) }
 {
-    write_ways(alloc, Form::Line, policy, approvals)
+    Lines::of_texts(alloc, write_ways(alloc, Form::Line, policy, approvals)?)
 }
 
 /// The choices of each path of a policy, in the order of the paths, as `label` gives them; no path is made. It
 /// fails only where memory ran out.
-pub fn labels(alloc: Global, policy: &Closed, approvals: &Approvals) -> Result<Lines, NoMemory>
+pub fn labels(alloc: Global, policy: &Closed, approvals: &Approvals) -> Result<Texts, NoMemory>
     ensures { IfOk result (λ labels. labels
         ≡ map (λ path. label path.steps) (paths_of policy.now approvals.now)) }
 {
@@ -57,7 +58,7 @@ fn write_ways(
     form: Form,
     policy: &Closed,
     approvals: &Approvals,
-) -> Result<Lines, NoMemory>
+) -> Result<Texts, NoMemory>
     ensures { IfOk result (λ lines. lines
         ≡ texts.lines_behind form 1 texts.no_text
         (map texts.texts_of (paths_of policy.now approvals.now))) }

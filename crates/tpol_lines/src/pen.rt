@@ -3,11 +3,11 @@ ghost use Rattle.json.specs.Print.{quoted};
 ghost use Rattle.tpol_lines.specs.Lines.{line_of};
 ghost use Rattle.tpol_lines.specs.Pen.{behind_separator, line_behind, written};
 
-use crate::lines::Lines;
 use crate::names::push_name;
 use itoa::Buffer;
 use std::alloc::Global;
 use tpol_base::NoMemory;
+use tpol_texts::Texts;
 
 // What is written of a path that is whole.
 #[derive(Clone, Copy)]
@@ -22,7 +22,7 @@ pub enum Form {
 // commands so far.
 #[derive(Drop)]
 pub struct Pen {
-    pub lines: Lines,
+    pub lines: Texts,
     // Each choice behind a `/`.
     pub choices: Vec<u8>,
     // Each kind behind a `,`.
@@ -37,7 +37,7 @@ impl Pen {
         ensures kinds { result.kinds.items ≡ [] }
     {
         Pen {
-            lines: Lines::new(alloc),
+            lines: Texts::new(alloc),
             choices: Vec::new(alloc),
             kinds: Vec::new(alloc),
         }
@@ -121,7 +121,7 @@ impl Pen {
 
 // Adds the line of a path at this position, with these choices and kinds.
 fn push_path<'a>(
-    lines: &mut Lines,
+    lines: &mut Texts,
     position: &'a [u8],
     choices: &'a [u8],
     kinds: &'a [u8],

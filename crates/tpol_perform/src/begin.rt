@@ -26,11 +26,12 @@ use tpol_base::{ExactClone, NoMemory};
 use tpol_choose::{Block, blocks, choose_with_memo};
 use tpol_digest::path_at_with_memo;
 use tpol_driver::{Plan, Tickets};
-use tpol_lines::{Lines, block_line, chosen_line, labels, nobranch_line};
+use tpol_lines::{block_line, chosen_line, labels, nobranch_line};
 use tpol_name::Sight;
 use tpol_prepare::{Scenario, Way};
 use tpol_steps::CompiledDocument;
 use tpol_store::CompiledApprovals;
+use tpol_texts::Texts;
 use tpol_tree::Path;
 
 impl Performance {
@@ -339,7 +340,7 @@ impl Performance {
     fn print_block_list(
         &mut self,
         alloc: Global,
-        labels: &Lines,
+        labels: &Texts,
         blocks: &[Option<Block>],
     ) -> Result<(), NoMemory>
         requires alike { length labels.now ≡ length blocks.now }
@@ -354,7 +355,7 @@ impl Performance {
     {
         for index in 0..blocks.len() {
             let position = index as u32 + 1;
-            self.print_block(alloc, position, labels.line(index), &blocks[index])?;
+            self.print_block(alloc, position, labels.get(index), &blocks[index])?;
         }
         Ok(())
     }

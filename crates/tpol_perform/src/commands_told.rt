@@ -15,7 +15,7 @@ use crate::performance::Performance;
 use std::alloc::Global;
 use tpm_engine::Executed;
 use tpol_base::{Blob, NoMemory};
-use tpol_lines::command_line;
+use tpol_lines::push_command_line;
 use tpol_prepare::Scenario;
 
 impl Performance {
@@ -96,7 +96,7 @@ impl Performance {
             → IfOk result (λ done. IfSome done.opened (MeetsPolicy entities)) }
     {
         let done = self.machine.execute(alloc, client, locality, buffer)?;
-        match self.print_command(alloc, client, locality, buffer, &done) {
+        match self.print_command(client, locality, buffer, &done) {
             Ok(()) => Ok(done),
             Err(NoMemory) => {
                 drop(done);
@@ -108,7 +108,6 @@ impl Performance {
     // The line of a command that was executed.
     fn print_command(
         &mut self,
-        alloc: Global,
         client: u32,
         locality: u8,
         buffer: &[u8],
@@ -118,16 +117,15 @@ impl Performance {
             ≡ with_line (command_line done.now.event client locality buffer.now done.now.reply
             done.now.outcome) self.old) }
     {
-        let line = command_line(
-            alloc,
+        push_command_line(
+            &mut self.lines,
             done.event,
             client,
             locality,
             buffer,
             done.reply.as_slice(),
             &done.outcome,
-        )?;
-        self.print_bytes(line.as_slice())
+        )
     }
 }
 

@@ -21,6 +21,7 @@ use tpol_name::Sight;
 use tpol_perform::NewRun;
 use tpol_steps::CompiledDocument;
 use tpol_store::CompiledApprovals;
+use tpol_texts::Texts;
 
 /// Adds a line for each path of a policy, in order, with what the machine shows. It fails only where memory ran out.
 pub fn push_paths(
@@ -68,7 +69,7 @@ pub fn push_paths(
 #[tactic(auto, using(crate::proofs::PathLines::paths_over))]
 fn push_list(
     alloc: Global,
-    labels: &Lines,
+    labels: &Texts,
     blocks: &[Option<Block>],
     lines: &mut Lines,
 ) -> Result<(), NoMemory>
@@ -81,7 +82,7 @@ fn push_list(
 {
     for index in 0..blocks.len() {
         let position = index as u32 + 1;
-        push_path(alloc, position, labels.line(index), &blocks[index], lines)?;
+        push_path(alloc, position, labels.get(index), &blocks[index], lines)?;
     }
     Ok(())
 }
