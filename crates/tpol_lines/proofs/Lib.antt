@@ -1,4 +1,3 @@
-pub mod Cuts
 pub mod LabelLaws
 pub mod Loads
 pub mod Numbers

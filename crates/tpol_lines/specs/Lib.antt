@@ -1,5 +1,4 @@
 pub mod BlockLine
-pub mod Buffer
 pub mod CertLine
 pub mod Events
 pub mod Generated

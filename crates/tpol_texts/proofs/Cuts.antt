@@ -1,9 +1,9 @@
 -- Bytes that are cut at ends.
-use Rattle.std.proofs.Common.{◌≡◌, ◌+◌, ◌-◌, ◌<◌, ◌≤◌, ◌++◌, ℕ, zero, suc, List, [], ◌∷◌, length, take, drop, get_or, refl, sym, ap, subst, ◌∙◌, arith, length-append, length-drop}
+use Rattle.std.proofs.Common.{◌≡◌, ◌+◌, ◌-◌, ◌<◌, ◌≤◌, ◌++◌, ℕ, zero, suc, List, [], ◌∷◌, Some, slice_get, length, take, drop, get_or, refl, sym, ap, subst, ◌∙◌, arith, length-append, length-drop}
 use Rattle.std.proofs.Math.Seq.{drop-append_seam}
 use Rattle.std.proofs.lemmas.List.{drop-append-le, length-take, take-append-drop, take-append-le, take_all, take_more, get_or-drop}
 use Rattle.std.specs.Prelude.{slice_range}
-use Rattle.tpol_lines.specs.Buffer.{AreEnds, cut}
+use Rattle.tpol_texts.specs.Buffer.{AreEnds, cut}
 
 pub start_within : (start : ℕ) (ends : List ℕ) (all : ℕ) → AreEnds start ends all → start ≤ all
 start_within start [] all h = omega (arith, h)
@@ -127,3 +127,9 @@ range_more lines start i line started within is =
     ap (λ n. take n (drop start lines)) next
     ∙ take_more (drop start lines) (i - start) line (omega (arith, started, within, length-drop start lines))
     ∙ ap (λ l. slice_range lines start i ++ l ∷ []) (get_or-drop start lines (i - start) line ∙ ap (λ n. get_or lines n line) here ∙ sym is)
+
+-- ---- a text that is the last one
+
+pub last_of : (texts : List (List ℕ)) (text : List ℕ) → slice_get (texts ++ text ∷ []) (length texts) ≡ Some text
+last_of [] text = refl
+last_of (first ∷ texts) text = last_of texts text

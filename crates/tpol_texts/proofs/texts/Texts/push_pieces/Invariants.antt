@@ -1,6 +1,6 @@
 use Rattle.std.proofs.Common.{◌≡◌, ◌++◌, take}
 use Rattle.std.specs.List.{flat_map}
-use Rattle.tpol_lines.proofs.lines.Lines.push_pieces.Given as goal
+use Rattle.tpol_texts.proofs.texts.Texts.push_pieces.Given as goal
 
 -- the pieces so far stand behind all lines
 abbrev pub invariant-loop-piece : goal.invariant-loop-piece

@@ -2,8 +2,8 @@ use Rattle.std.proofs.Common.{◌++◌, ◌∷◌, [], List, ℕ, Bor, ap, ◌�
 use Rattle.std.proofs.lemmas.List.{take_all}
 use Rattle.std.specs.List.{flat_map}
 use Rattle.std.specs.Prelude.{vec_items}
-use Rattle.tpol_lines.proofs.Cuts.{ends_added, line_added}
-use Rattle.tpol_lines.proofs.lines.Lines.push_pieces.Goals as goal
+use Rattle.tpol_texts.proofs.Cuts.{ends_added, line_added}
+use Rattle.tpol_texts.proofs.texts.Texts.push_pieces.Goals as goal
 
 abbrev joined : List (Bor (List ℕ)) → List ℕ
 joined pieces = flat_map (λ piece. piece.now) pieces

@@ -1,7 +1,7 @@
 use Rattle.std.proofs.Common.{◌∙◌, length, ap, arith}
 use Rattle.std.specs.Prelude.{slice_range}
-use Rattle.tpol_lines.proofs.Cuts.{bounds_read, length-cut, line_read}
-use Rattle.tpol_lines.proofs.lines.Lines.line.Goals as goal
+use Rattle.tpol_texts.proofs.Cuts.{bounds_read, length-cut, line_read}
+use Rattle.tpol_texts.proofs.texts.Texts.get.Goals as goal
 
 pub start_of-start-requires : goal.start_of-start-requires
 start_of-start-requires c =

@@ -1,6 +1,6 @@
 use Rattle.std.proofs.Common.{length, ap, arith}
-use Rattle.tpol_lines.proofs.Cuts.{ends_kept, length-cut, lines_kept}
-use Rattle.tpol_lines.proofs.lines.Lines.truncate.Goals as goal
+use Rattle.tpol_texts.proofs.Cuts.{ends_kept, length-cut, lines_kept}
+use Rattle.tpol_texts.proofs.texts.Texts.truncate.Goals as goal
 
 pub start_of-end-requires : goal.start_of-end-requires
 start_of-end-requires c =
