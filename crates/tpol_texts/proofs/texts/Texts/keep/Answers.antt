@@ -1,4 +1,4 @@
-use Rattle.std.proofs.Common.{◌≡◌, ◌∷◌, ◌++◌, [], ap, ◌∙◌, sym, slice_get, Some, arith}
+use Rattle.std.proofs.Common.{◌≡◌, ◌<◌, ◌∷◌, ◌++◌, [], ap, ◌∙◌, sym, slice_get, Some, arith}
 use Rattle.std.proofs.lemmas.Option.{slice_get_read}
 use Rattle.std.proofs.lemmas.Slice.Eq.{bytes_eq-Decides}
 use Rattle.tpol_texts.proofs.Cuts.{last_of}
@@ -8,7 +8,7 @@ pub returns-then-eq-clause-kept : goal.returns-then-eq-clause-kept
 returns-then-eq-clause-kept c =
     let last = c.get.result.now in
     let same : last ≡ c.args.text.now = (bytes_eq-Decides last c.args.text.now).0 (sym c.eq.ensures ∙ c.if-eq.true) in
-    let within = omega (arith, c.in-Some.ensures.0, c.in-Some.ensures.1) in
+    let within : c.in-Some.last < c.len.result = omega (arith, c.in-Some.ensures.0, c.in-Some.ensures.1) in
     slice_get_read c.args.self.now c.len.result c.in-Some.last last c.len.ensures within c.get.ensures
     ∙ ap Some same
 
