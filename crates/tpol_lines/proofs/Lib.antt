@@ -3,3 +3,4 @@ pub mod Loads
 pub mod Numbers
 pub mod PlainNames
 pub mod TextLaws
+pub mod WholeLines

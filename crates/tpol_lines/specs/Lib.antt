@@ -11,3 +11,4 @@ pub mod Pen
 pub mod Runs
 pub mod Texts
 pub mod TriedLine
+pub mod Whole

@@ -1,6 +1,7 @@
 // The lines of the events of a machine.
 
-ghost use Rattle.std.specs.Prelude.{◌≡◌, ◌+◌, ◌++◌, ◌≤◌, IfOk, length};
+ghost use Rattle.std.specs.Prelude.{◌≡◌, ◌+◌, ◌++◌, ◌∷◌, ◌≤◌, [], IfOk, OnErr, OnOk, length};
+ghost use Rattle.tpol_lines.specs.Lines.{line_of};
 ghost use Rattle.tpol_lines.specs.Events.{check_word, class_text, command_line, denial_word, presence_line, reset_line, switch_word, time_line};
 
 use crate::lines::Lines;

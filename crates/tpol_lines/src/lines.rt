@@ -1,4 +1,4 @@
-ghost use Rattle.std.specs.Prelude.{◌≡◌, ◌∷◌, ◌++◌, ◌<◌, ◌≤◌, [], length, slice_index_or, slice_range, IfOk, OnErr, OnOk};
+ghost use Rattle.std.specs.Prelude.{◌≡◌, ◌∷◌, ◌++◌, ◌<◌, ◌≤◌, [], length, slice_index_or, slice_range, take, IfOk, OnErr, OnOk};
 ghost use Rattle.std.specs.List.{flat_map};
 ghost use Rattle.hex.specs.Hex.{encode_lower};
 ghost use Rattle.tpol_lines.specs.Lines.{line_of};
@@ -25,14 +25,14 @@ pub struct Lines {
 }
 
 impl Model for Lines {
-    ghost use Rattle.std.specs.Prelude.{List, ℕ, ◌≡◌, ◌×◌, All, ◌≤◌, length};
-    ghost use Rattle.tpol_lines.specs.Whole.{whole_lines};
+    ghost use Rattle.std.specs.Prelude.{List, ℕ};
+    ghost use Rattle.tpol_lines.specs.Whole.{HaveTails, whole_lines};
 
     ghost Value = { List (List ℕ) };
 
     ghost view = { λ l. whole_lines l.tails l.tail_numbers.items l.heads };
 
-    ghost invariant = { λ l. (length l.tail_numbers.items ≡ length l.heads) × All (λ n. n ≤ length l.tails) l.tail_numbers.items };
+    ghost invariant = { λ l. HaveTails l.tails l.tail_numbers.items l.heads };
 }
 
 impl Lines {
@@ -135,9 +135,9 @@ impl Lines {
         self.tail_numbers.reserve(1)?;
         self.room.clear();
         push_tail(&mut self.room, behind, reply)?;
-        let index = self.tails.keep(self.room.as_slice())?;
+        self.tails.keep(self.room.as_slice())?;
         self.heads.push(number)?;
-        self.tail_numbers.push_reserved(index + 1);
+        self.tail_numbers.push_reserved(self.tails.len());
         Ok(())
     }
 

@@ -118,16 +118,6 @@ module _ (ends lent bytes new_ends new_bytes : List ℕ) (lines : List (List ℕ
       ∙ cut_first 0 ends bytes n stop h within_ends stops_there
       ∙ ap (take n) view
 
--- ---- lines of others
-
-pub range_more : (lines : List (List ℕ)) (start i : ℕ) (line : List ℕ) → start ≤ i → i < length lines → line ≡ get_or lines i line → slice_range lines start (i + 1) ≡ slice_range lines start i ++ line ∷ []
-range_more lines start i line started within is =
-    let here : start + (i - start) ≡ i = omega (arith, started) in
-    let next : i + 1 - start ≡ (i - start) + 1 = omega (arith, started) in
-    ap (λ n. take n (drop start lines)) next
-    ∙ take_more (drop start lines) (i - start) line (omega (arith, started, within, length-drop start lines))
-    ∙ ap (λ l. slice_range lines start i ++ l ∷ []) (get_or-drop start lines (i - start) line ∙ ap (λ n. get_or lines n line) here ∙ sym is)
-
 -- ---- a text that is the last one
 
 pub last_of : (texts : List (List ℕ)) (text : List ℕ) → slice_get (texts ++ text ∷ []) (length texts) ≡ Some text

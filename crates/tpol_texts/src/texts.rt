@@ -1,4 +1,4 @@
-ghost use Rattle.std.specs.Prelude.{◌≡◌, ◌∷◌, ◌++◌, ◌<◌, ◌≤◌, ◌-◌, ◌⊎◌, [], Some, length, slice_get, slice_index_or, take, IfOk, OnErr, OnOk};
+ghost use Rattle.std.specs.Prelude.{◌≡◌, ◌∷◌, ◌++◌, ◌<◌, ◌≤◌, ◌+◌, ◌⊎◌, [], Some, length, slice_get, slice_index_or, take, IfOk, OnErr, OnOk};
 ghost use Rattle.std.specs.List.{flat_map};
 
 use std::alloc::Global;
@@ -94,6 +94,7 @@ impl Texts {
     /// After `NoMemory` the texts are as before.
     pub fn keep(&mut self, text: &[u8]) -> Result<usize, NoMemory>
         ensures kept { IfOk result (λ index. slice_get self.new index ≡ Some text.now) }
+        ensures last { IfOk result (λ index. index + 1 ≡ length self.new) }
         ensures texts { OnOk result ((self.new ≡ self.old) ⊎ (self.new ≡ self.old ++ text.now ∷ [])) }
         ensures err { OnErr result (self.new ≡ self.old) }
     {
