@@ -1,3 +1,4 @@
+pub mod CommandLines
 pub mod LabelLaws
 pub mod Loads
 pub mod Numbers

@@ -129,7 +129,7 @@ impl Lines {
         reply: &[u8],
     ) -> Result<(), NoMemory>
         ensures ok { OnOk result (self.new
-            ≡ self.old ++ line_of (number.now ++ behind.now ++ encode_lower reply.now) ∷ []) }
+            ≡ self.old ++ line_of (number.now ++ (behind.now ++ encode_lower reply.now)) ∷ []) }
         ensures err { OnErr result (self.new ≡ self.old) }
     {
         self.tail_numbers.reserve(1)?;
