@@ -1,10 +1,11 @@
--- The events that a journal keeps among its bytes, also where more bytes come behind them.
-use Rattle.std.proofs.Common.{◌≡◌, ℕ, ◌≤◌, ◌+◌, ◌-◌, List, [], ◌∷◌, ◌++◌, length, map, reverse, slice_get, take, drop, Some, refl, ap, sym, ◌∙◌, arith}
-use Rattle.std.specs.List.{All, slice_range}
+-- The events that a journal keeps by its texts, also where more texts come behind them.
+use Rattle.std.proofs.Common.{◌≡◌, ℕ, ◌<◌, ◌≤◌, ◌⊎◌, inl, inr, List, [], ◌∷◌, ◌++◌, length, map, reverse, get_or, slice_get, Some, refl, ap, sym, ◌∙◌, arith}
+use Rattle.std.specs.List.{All}
 use Rattle.std.specs.Option.{option_map}
-use Rattle.std.proofs.lemmas.List.{append_assoc, drop-append-le, drop_at, length-append, length-drop, map-append, reverse-append, reverse-reverse, take-append-le, take_all}
-use Rattle.std.proofs.lemmas.List.Elements.{All-head, All-tail}
-use Rattle.std.proofs.lemmas.Option.{slice_get-map}
+use Rattle.std.proofs.Math.ListN.{get_or-append}
+use Rattle.std.proofs.lemmas.List.{append-nil, length-append, map-append, reverse-append, reverse-reverse}
+use Rattle.std.proofs.lemmas.List.Elements.{All-head, All-push, All-same, All-tail, All-weaker}
+use Rattle.std.proofs.lemmas.Option.{get_or_from_slice_get, slice_get-map, slice_get_within}
 use Rattle.tpm_rules.specs.declared.outcome.Outcome.{Outcome}
 use Rattle.tpm_engine.specs.declared.entry.Entry.{Entry}
 use Rattle.tpm_engine.specs.declared.entry.Entry.TheVariants as entries
@@ -12,71 +13,92 @@ use Rattle.tpm_engine.specs.declared.event.Event.{Event}
 use Rattle.tpm_engine.specs.declared.event.Event.TheVariants as events
 use Rattle.tpm_engine.specs.Journals.{LiesWithin, event_kept}
 
--- ---- a range of a list's front, and ranges at its end
+-- ---- texts behind which others may have come
 
-front-range : (xs ys : List ℕ) (a b : ℕ) → a ≤ b → b ≤ length xs → slice_range (xs ++ ys) a b ≡ slice_range xs a b
-front-range xs ys a b low high =
-    ap (take (b - a)) (drop-append-le a xs ys (grind (arith, low, high)))
-    ∙ take-append-le (b - a) (drop a xs) ys (grind (arith, length-drop a xs, low, high))
+-- the later texts begin with the earlier ones
+abbrev pub Begin : List (List ℕ) → List (List ℕ) → Type 0
+Begin texts later = (more : List (List ℕ)) × (later ≡ texts ++ more)
 
-end-range : (xs ys : List ℕ) (start : ℕ) → start ≡ length xs → slice_range (xs ++ ys) start (start + length ys) ≡ ys
-end-range xs ys start at =
-    ap (take (start + length ys - start)) (drop_at xs ys start (sym at))
-    ∙ take_all (start + length ys - start) ys (grind arith)
+pub unchanged : (texts later : List (List ℕ)) → later ≡ texts → Begin texts later
+unchanged texts later same = ([], same ∙ sym (append-nil texts))
 
-middle-range : (xs ys zs : List ℕ) (start : ℕ) → start ≡ length xs → slice_range ((xs ++ ys) ++ zs) start (start + length ys) ≡ ys
-middle-range xs ys zs start at =
-    front-range (xs ++ ys) zs start (start + length ys) (grind arith) (grind (arith, length-append xs ys, at))
-    ∙ end-range xs ys start at
+-- a text was kept
+pub begin : (texts later : List (List ℕ)) (text : List ℕ) → (later ≡ texts) ⊎ (later ≡ texts ++ text ∷ []) → Begin texts later
+begin texts later text (inl same) = unchanged texts later same
+begin texts later text (inr longer) = (text ∷ [], longer)
 
--- ---- with more bytes each entry keeps its event
+same-text : (texts later : List (List ℕ)) (index : ℕ) → Begin texts later → index < length texts → get_or later index [] ≡ get_or texts index []
+same-text texts later index begins within =
+    ap (λ (l : List (List ℕ)). get_or l index []) begins.1 ∙ get_or-append texts begins.0 [] index within
 
-same-kept : (bytes more : List ℕ) (entry : Entry) → LiesWithin (length bytes) entry → event_kept (bytes ++ more) entry ≡ event_kept bytes entry
-same-kept bytes more (entries.Command locality client outcome start buffer reply) within =
-    ap (λ range. events.Command client locality range (slice_range (bytes ++ more) (start + buffer) (start + buffer + reply)) outcome)
-    (front-range bytes more start (start + buffer) (grind arith) (grind (arith, within)))
-    ∙ ap (λ range. events.Command client locality (slice_range bytes start (start + buffer)) range outcome)
-    (front-range bytes more (start + buffer) (start + buffer + reply) (grind arith) within)
-same-kept bytes more (entries.Change change) within = refl
+no-fewer : (texts later : List (List ℕ)) → Begin texts later → length texts ≤ length later
+no-fewer texts later begins = omega (arith, ap length begins.1, length-append texts begins.0)
 
-all-kept : (bytes more : List ℕ) (kept : List Entry) → All (LiesWithin (length bytes)) kept → map (event_kept (bytes ++ more)) kept ≡ map (event_kept bytes) kept
-all-kept bytes more [] within = refl
-all-kept bytes more (entry ∷ kept) within =
-    ap (λ event. event ∷ map (event_kept (bytes ++ more)) kept) (same-kept bytes more entry (All-head (LiesWithin (length bytes)) entry kept within))
-    ∙ ap (λ rest. event_kept bytes entry ∷ rest) (all-kept bytes more kept (All-tail (LiesWithin (length bytes)) entry kept within))
+-- ---- each entry keeps its event
 
--- ---- a command more
+module _ (commands replies later_commands later_replies : List (List ℕ)) (first : Begin commands later_commands) (second : Begin replies later_replies) where
+  abbrev Before : Entry → Type 0
+  Before = LiesWithin (length commands) (length replies)
 
-module _ (bytes buffer reply : List ℕ) (client locality : ℕ) (outcome : Outcome) where
-  event-pushed : (start : ℕ) → start ≡ length bytes
-      → event_kept ((bytes ++ buffer) ++ reply) (entries.Command locality client outcome start (length buffer) (length reply)) ≡ events.Command client locality buffer reply outcome
-  event-pushed start at =
-      let behind = start + length buffer in
-      ap (λ range. events.Command client locality range (slice_range ((bytes ++ buffer) ++ reply) behind (behind + length reply)) outcome)
-      (middle-range bytes buffer reply start at)
-      ∙ ap (λ range. events.Command client locality buffer range outcome)
-      (end-range (bytes ++ buffer) reply behind (ap (λ n. n + length buffer) at ∙ sym (length-append bytes buffer)))
+  abbrev Later : Entry → Type 0
+  Later = LiesWithin (length later_commands) (length later_replies)
 
-  pub command-pushed : (kept later : List Entry) (all : List ℕ) (entry : Entry) (start : ℕ) → All (LiesWithin (length bytes)) kept → start ≡ length bytes
-      → entry ≡ entries.Command locality client outcome start (length buffer) (length reply)
-      → all ≡ (bytes ++ buffer) ++ reply → later ≡ kept ++ entry ∷ []
-      → reverse (map (event_kept all) later) ≡ events.Command client locality buffer reply outcome ∷ reverse (map (event_kept bytes) kept)
-  command-pushed kept later all entry start within at entry-is bytes-are entries-are =
-      ap (λ l. reverse (map (event_kept all) l)) entries-are
-      ∙ (ap reverse (map-append (event_kept all) kept (entry ∷ []))
-      ∙ (reverse-append (map (event_kept all) kept) (event_kept all entry ∷ [])
-      ∙ (ap (λ b. event_kept b entry ∷ reverse (map (event_kept b) kept)) bytes-are
-      ∙ (ap (λ l. event_kept ((bytes ++ buffer) ++ reply) entry ∷ reverse l)
-      (ap (λ b. map (event_kept b) kept) (append_assoc bytes buffer reply) ∙ all-kept bytes (buffer ++ reply) kept within)
-      ∙ ap (λ event. event ∷ reverse (map (event_kept bytes) kept))
-      (ap (event_kept ((bytes ++ buffer) ++ reply)) entry-is ∙ event-pushed start at)))))
+  same-kept : (entry : Entry) → Before entry → event_kept later_commands later_replies entry ≡ event_kept commands replies entry
+  same-kept (entries.Command locality client outcome buffer reply) within =
+      ap (λ bytes. events.Command client locality bytes (get_or later_replies reply []) outcome) (same-text commands later_commands buffer first within.0)
+      ∙ ap (λ bytes. events.Command client locality (get_or commands buffer []) bytes outcome) (same-text replies later_replies reply second within.1)
+  same-kept (entries.Change change) within = refl
+
+  pub all-kept : (kept : List Entry) → All Before kept → map (event_kept later_commands later_replies) kept ≡ map (event_kept commands replies) kept
+  all-kept [] within = refl
+  all-kept (entry ∷ kept) within =
+      ap (λ event. event ∷ map (event_kept later_commands later_replies) kept) (same-kept entry (All-head Before entry kept within))
+      ∙ ap (λ rest. event_kept commands replies entry ∷ rest) (all-kept kept (All-tail Before entry kept within))
+
+  within-later : (entry : Entry) → Before entry → Later entry
+  within-later (entries.Command locality client outcome buffer reply) within =
+      (omega (arith, within.0, no-fewer commands later_commands first), omega (arith, within.1, no-fewer replies later_replies second))
+  within-later (entries.Change change) within = tt
+
+  pub all-within : (kept : List Entry) → All Before kept → All Later kept
+  all-within kept within = All-weaker Before Later within-later kept within
+
+  -- ---- a command more
+
+  module _ (kept later : List Entry) (within : All Before kept) (client locality : ℕ) (outcome : Outcome) (buffer reply : ℕ) (buffer_bytes reply_bytes : List ℕ) (buffer-is : slice_get later_commands buffer ≡ Some buffer_bytes) (reply-is : slice_get later_replies reply ≡ Some reply_bytes) (entries-are : later ≡ kept ++ entries.Command locality client outcome buffer reply ∷ []) where
+    abbrev entry : Entry
+    entry = entries.Command locality client outcome buffer reply
+
+    abbrev event : Event
+    event = events.Command client locality buffer_bytes reply_bytes outcome
+
+    pub pushed-within : All Later later
+    pushed-within =
+        All-same Later later (kept ++ entry ∷ []) entries-are
+        (All-push Later kept entry (all-within kept within)
+        (slice_get_within later_commands buffer buffer_bytes buffer-is, slice_get_within later_replies reply reply_bytes reply-is))
+
+    event-is : event_kept later_commands later_replies entry ≡ event
+    event-is =
+        ap (λ bytes. events.Command client locality bytes (get_or later_replies reply []) outcome) (get_or_from_slice_get later_commands buffer buffer_bytes [] buffer-is)
+        ∙ ap (λ bytes. events.Command client locality buffer_bytes bytes outcome) (get_or_from_slice_get later_replies reply reply_bytes [] reply-is)
+
+    pub command-pushed : reverse (map (event_kept later_commands later_replies) later) ≡ event ∷ reverse (map (event_kept commands replies) kept)
+    command-pushed =
+        let of = event_kept later_commands later_replies in
+        ap (λ l. reverse (map of l)) entries-are
+        ∙ ap reverse (map-append of kept (entry ∷ []))
+        ∙ reverse-append (map of kept) (of entry ∷ [])
+        ∙ ap (λ one. one ∷ reverse (map of kept)) event-is
+        ∙ ap (λ l. event ∷ reverse l) (all-kept kept within)
 
 -- ---- the event at a place
 
-pub kept-at : (bytes : List ℕ) (kept : List Entry) (index : ℕ) (entry : Entry) (events : List Event) → slice_get kept index ≡ Some entry
-    → reverse (map (event_kept bytes) kept) ≡ events → Some (event_kept bytes entry) ≡ slice_get (reverse events) index
-kept-at bytes kept index entry events found is =
-    sym (ap (option_map (event_kept bytes)) found)
-    ∙ (sym (slice_get-map (event_kept bytes) kept index)
-    ∙ (ap (λ l. slice_get l index) (sym (reverse-reverse (map (event_kept bytes) kept)))
-    ∙ ap (λ l. slice_get (reverse l) index) is))
+pub kept-at : (commands replies : List (List ℕ)) (kept : List Entry) (index : ℕ) (one : Entry) (past : List Event) → slice_get kept index ≡ Some one
+    → reverse (map (event_kept commands replies) kept) ≡ past → Some (event_kept commands replies one) ≡ slice_get (reverse past) index
+kept-at commands replies kept index one past found is =
+    let of = event_kept commands replies in
+    sym (ap (option_map of) found)
+    ∙ sym (slice_get-map of kept index)
+    ∙ ap (λ l. slice_get l index) (sym (reverse-reverse (map of kept)))
+    ∙ ap (λ l. slice_get (reverse l) index) is

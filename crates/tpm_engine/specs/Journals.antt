@@ -1,5 +1,5 @@
 -- What contracts see of a journal, and of a machine.
-use Rattle.std.specs.Prelude.{ℕ, ◌+◌, ◌≤◌, List, slice_range, ⊤}
+use Rattle.std.specs.Prelude.{ℕ, ◌<◌, List, [], slice_index_or, ⊤}
 use Rattle.tpol_name.specs.declared.setup.Setup.{Setup}
 use Rattle.tpm_engine.specs.declared.entry.Change.{Change}
 use Rattle.tpm_engine.specs.declared.entry.Change.TheVariants as changes
@@ -27,16 +27,16 @@ event_of_change (changes.Time ms) = events.Time ms
 event_of_change (changes.Presence on) = events.Presence on
 event_of_change changes.Reset = events.Reset
 
--- the event that a journal keeps by an entry, among its bytes
-abbrev pub event_kept : List ℕ → Entry → Event
-event_kept bytes (entries.Command locality client outcome start buffer reply) =
-    events.Command client locality (slice_range bytes start (start + buffer)) (slice_range bytes (start + buffer) (start + buffer + reply)) outcome
-event_kept bytes (entries.Change change) = event_of_change change
+-- the event that a journal keeps by an entry, among the bytes of its commands and those of its replies
+abbrev pub event_kept : List (List ℕ) → List (List ℕ) → Entry → Event
+event_kept commands replies (entries.Command locality client outcome buffer reply) =
+    events.Command client locality (slice_index_or commands buffer []) (slice_index_or replies reply []) outcome
+event_kept commands replies (entries.Change change) = event_of_change change
 
--- the bytes of an entry's command and reply stand among so many
-abbrev pub LiesWithin : ℕ → Entry → Type 0
-LiesWithin count (entries.Command locality client outcome start buffer reply) = start + buffer + reply ≤ count
-LiesWithin count (entries.Change change) = ⊤
+-- an entry's command is among so many commands, and its reply among so many replies
+abbrev pub LiesWithin : ℕ → ℕ → Entry → Type 0
+LiesWithin commands replies (entries.Command locality client outcome buffer reply) = (buffer < commands) × (reply < replies)
+LiesWithin commands replies (entries.Change change) = ⊤
 
 -- the event that a view shows
 abbrev pub event_seen : EventView → Event

@@ -3,7 +3,8 @@ use tpm_rules::Outcome;
 /// What a journal keeps of an event, beside bytes.
 #[derive(Clone, Copy)]
 pub enum Entry {
-    /// A command, and the indices of its bytes and of its reply among those that the journal keeps.
+    /// A command: the index of its bytes among the commands that the journal keeps, and that of its reply's bytes
+    /// among the replies. Neighbours with the same bytes have the same index.
     Command {
         locality: u8,
         client: u32,

@@ -14,7 +14,9 @@ use tpol_texts::Texts;
 
 /// All events of a machine; contracts see them newest first, and how many more have room.
 ///
-/// The bytes of all commands and replies stand in one vector, so that an event has no memory of its own.
+/// An event has no memory of its own: the bytes of all commands stand behind one another, and so do those of all
+/// replies. Equal neighbours are kept once: where a command has the same bytes as the command before it, the journal
+/// keeps no bytes for it, and the same goes for its reply. So a long run of like commands takes little memory.
 #[derive(Drop)]
 pub struct Journal {
     entries: Vec<Entry>,
@@ -29,9 +31,9 @@ impl Model for Journal {
 
     ghost Value = { JournalState };
 
-    ghost view = { λ j. record { events = reverse (map (event_kept j.bytes.items) j.entries.items); spare = vec_capacity j.entries - vec_len j.entries } };
+    ghost view = { λ j. record { events = reverse (map (event_kept j.commands j.replies) j.entries.items); spare = vec_capacity j.entries - vec_len j.entries } };
 
-    ghost invariant = { λ j. All (LiesWithin (length j.bytes.items)) j.entries.items };
+    ghost invariant = { λ j. All (LiesWithin (length j.commands) (length j.replies)) j.entries.items };
 }
 
 impl Journal {
@@ -87,7 +89,8 @@ impl Journal {
         Ok(())
     }
 
-    /// Adds the event of a command.
+    /// Adds the event of a command. Bytes that are those of the command before it are not kept again, nor is a reply
+    /// that is the one before. After `NoMemory` the events are as before.
     pub(crate) fn push_command(
         &mut self,
         client: u32,
@@ -124,10 +127,10 @@ impl Journal {
     }
 }
 
-// The event of an entry, over the bytes of its journal.
+// The event of an entry, over the texts of its journal.
 fn view_of<'a>(commands: &'a Texts, replies: &'a Texts, entry: Entry) -> EventView<'a>
-    requires within { LiesWithin (length bytes.now) entry }
-    ensures event { event_seen result ≡ event_kept bytes.now entry }
+    requires within { LiesWithin (length commands.now) (length replies.now) entry }
+    ensures event { event_seen result ≡ event_kept commands.now replies.now entry }
 {
     match entry {
         Entry::Command {

@@ -1,6 +1,5 @@
 use Rattle.std.proofs.Common.{◌∙◌, Some, ap, length, refl, slice_get, sym}
 use Rattle.std.proofs.lemmas.Option.{slice_get_read}
-use Rattle.tpm_engine.specs.Journals.{event_kept}
 use Rattle.tpm_engine.proofs.Kept.{kept-at}
 use Rattle.tpm_engine.proofs.journal.Journal.get.Goals as goal
 
@@ -11,7 +10,6 @@ returns c =
     record {
       event =
           ap Some c.view_of.ensures.event
-          ∙ (ap (λ bytes. Some (event_kept bytes c.in_ok-entry.entry.now)) c.as_slice.ensures.value
-          ∙ kept-at c.self.inside.bytes.items c.self.inside.entries.items c.args.index c.in_ok-entry.entry.now c.args.self.now.events
-          (ap (λ l. slice_get l c.args.index) (sym c.deref.ensures.value) ∙ found) (ap (λ j. j.events) c.self.view_is));
+          ∙ kept-at c.self.inside.commands c.self.inside.replies c.self.inside.entries.items c.args.index c.in_ok-entry.entry.now c.args.self.now.events
+          (ap (λ l. slice_get l c.args.index) (sym c.deref.ensures.value) ∙ found) (ap (λ j. j.events) c.self.view_is);
     }
