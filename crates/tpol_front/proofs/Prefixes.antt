@@ -1,5 +1,5 @@
 -- A first part of a line behind whole lines is a first part of the text.
-use Rattle.std.proofs.Common.{◌≡◌, ℕ, ◌+◌, ◌<◌, List, ◌∷◌, ◌++◌, length, get_or, take, drop, min, Option, sym, ap, ◌∙◌, subst, arith, suc}
+use Rattle.std.proofs.Common.{◌≡◌, ℕ, ◌+◌, ◌<◌, List, [], ◌∷◌, ◌++◌, append-nil, length, get_or, take, drop, min, Option, Result, Ok, Err, MatchResult, sym, ap, ◌∙◌, subst, arith, suc}
 use Rattle.std.proofs.lemmas.List.{take-append-drop, take-append-le, take_min}
 use Rattle.std.proofs.Math.Seq.{drop-cons, take-append-add}
 use Rattle.std.proofs.lemmas.Grind.{flat_map-append}
@@ -26,4 +26,21 @@ GrowsInPart-line a b c lines i line within at whole part =
     let n : ℕ = length (text_of (take i lines)) + min part.0 (length line) in
     let front : text_of (take i lines) ++ take part.0 line ≡ take n (text_of lines) =
     sym (take-split (text_of (take i lines)) line (text_of (drop (suc i) lines)) part.0) ∙ ap (take n) (sym (text_of-split lines i line within at)) in
+    (n, subst (λ (text : List ℕ). Grows a c text) front (Appends-trans a b c _ _ whole part.1))
+
+-- a first part of a list is a first part of what begins with it
+pub GrowsInPart-front : (a b : Option (List ℕ)) (head tail : List ℕ) → GrowsInPart a b head → GrowsInPart a b (head ++ tail)
+GrowsInPart-front a b head tail part =
+    let n : ℕ = min part.0 (length head) in
+    let front : take part.0 head ≡ take n (head ++ tail) =
+    sym (take-append-le n head tail (omega arith) ∙ take_min part.0 head) in
+    (n, subst (λ (text : List ℕ). Grows a b text) front part.1)
+
+-- a list is written, and then what stands behind it, or a first part of that
+pub written-behind : {T E : Type 0} (result : Result T E) (a b c : Option (List ℕ)) (head tail : List ℕ) → Grows a b head → MatchResult result (λ value. Grows b c tail) (λ error. GrowsInPart b c tail) → MatchResult result (λ value. Grows a c (head ++ tail)) (λ error. GrowsInPart a c (head ++ tail))
+written-behind (Ok value) a b c head tail whole more = Appends-trans a b c head tail whole more
+written-behind (Err error) a b c head tail whole part =
+    let n : ℕ = length head + min part.0 (length tail) in
+    let front : head ++ take part.0 tail ≡ take n (head ++ tail) =
+    sym (take-split head tail [] part.0) ∙ ap (λ l. take n (head ++ l)) (append-nil tail) in
     (n, subst (λ (text : List ℕ). Grows a c text) front (Appends-trans a b c _ _ whole part.1))

@@ -1,4 +1,4 @@
-ghost use Rattle.std.specs.Prelude.{◌≡◌, ◌≤◌, ◌⊎◌, MatchResult, OnOk};
+ghost use Rattle.std.specs.Prelude.{◌≡◌, ◌++◌, ◌≤◌, ◌⊎◌, MatchResult, OnOk};
 ghost use Rattle.tpol_base.specs.Causes.{HasCause, Grows, GrowsInPart, Rose};
 ghost use Rattle.tpol_steps.specs.Answer.{text_of};
 ghost use Rattle.tpol_front.specs.Status.{status_of};
@@ -25,7 +25,7 @@ pub fn print_answer<K: Sink>(out: &mut K, answer: &Answer) -> Status
     }
 }
 
-// Writes lines, each in one write.
+// Writes lines.
 fn print_lines<K: Sink>(out: &mut K, lines: &Lines) -> Result<(), Failed>
     ensures written { MatchResult result
         (λ _. Grows (K.contents out.old) (K.contents out.new) (text_of lines.now))
@@ -35,7 +35,10 @@ fn print_lines<K: Sink>(out: &mut K, lines: &Lines) -> Result<(), Failed>
 {
     for index in 0..lines.len() {
         let (head, tail) = lines.parts(index);
-        print_line(out, head, tail)?;
+        match print_line(out, head, tail) {
+            Ok(()) => {}
+            Err(failed) => return Err(failed),
+        }
     }
     Ok(())
 }
@@ -48,9 +51,9 @@ fn print_line<K: Sink>(out: &mut K, head: &[u8], tail: &[u8]) -> Result<(), Fail
     ensures cause { HasCause (K.faults out.old) (K.faults out.new) result }
     ensures quiet { OnOk result (K.faults out.new ≡ K.faults out.old) }
 {
-    out.write(head)?;
-    if tail.is_empty() {
-        return Ok(());
+    match out.write(head) {
+        Ok(()) if tail.is_empty() => Ok(()),
+        Ok(()) => out.write(tail),
+        Err(failed) => Err(failed),
     }
-    out.write(tail)
 }
