@@ -1,11 +1,12 @@
-//! What the plans of sighted runs and those of blind runs are made of, as the tables of the tests have it: the moves of a path,
-//! the values that a client has, and the lines of its directory.
+//! What the plans of runs are made of, as the tables of the tests have it: the moves of a path, the values that a client
+//! has, the lines of its directory, and its tickets.
 
 use std::alloc::Global;
 use tpol_base::{Blob, Compare, Digest32, Digests, Name, NoMemory, Text};
+use tpol_driver::{HeldTicket, Tickets};
 use tpol_goal::Secrets;
 use tpol_name::{DirEntry, Directory};
-use tpol_tree::{Assertion, Move, Moves};
+use tpol_tree::{Assertion, Move, Moves, Path, PathSteps, Paths};
 
 // The digests in other Names.
 
@@ -49,93 +50,80 @@ fn name(bytes: [u8; 32]) -> Name {
     Name::Hash(digest(bytes))
 }
 
-fn pcrs(alloc: Global, pcr_digest: [u8; 32]) -> Move {
-    Move::Assert(Assertion::Pcr {
-        mask: 0x95,
-        pcr_digest: digest(pcr_digest),
-        values: Digests::new(alloc),
-    })
-}
-
-fn signed(
-    alloc: Global,
-    policy_ref: &[u8],
-    cp_hash: Option<[u8; 32]>,
-    expiration: i32,
-) -> Result<Move, NoMemory> {
-    Ok(Move::Assert(Assertion::Signed {
-        key: name(KEY),
-        policy_ref: Blob::from_slice(alloc, policy_ref)?,
-        cp_hash: cp_hash.map(digest),
-        expiration,
-    }))
-}
-
-fn secret(alloc: Global, entity: u32, expiration: i32) -> Move {
-    Move::Assert(Assertion::Secret {
-        entity: Name::Handle(entity),
-        policy_ref: Blob::new(alloc),
-        cp_hash: None,
-        expiration,
-    })
-}
-
-fn counter(alloc: Global) -> Result<Move, NoMemory> {
-    Ok(Move::Assert(Assertion::Nv {
-        index: name(COUNTER),
-        operand: Blob::from_slice(alloc, b"\x05\x06")?,
-        offset: 1,
-        operation: Compare::UnsignedLe,
-    }))
-}
-
-fn approval(alloc: Global) -> Result<Move, NoMemory> {
-    Ok(Move::Approve {
-        key: name(KEY),
-        policy_ref: Blob::from_slice(alloc, b"app")?,
-        approved: APPROVED,
-        signature: Digest32 { bytes: [0x99; 32] },
-    })
-}
-
-fn timer(alloc: Global) -> Result<Move, NoMemory> {
-    Ok(Move::Assert(Assertion::CounterTimer {
-        operand: Blob::from_slice(alloc, b"\x07")?,
-        offset: 8,
-        operation: Compare::SignedGt,
-    }))
-}
-
-fn branches(alloc: Global, first: [u8; 32], second: [u8; 32]) -> Result<Move, NoMemory> {
-    Ok(Move::Or(Digests::from_slice(alloc, &[digest(first), digest(second)])?))
-}
-
 fn move_of(alloc: Global, act: Act) -> Result<Move, NoMemory> {
-    match act {
-        Act::Pcrs(pcr_digest) => Ok(pcrs(alloc, pcr_digest)),
-        Act::AuthValue => Ok(Move::Assert(Assertion::AuthValue)),
-        Act::Branches(first, second) => branches(alloc, first, second),
+    Ok(match act {
+        Act::Pcrs(pcr_digest) => Move::Assert(Assertion::Pcr {
+            mask: 0x95,
+            pcr_digest: digest(pcr_digest),
+            values: Digests::new(alloc),
+        }),
+        Act::AuthValue => Move::Assert(Assertion::AuthValue),
+        Act::Branches(first, second) => Move::Or(Digests::from_slice(
+            alloc,
+            &[digest(first), digest(second)],
+        )?),
         Act::Signed {
             policy_ref,
             cp_hash,
             expiration,
-        } => signed(alloc, policy_ref, cp_hash, expiration),
-        Act::Secret { entity, expiration } => Ok(secret(alloc, entity, expiration)),
-        Act::CommandCode(code) => Ok(Move::Assert(Assertion::CommandCode(code))),
-        Act::Counter => counter(alloc),
-        Act::Approval => approval(alloc),
-        Act::ApprovalByIndex => Ok(Move::ApproveNv {
+        } => Move::Assert(Assertion::Signed {
+            key: name(KEY),
+            policy_ref: Blob::from_slice(alloc, policy_ref)?,
+            cp_hash: cp_hash.map(digest),
+            expiration,
+        }),
+        Act::Secret { entity, expiration } => Move::Assert(Assertion::Secret {
+            entity: Name::Handle(entity),
+            policy_ref: Blob::new(alloc),
+            cp_hash: None,
+            expiration,
+        }),
+        Act::CommandCode(code) => Move::Assert(Assertion::CommandCode(code)),
+        Act::Counter => Move::Assert(Assertion::Nv {
+            index: name(COUNTER),
+            operand: Blob::from_slice(alloc, b"\x05\x06")?,
+            offset: 1,
+            operation: Compare::UnsignedLe,
+        }),
+        Act::Approval => Move::Approve {
+            key: name(KEY),
+            policy_ref: Blob::from_slice(alloc, b"app")?,
+            approved: APPROVED,
+            signature: Digest32 { bytes: [0x99; 32] },
+        },
+        Act::ApprovalByIndex => Move::ApproveNv {
             index: name(APPROVALS),
             approved: APPROVED,
+        },
+        Act::Timer => Move::Assert(Assertion::CounterTimer {
+            operand: Blob::from_slice(alloc, b"\x07")?,
+            offset: 8,
+            operation: Compare::SignedGt,
         }),
-        Act::Timer => timer(alloc),
-        Act::Password => Ok(Move::Assert(Assertion::Password)),
-    }
+        Act::Password => Move::Assert(Assertion::Password),
+    })
 }
 
 pub fn push_moves(moves: &mut Moves, alloc: Global, path: &[Act]) -> Result<(), NoMemory> {
     for act in path {
         moves.push(move_of(alloc, *act)?)?;
+    }
+    Ok(())
+}
+
+fn push_path(paths: &mut Paths, alloc: Global, path: &[Act]) -> Result<(), NoMemory> {
+    let mut moves = Moves::new(alloc);
+    push_moves(&mut moves, alloc, path)?;
+    paths.push(Path {
+        steps: PathSteps::new(alloc),
+        moves,
+        outside: false,
+    })
+}
+
+pub fn push_paths(paths: &mut Paths, alloc: Global, table: &[&[Act]]) -> Result<(), NoMemory> {
+    for path in table {
+        push_path(paths, alloc, path)?;
     }
     Ok(())
 }
@@ -163,6 +151,30 @@ pub fn push_entries(
             name: name(*digest),
             attributes: *attributes,
         })?;
+    }
+    Ok(())
+}
+
+/// A ticket of the endorsement hierarchy at the deadline 1,000.
+fn held(alloc: Global, policy_ref: &[u8], digest: [u8; 32]) -> Result<HeldTicket, NoMemory> {
+    Ok(HeldTicket {
+        signed: false,
+        key: Name::Handle(0x4000_000b),
+        policy_ref: Blob::from_slice(alloc, policy_ref)?,
+        cp_hash: None,
+        deadline: 1000,
+        reset_count: 0,
+        digest: Digest32 { bytes: digest },
+    })
+}
+
+pub fn push_tickets(
+    tickets: &mut Tickets,
+    alloc: Global,
+    held_by_run: &[(&[u8], [u8; 32])],
+) -> Result<(), NoMemory> {
+    for (policy_ref, digest) in held_by_run {
+        tickets.push(held(alloc, policy_ref, *digest)?)?;
     }
     Ok(())
 }
