@@ -184,7 +184,9 @@ fn is_prepared(sight: &Sight) -> bool {
 fn stands_prepared(machine: &mut Machine, alloc: Global) -> bool {
     match machine.sight(alloc) {
         Ok(sight) => {
-            is_prepared(&sight) && answers(machine, alloc, GET_DIGEST, AUTH_VALUE_DIGEST)
+            let answer = is_prepared(&sight);
+            drop(sight);
+            answer && answers(machine, alloc, GET_DIGEST, AUTH_VALUE_DIGEST)
         }
         Err(_) => false,
     }
@@ -298,7 +300,11 @@ fn passes(machine: &mut Machine, alloc: Global, trial: Trial) -> bool {
 /// Whether the machine of a scene passes a trial.
 fn passes_of(alloc: Global, scene: &str, trial: Trial) -> bool {
     match machine_of(alloc, scene) {
-        Some(mut machine) => passes(&mut machine, alloc, trial),
+        Some(mut machine) => {
+            let answer = passes(&mut machine, alloc, trial);
+            drop(machine);
+            answer
+        }
         None => false,
     }
 }

@@ -6,14 +6,8 @@
 #[cfg(test)]
 mod blind;
 #[cfg(test)]
-mod courses;
-#[cfg(test)]
-mod ends;
-#[cfg(test)]
-mod plans;
-#[cfg(test)]
 mod sighted;
 #[cfg(test)]
-mod steps;
-#[cfg(test)]
 mod tickets;
+#[cfg(test)]
+mod vectors;

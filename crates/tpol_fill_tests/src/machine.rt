@@ -47,7 +47,11 @@ fn shows_what_is_there(sight: &Sight) -> bool {
 
 fn shows(alloc: Global, setup: &Setup) -> bool {
     match opening_sight(alloc, setup) {
-        Ok(sight) => shows_what_is_there(&sight) && have_digests(alloc, &sight),
+        Ok(sight) => {
+            let answer = shows_what_is_there(&sight) && have_digests(alloc, &sight);
+            drop(sight);
+            answer
+        }
         Err(_) => false,
     }
 }

@@ -294,7 +294,11 @@ fn is_fault(alloc: Global, fault: &SceneFault, wanted: Wanted) -> bool {
 
 fn is_read(alloc: Global, text: &str, wanted: Wanted) -> bool {
     match read_scene(alloc, text.as_bytes()) {
-        Ok(scene) => is_scene(&scene, wanted),
+        Ok(scene) => {
+            let answer = is_scene(&scene, wanted);
+            drop(scene);
+            answer
+        }
         Err(fault) => is_fault(alloc, &fault, wanted),
     }
 }
