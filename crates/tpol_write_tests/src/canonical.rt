@@ -192,17 +192,19 @@ fn is_canonical(alloc: Global, policy: &Policy, text: &str) -> bool {
     }
 }
 
-// Whether a document is read, and its policy is written as this text.
-fn is_written(alloc: Global, written: &str, text: &str) -> bool {
+/// Whether a document is read, where it may have notes or without one, and its policy is written as this text.
+pub fn is_written(alloc: Global, written: &str, text: &str, may_have_notes: bool) -> bool {
     match read_policy(alloc, written.as_bytes()) {
-        Ok((policy, _)) => is_canonical(alloc, &policy, text),
+        Ok((policy, notes)) => {
+            (may_have_notes || notes.is_empty()) && is_canonical(alloc, &policy, text)
+        }
         Err(_) => false,
     }
 }
 
 fn is_written_canonically(alloc: Global, written: &str) -> bool {
     match document(alloc, true) {
-        Ok(text) => is_written(alloc, written, text.as_str()),
+        Ok(text) => is_written(alloc, written, text.as_str(), true),
         Err(_) => false,
     }
 }

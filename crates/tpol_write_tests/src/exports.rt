@@ -1,46 +1,61 @@
 //! Exports of the real FAPI, with their canonical texts by a writer of other hands.
 
+use crate::canonical::is_written;
 use serde_json::Value;
 use std::alloc::Global;
 use tpol_adopt::{dropped, normal};
-use tpol_base::Blob;
 use tpol_json::parse;
-use tpol_read::read_policy;
-use tpol_write::write_policy;
 
-// The value that an export is in the profile's spelling.
-fn adopted(alloc: Global, export: &str) -> Option<Value> {
-    let value = parse(alloc, export.as_bytes()).ok()?;
-    normal(alloc, &value).ok()
+// What an export is to say.
+#[derive(Clone, Copy)]
+enum Wanted<'a> {
+    // In the profile's spelling the policy with this canonical text, without a note.
+    Policy(&'a str),
+    // So many authorizations are left out.
+    Dropped(usize),
 }
 
-// The canonical text of the policy that a value is, if it says one without a note.
-fn canonical(alloc: Global, value: &Value) -> Option<Blob> {
-    let text = value.to_string(alloc).ok()?;
-    let (policy, notes) = read_policy(alloc, text.as_str().as_bytes()).ok()?;
-    if notes.is_empty() {
-        write_policy(alloc, &policy).ok()
-    } else {
-        None
+fn is_policy(alloc: Global, value: &Value, text: &str) -> bool {
+    match value.to_string(alloc) {
+        Ok(written) => is_written(alloc, written.as_str(), text, false),
+        Err(_) => false,
     }
 }
 
-// Whether an export says the policy with this canonical text.
-fn says(alloc: Global, export: &str, text: &str) -> bool {
-    match adopted(alloc, export) {
-        Some(value) => match canonical(alloc, &value) {
-            Some(found) => found.as_slice() == text.as_bytes(),
-            None => false,
-        },
-        None => false,
+fn is_adopted(alloc: Global, value: &Value, text: &str) -> bool {
+    match normal(alloc, value) {
+        Ok(adopted) => {
+            let answer = is_policy(alloc, &adopted, text);
+            drop(adopted);
+            answer
+        }
+        Err(_) => false,
     }
 }
 
-// How many authorizations of an export are left out.
-fn dropped_count(alloc: Global, export: &str) -> Option<usize> {
-    let value = parse(alloc, export.as_bytes()).ok()?;
-    let places = dropped(alloc, &value).ok()?;
-    Some(places.len())
+fn has_dropped(alloc: Global, value: &Value, count: usize) -> bool {
+    match dropped(alloc, value) {
+        Ok(places) => places.len() == count,
+        Err(_) => false,
+    }
+}
+
+fn is_said(alloc: Global, value: &Value, wanted: Wanted) -> bool {
+    match wanted {
+        Wanted::Policy(text) => is_adopted(alloc, value, text),
+        Wanted::Dropped(count) => has_dropped(alloc, value, count),
+    }
+}
+
+fn says(alloc: Global, export: &str, wanted: Wanted) -> bool {
+    match parse(alloc, export.as_bytes()) {
+        Ok(value) => {
+            let answer = is_said(alloc, &value, wanted);
+            drop(value);
+            answer
+        }
+        Err(_) => false,
+    }
 }
 
 static EXPORTS: [(&str, &str); 4] = [
@@ -65,12 +80,12 @@ static EXPORTS: [(&str, &str); 4] = [
 #[test]
 fn exports(rt: HostRuntime) {
     for (export, text) in &EXPORTS {
-        assert!(rt; says(rt.alloc(), export, text));
+        assert!(rt; says(rt.alloc(), export, Wanted::Policy(text)));
     }
 }
 
 // One of three is by an ECC key.
 #[test]
 fn authorizations(rt: HostRuntime) {
-    assert!(rt; dropped_count(rt.alloc(), EXPORTS[1].0) == Some(1));
+    assert!(rt; says(rt.alloc(), EXPORTS[1].0, Wanted::Dropped(1)));
 }

@@ -1,21 +1,10 @@
 //! Documents in other spellings, each with the canonical text that is written out by hand.
 
-use std::alloc::Global;
-use std::test::Fail;
-use tpol_base::Blob;
-use tpol_read::read_policy;
-use tpol_write::write_policy;
-
-// The canonical text of a document.
-fn canonical(alloc: Global, document: &str) -> Result<Blob, Fail> {
-    let (policy, _notes) = read_policy(alloc, document.as_bytes())
-        .ok()
-        .ok_or("refused")?;
-    Ok(write_policy(alloc, &policy)?)
-}
+use crate::canonical::is_written;
+use std::alloc::{AllocError, Global};
 
 // The members of an element in another spelling, and as canonical text has them.
-const ELEMENTS: [(&str, &str); 21] = [
+static ELEMENTS: [(&str, &str); 21] = [
     ("\"type\":\"authvalue\"", "\"type\":\"POLICYAUTHVALUE\""),
     (
         "\"type\":\"CommandCode\",\"code\":\"tpm2_cc_UNSEAL\"",
@@ -96,26 +85,52 @@ const ELEMENTS: [(&str, &str); 21] = [
     ),
 ];
 
-#[test]
-fn each_type_of_element(rt: HostRuntime) -> Result<(), Fail> {
-    let alloc = rt.alloc();
-    for (members, wanted) in ELEMENTS {
-        let document = format!(in alloc; "{{\"policy\":[{{{members}}}]}}")?;
-        let wanted = format!(in alloc; "{{\"description\":\"\",\"policy\":[{{{wanted}}}]}}")?;
-        let text = canonical(alloc, document.as_str())?;
-        assert!(rt; text.as_slice() == wanted.as_bytes(), "{members}");
+fn push_element(text: &mut String, before: &str, members: &str) -> Result<(), AllocError> {
+    text.push_str(before)?;
+    text.push_str(members)?;
+    text.push_str("}]}")
+}
+
+// The document with this before the one element's members.
+fn document(alloc: Global, before: &str, members: &str) -> Result<String, AllocError> {
+    let mut text = String::new(alloc);
+    push_element(&mut text, before, members)?;
+    Ok(text)
+}
+
+fn is_written_with(alloc: Global, written: &str, wanted: &str) -> bool {
+    match document(alloc, "{\"description\":\"\",\"policy\":[{", wanted) {
+        Ok(text) => is_written(alloc, written, text.as_str(), true),
+        Err(_) => false,
     }
-    Ok(())
+}
+
+// Whether the document of one element with these members is written with those that are wanted.
+fn is_element_written(alloc: Global, members: &str, wanted: &str) -> bool {
+    match document(alloc, "{\"policy\":[{", members) {
+        Ok(text) => is_written_with(alloc, text.as_str(), wanted),
+        Err(_) => false,
+    }
 }
 
 #[test]
-fn authorizations(rt: HostRuntime) -> Result<(), Fail> {
-    let text = canonical(
-        rt.alloc(),
-        "{\"policyAuthorizations\":[{\"type\":\"TPM\",\"keyPath\":\"k\",\"signature\":\"1111111111111111111111111111111111111111111111111111111111111111\"},{\"type\":\"nv\",\"nvPath\":\"n\"}],\"policy\":[{\"type\":\"AUTHVALUE\"}],\"description\":\"d\"}",
-    )?;
-    let wanted =
-        "{\"description\":\"d\",\"policy\":[{\"type\":\"POLICYAUTHVALUE\"}],\"policyAuthorizations\":[{\"keyPath\":\"k\",\"policyRef\":\"\",\"signature\":\"1111111111111111111111111111111111111111111111111111111111111111\",\"type\":\"tpm\"},{\"nvPath\":\"n\",\"type\":\"nv\"}]}";
-    assert!(rt; text.as_slice() == wanted.as_bytes());
-    Ok(())
+fn each_type_of_element(rt: HostRuntime) {
+    for (members, wanted) in &ELEMENTS {
+        assert!(rt;
+            is_element_written(rt.alloc(), members, wanted),
+            "{members}"
+        );
+    }
+}
+
+// Authorizations in another spelling, and as canonical text has them.
+static AUTHORIZED: (&str, &str) = (
+    "{\"policyAuthorizations\":[{\"type\":\"TPM\",\"keyPath\":\"k\",\"signature\":\"1111111111111111111111111111111111111111111111111111111111111111\"},{\"type\":\"nv\",\"nvPath\":\"n\"}],\"policy\":[{\"type\":\"AUTHVALUE\"}],\"description\":\"d\"}",
+    "{\"description\":\"d\",\"policy\":[{\"type\":\"POLICYAUTHVALUE\"}],\"policyAuthorizations\":[{\"keyPath\":\"k\",\"policyRef\":\"\",\"signature\":\"1111111111111111111111111111111111111111111111111111111111111111\",\"type\":\"tpm\"},{\"nvPath\":\"n\",\"type\":\"nv\"}]}",
+);
+
+#[test]
+fn authorizations(rt: HostRuntime) {
+    let (written, wanted) = AUTHORIZED;
+    assert!(rt; is_written(rt.alloc(), written, wanted, true));
 }
