@@ -1,10 +1,11 @@
-//! Whole runs over objects in memory whose calls fail where a run says so, as the tables of `tpol_top_tests` have them.
+//! Whole runs over objects in memory whose calls fail where a run says so, as the tables of `tpol_top_tests` have
+//! them.
 //!
-//! The functions are no tests, so they stand in a library of their own, which is proved once: a test over it names the
-//! tables of its runs alone. Nothing but tests stands on it.
+//! The functions are no tests, so they stand in a library of their own, which is proved once: a test over it names
+//! the tables of its runs alone. Nothing but tests stands on it.
 //!
-//! The proof of a function proves the drop of each value that it holds, wherever it may end early. So functions that may
-//! end early are given what they fill.
+//! The proof of a function proves the drop of each value that it holds, wherever it may end early. So functions that
+//! may end early are given what they fill, and a sink is let go by one call.
 #![tactic(auto)]
 
 use std::alloc::Global;
@@ -136,7 +137,10 @@ fn has_printed(sink: &Printer, lines: &[&str]) -> bool {
 pub fn ends_as_told(alloc: Global, run: &Run) -> bool {
     match sink(alloc, run.sink) {
         Ok(mut sink) => {
-            answer(alloc, run, &mut sink) == Ok(run.status) && has_printed(&sink, run.printed)
+            let is_told = answer(alloc, run, &mut sink) == Ok(run.status)
+                && has_printed(&sink, run.printed);
+            drop(sink);
+            is_told
         }
         Err(_) => false,
     }
