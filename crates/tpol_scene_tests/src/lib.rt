@@ -4,5 +4,3 @@
 
 #[cfg(test)]
 mod scene;
-#[cfg(test)]
-mod store;
