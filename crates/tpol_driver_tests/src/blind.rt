@@ -1,19 +1,10 @@
 //! Blind runs. The commands are computed by another program (Python's `hashlib`) from the rules of the commands; the
 //! replies are written by hand.
 
-ghost use Rattle.std.specs.Prelude.{◌≤◌, All, IsTrue, length};
-
-use crate::plans::{Act, push_entries, push_moves, push_secrets};
-use crate::steps::{DENIED, NONCE_SEED, OK, START, Step, is_made};
-use std::alloc::Global;
-use tpol_base::{Digest32, NoMemory, Rc};
-use tpol_driver::{
-    BlindAgain, BlindAsserting, BlindClosing, BlindEnd, BlindNext, BlindPlan, BlindReady,
-    BlindStart, Stage, Tried,
-};
-use tpol_goal::{Goal, Grants, Secrets};
-use tpol_name::Directory;
-use tpol_tree::{Moves, Path, PathSteps, Paths};
+use crate::vectors::{DENIED, NONCE_SEED, OK, START};
+use tpol_base::Rc;
+use tpol_courses::{Act, Course, Script, Step, Use, Wanted, goes_by_each};
+use tpol_driver::{Stage, Tried};
 
 /// The reply to StartAuthSession: the session 0x0300_0000.
 const STARTED: &[u8] =
@@ -123,7 +114,7 @@ const ENDS: Step<'static> = Step {
 };
 
 /// The first path is refused at its PCRs, the second one is skipped, and the third one is served.
-static SERVED: [Step<'static>; 7] = [
+const SERVED: [Step<'static>; 7] = [
     STARTS,
     HAS_OTHER_PCRS,
     BEGINS_ANEW,
@@ -137,7 +128,7 @@ static SERVED: [Step<'static>; 7] = [
 ];
 
 /// The same, and the third one is refused its goal.
-static REFUSED: [Step<'static>; 8] = [
+const REFUSED: [Step<'static>; 8] = [
     STARTS,
     HAS_OTHER_PCRS,
     BEGINS_ANEW,
@@ -152,7 +143,7 @@ static REFUSED: [Step<'static>; 8] = [
 ];
 
 /// What becomes of the paths then.
-static REFUSALS: [Tried; 3] = [
+const REFUSALS: [Tried; 3] = [
     Tried::Refused {
         at: Stage::Move(1),
         rc: Rc { code: 0x1c4 },
@@ -165,7 +156,7 @@ static REFUSALS: [Tried; 3] = [
 ];
 
 /// PolicyRestart is refused.
-static RESTART_REFUSED: [Step<'static>; 4] = [
+const RESTART_REFUSED: [Step<'static>; 4] = [
     STARTS,
     HAS_OTHER_PCRS,
     Step {
@@ -176,7 +167,7 @@ static RESTART_REFUSED: [Step<'static>; 4] = [
 ];
 
 /// The reply to PolicyRestart is that of another command.
-static RESTART_MALFORMED: [Step<'static>; 4] = [
+const RESTART_MALFORMED: [Step<'static>; 4] = [
     STARTS,
     HAS_OTHER_PCRS,
     Step {
@@ -187,13 +178,13 @@ static RESTART_MALFORMED: [Step<'static>; 4] = [
 ];
 
 /// The reply to StartAuthSession has no session.
-static START_MALFORMED: [Step<'static>; 1] = [Step {
+const START_MALFORMED: [Step<'static>; 1] = [Step {
     command: START,
     reply: OK,
 }];
 
 /// The paths, of which the second one has a key that is in no directory.
-static PATHS: [&[Act]; 3] = [
+const PATHS: [&[Act]; 3] = [
     &[
         Act::Pcrs(OF_PCRS),
         Act::AuthValue,
@@ -214,203 +205,54 @@ static PATHS: [&[Act]; 3] = [
     ],
 ];
 
-fn push_path(paths: &mut Paths, alloc: Global, path: &[Act]) -> Result<(), NoMemory> {
-    let mut moves = Moves::new(alloc);
-    push_moves(&mut moves, alloc, path)?;
-    paths.push(Path {
-        steps: PathSteps::new(alloc),
-        moves,
-        outside: false,
-    })
-}
+static TRYING: Course = Course {
+    path: &[],
+    blind_paths: &PATHS,
+    goal: Use::Unseal {
+        object: 0x8000_0000,
+    },
+    secrets: &[(0x4000_0001, b"owner")],
+    keys: &[],
+    directory: &[(0x8000_0000, [0x22; 32], 0x40)],
+    tickets: &[],
+    nonce_seed: NONCE_SEED,
+};
 
-fn push_paths(paths: &mut Paths, alloc: Global) -> Result<(), NoMemory> {
-    for path in &PATHS {
-        push_path(paths, alloc, path)?;
-    }
-    Ok(())
-}
-
-fn empty_plan(alloc: Global) -> BlindPlan {
-    BlindPlan {
-        paths: Paths::new(alloc),
-        goal: Goal::Unseal {
-            object: 0x8000_0000,
-        },
-        grants: Grants {
-            secrets: Secrets::new(alloc),
-            keys: Secrets::new(alloc),
-        },
-        directory: Directory::new(alloc),
-        nonce_seed: Digest32 { bytes: NONCE_SEED },
-    }
-}
-
-fn fill(plan: &mut BlindPlan, alloc: Global) -> Result<(), NoMemory> {
-    push_paths(&mut plan.paths, alloc)?;
-    push_secrets(&mut plan.grants.secrets, alloc, &[(0x4000_0001, b"owner")])?;
-    push_entries(
-        &mut plan.directory,
-        alloc,
-        &[(0x8000_0000, [0x22; 32], 0x40)],
-    )
-}
-
-// One command and its reply in each state: the state after them, nothing where the command is another one.
-
-fn at_start(alloc: Global, state: BlindStart, step: &Step) -> Option<BlindNext> {
-    if is_made(state.next(alloc), step.command) {
-        return state.take(alloc, step.reply).ok();
-    }
-    drop(state);
-    None
-}
-
-fn on_path(alloc: Global, state: BlindAsserting, step: &Step) -> Option<BlindNext> {
-    if is_made(state.next(alloc), step.command) {
-        return state.take(alloc, step.reply).ok();
-    }
-    drop(state);
-    None
-}
-
-fn at_goal(alloc: Global, state: BlindReady, step: &Step) -> Option<BlindNext> {
-    if is_made(state.next(alloc), step.command) {
-        return state.take(alloc, step.reply).ok();
-    }
-    drop(state);
-    None
-}
-
-fn between(alloc: Global, state: BlindAgain, step: &Step) -> Option<BlindNext> {
-    if is_made(state.next(alloc), step.command) {
-        return state.take(alloc, step.reply).ok();
-    }
-    drop(state);
-    None
-}
-
-fn at_end(alloc: Global, state: BlindClosing, step: &Step) -> Option<BlindNext> {
-    if is_made(state.next(alloc), step.command) {
-        return state.take(alloc, step.reply).ok();
-    }
-    drop(state);
-    None
-}
-
-fn turn(alloc: Global, state: BlindNext, step: &Step) -> Option<BlindNext> {
-    match state {
-        BlindNext::Asserting(state) => on_path(alloc, state, step),
-        BlindNext::Ready(state) => at_goal(alloc, state, step),
-        BlindNext::Again(state) => between(alloc, state, step),
-        BlindNext::Closing(state) => at_end(alloc, state, step),
-        BlindNext::Over(_) => None,
-    }
-}
-
-/// Whether the first path of this plan is the first one that is tried, and its paths are as few and as short as a
-/// run may have them.
-fn begins_on_the_first(plan: &BlindPlan) -> bool
-    ensures few { IsTrue result → length plan.now.paths ≤ 64 }
-    ensures short { IsTrue result → All (λ path. length path.moves ≤ 512) plan.now.paths }
-{
-    let paths = plan.paths.as_slice();
-    paths.len() <= 64 && plan.first() == Some(1) && paths.iter().all(|path| path.moves.len() <= 512)
-}
-
-fn begun(alloc: Global, step: &Step) -> Option<BlindNext> {
-    let mut plan = empty_plan(alloc);
-    if fill(&mut plan, alloc).is_err() || !begins_on_the_first(&plan) {
-        drop(plan);
-        return None;
-    }
-    match BlindStart::new(alloc, plan) {
-        Ok(state) => at_start(alloc, state, step),
-        Err(_) => None,
-    }
-}
-
-/// The state of the run behind these steps.
-fn state_after(alloc: Global, steps: &[Step]) -> Option<BlindNext> {
-    let (first, others) = steps.split_first()?;
-    let mut state = begun(alloc, first)?;
-    for step in others {
-        state = turn(alloc, state, step)?;
-    }
-    Some(state)
-}
-
-/// Whether the run ended, and was served `key` on the third path.
-fn is_served(state: &Option<BlindNext>) -> bool {
-    match state {
-        Some(BlindNext::Over(over)) => match &over.end {
-            BlindEnd::Served { path, bytes } => *path == 3 && bytes.as_slice() == KEY,
-            _ => false,
-        },
-        _ => false,
-    }
-}
-
-/// Whether the run ended on no path, and this became of its three paths.
-fn is_on_none(state: &Option<BlindNext>, wanted: &[Tried]) -> bool {
-    match state {
-        Some(BlindNext::Over(over)) => match &over.end {
-            BlindEnd::NoBranch(tries) => tries.as_slice() == wanted,
-            _ => false,
-        },
-        _ => false,
-    }
-}
-
-/// Whether the run ended, and was denied by this code at this stage, or heard a bad reply there where the code
-/// is 0.
-fn is_failed(state: &Option<BlindNext>, code: u32, stage: Stage) -> bool {
-    match state {
-        Some(BlindNext::Over(over)) => match &over.end {
-            BlindEnd::Denied { at, rc } => rc.code == code && *at == stage,
-            BlindEnd::BadReply(at) => code == 0 && *at == stage,
-            _ => false,
-        },
-        _ => false,
-    }
-}
-
-// A test names the table of its run, and leaves the states to these functions: a proof about both at once is long.
-
-fn serves(alloc: Global, steps: &[Step]) -> bool {
-    let state = state_after(alloc, steps);
-    let answer = is_served(&state);
-    drop(state);
-    answer
-}
-
-fn finds_none(alloc: Global, steps: &[Step], wanted: &[Tried]) -> bool {
-    let state = state_after(alloc, steps);
-    let answer = is_on_none(&state, wanted);
-    drop(state);
-    answer
-}
-
-fn fails(alloc: Global, steps: &[Step], code: u32, stage: Stage) -> bool {
-    let state = state_after(alloc, steps);
-    let answer = is_failed(&state, code, stage);
-    drop(state);
-    answer
-}
+/// The second try is served, each is refused, and runs fail between two tries.
+static SCRIPTS: [Script; 5] = [
+    Script {
+        steps: &SERVED,
+        wanted: Wanted::Served(3, KEY),
+        failures: &[],
+        flush: FLUSH,
+    },
+    Script {
+        steps: &REFUSED,
+        wanted: Wanted::NoBranch(&REFUSALS),
+        failures: &[],
+        flush: FLUSH,
+    },
+    Script {
+        steps: &RESTART_REFUSED,
+        wanted: Wanted::Failed(0x910, Stage::Restart),
+        failures: &[],
+        flush: FLUSH,
+    },
+    Script {
+        steps: &RESTART_MALFORMED,
+        wanted: Wanted::Failed(0, Stage::Restart),
+        failures: &[],
+        flush: FLUSH,
+    },
+    Script {
+        steps: &START_MALFORMED,
+        wanted: Wanted::Failed(0, Stage::Start),
+        failures: &[],
+        flush: FLUSH,
+    },
+];
 
 #[test]
-fn the_second_try_is_served(rt: HostRuntime) {
-    assert!(rt; serves(rt.alloc(), &SERVED));
-}
-
-#[test]
-fn each_try_is_refused(rt: HostRuntime) {
-    assert!(rt; finds_none(rt.alloc(), &REFUSED, &REFUSALS));
-}
-
-#[test]
-fn runs_that_fail_between_two_tries(rt: HostRuntime) {
-    assert!(rt; fails(rt.alloc(), &RESTART_REFUSED, 0x910, Stage::Restart));
-    assert!(rt; fails(rt.alloc(), &RESTART_MALFORMED, 0, Stage::Restart));
-    assert!(rt; fails(rt.alloc(), &START_MALFORMED, 0, Stage::Start));
+fn tries_are_served_or_refused_or_fail_between_two(rt: HostRuntime) {
+    assert!(rt; goes_by_each(rt.alloc(), &TRYING, &SCRIPTS));
 }

@@ -2,11 +2,13 @@
 //! commands, and the ends that replies lead to. The run of the disk is on a machine whose seed is 32 zero
 //! bytes; its end has the HMAC that `tpm_auth` has from there too.
 
-use crate::plans::{APPROVALS, Act, COUNTER, KEY};
-use crate::runs::{Failing, Run, Use, state_after};
-use crate::steps::{NONCE_SEED, Step};
+use crate::vectors::NONCE_SEED;
 use std::alloc::Global;
-use tpol_driver::{End, Next, Stage};
+use tpol_courses::{
+    APPROVALS, Act, COUNTER, Course, Failing, KEY, Script, Step, Use, Wanted, fails,
+    fails_when_cut, goes_as_told,
+};
+use tpol_driver::Stage;
 
 /// The reply to Unseal in the disk's run.
 const UNSEALED: &[u8; 88] =
@@ -134,42 +136,36 @@ const DEVICE_STEPS: [Step<'static>; 10] = [
 ];
 
 /// Replies that fail in the run of the disk.
-static DISK_FAILURES: [Failing<'static>; 10] = [
+const DISK_FAILURES: [Failing<'static>; 10] = [
     Failing {
         place: 0,
         reply: b"\x80\x01\x00\x00\x00\x0a\x00\x00\x09\x03",
-        code: 0x903,
-        stage: Stage::Start,
+        wanted: Wanted::Failed(0x903, Stage::Start),
     },
     Failing {
         place: 0,
         reply: b"\x80\x01\x00\x00\x00\x0a\x00\x00\x00\x00",
-        code: 0,
-        stage: Stage::Start,
+        wanted: Wanted::Failed(0, Stage::Start),
     },
     Failing {
         place: 1,
         reply: b"\x80\x01\x00\x00\x00\x0a\x00\x00\x01\xc4",
-        code: 0x1c4,
-        stage: Stage::Move(1),
+        wanted: Wanted::Failed(0x1c4, Stage::Move(1)),
     },
     Failing {
         place: 3,
         reply: b"\x80\x01\x00\x00\x00\x0a\x00\x00\x00",
-        code: 0,
-        stage: Stage::Move(3),
+        wanted: Wanted::Failed(0, Stage::Move(3)),
     },
     Failing {
         place: 4,
         reply: b"\x80\x01\x00\x00\x00\x0a\x00\x00\x09\xa3",
-        code: 0x9a3,
-        stage: Stage::Goal,
+        wanted: Wanted::Failed(0x9a3, Stage::Goal),
     },
     Failing {
         place: 4,
         reply: b"\x80\x01\x00\x00\x00\x0a\x00\x00\x00\x00",
-        code: 0,
-        stage: Stage::Goal,
+        wanted: Wanted::Failed(0, Stage::Goal),
     },
     Failing {
         place: 4,
@@ -178,8 +174,7 @@ static DISK_FAILURES: [Failing<'static>; 10] = [
           \x44\x4b\x4f\x20\xb6\x9d\x2c\xa1\xec\x95\xed\xf6\x00\x00\x20\x6d\xbb\x66\xb5\xae\
           \xc0\x64\x3c\x60\x5a\x59\xac\x25\x13\xc9\x13\x69\x82\xb4\x13\x4c\xcb\x0c\xd3\xcb\
           \x4e\x9a\x9c\x71\x23\x32\x9d",
-        code: 0,
-        stage: Stage::Goal,
+        wanted: Wanted::Failed(0, Stage::Goal),
     },
     Failing {
         place: 4,
@@ -188,8 +183,7 @@ static DISK_FAILURES: [Failing<'static>; 10] = [
           \x44\x4b\x4f\x20\xb6\x9d\x2c\xa1\xec\x95\xed\xf6\x3c\x01\x00\x20\xe0\x28\xe8\x53\
           \x1b\x8f\x3d\xd8\x63\xc9\xdb\x22\xc8\x78\xf5\x50\x9a\xb6\x06\x6e\xe8\x6d\x7c\x6c\
           \xd9\xe0\x7a\xf5\x26\x05\xff\x85",
-        code: 0,
-        stage: Stage::Goal,
+        wanted: Wanted::Failed(0, Stage::Goal),
     },
     Failing {
         place: 4,
@@ -198,38 +192,33 @@ static DISK_FAILURES: [Failing<'static>; 10] = [
           \x44\x4b\x4f\x20\xb6\x9d\x2c\xa1\xec\x95\xed\xf6\x3c\x00\x00\x20\xd6\x2e\x61\x94\
           \x3e\x52\x77\x54\xb1\x01\x9c\xec\x66\x4b\xeb\x0a\xca\xbb\x2f\xdd\x1c\x37\x56\x04\
           \x5d\x5b\x2c\xf7\xbc\x40\x9c\x88",
-        code: 0,
-        stage: Stage::Goal,
+        wanted: Wanted::Failed(0, Stage::Goal),
     },
     Failing {
         place: 4,
         reply: b"\x80\x02\x00\x00\x00\x38\x00\x00\x00\x00\x00\x00\x00\x05\x00\x03\x6b\x65\x79\x00\
           \x20\x65\x1d\x25\x73\x7d\x57\xd8\xb1\xa2\xd1\x03\xaf\x4a\xae\xe5\x99\x18\x0f\x87\
           \x44\x4b\x4f\x20\xb6\x9d\x2c\xa1\xec\x95\xed\xf6\x3c\x00\x00\x00",
-        code: 0,
-        stage: Stage::Goal,
+        wanted: Wanted::Failed(0, Stage::Goal),
     },
 ];
 
 /// The same in the run of the device.
-static DEVICE_FAILURES: [Failing<'static>; 4] = [
+const DEVICE_FAILURES: [Failing<'static>; 4] = [
     Failing {
         place: 4,
         reply: b"\x80\x01\x00\x00\x00\x0a\x00\x00\x02\xdb",
-        code: 0x2db,
-        stage: Stage::Verify(4),
+        wanted: Wanted::Failed(0x2db, Stage::Verify(4)),
     },
     Failing {
         place: 4,
         reply: b"\x80\x01\x00\x00\x00\x0a\x00\x00\x00\x00",
-        code: 0,
-        stage: Stage::Verify(4),
+        wanted: Wanted::Failed(0, Stage::Verify(4)),
     },
     Failing {
         place: 5,
         reply: b"\x80\x01\x00\x00\x00\x0a\x00\x00\x04\xc4",
-        code: 0x4c4,
-        stage: Stage::Move(4),
+        wanted: Wanted::Failed(0x4c4, Stage::Move(4)),
     },
     Failing {
         place: 9,
@@ -238,8 +227,7 @@ static DEVICE_FAILURES: [Failing<'static>; 4] = [
           \xbb\xbb\xbb\xbb\xbb\xbb\xbb\xbb\xbb\xbb\xbb\xbb\xbb\xbb\x00\x00\x20\x00\x00\x00\
           \x00\x00\x00\x00\x00\x00\x00\x00\x00\x00\x00\x00\x00\x00\x00\x00\x00\x00\x00\x00\
           \x00\x00\x00\x00\x00\x00\x00\x00\x00",
-        code: 0,
-        stage: Stage::Goal,
+        wanted: Wanted::Failed(0, Stage::Goal),
     },
 ];
 
@@ -279,12 +267,13 @@ const DISK_KEY: [u8; 32] =
       \x16\x71\x81\xe9\x7c\x8c\x8b\x9f\x32\xc7\x39\x5e";
 
 /// The branch `boot` of the policy of a disk key: PCRs and the value of the key.
-static DISK: Run = Run {
+static DISK: Course = Course {
     path: &[
         Act::Pcrs(ZERO_PCRS),
         Act::AuthValue,
         Act::Branches(BOOT, OWNER),
     ],
+    blind_paths: &[],
     goal: Use::Unseal {
         object: 0x8000_0000,
     },
@@ -293,12 +282,10 @@ static DISK: Run = Run {
     directory: &[(0x8000_0000, DISK_KEY, 0x40)],
     tickets: &[],
     nonce_seed: NONCE_SEED,
-    steps: &DISK_STEPS,
-    flush: DISK_FLUSH,
 };
 
 /// A path with each command that takes a handle, a value or a key, and a goal by password.
-static DEVICE: Run = Run {
+static DEVICE: Course = Course {
     path: &[
         Act::Signed {
             policy_ref: b"ref",
@@ -315,6 +302,7 @@ static DEVICE: Run = Run {
         Act::Timer,
         Act::Password,
     ],
+    blind_paths: &[],
     goal: Use::NvRead {
         index: 0x01c0_7f01,
         size: 4,
@@ -329,89 +317,34 @@ static DEVICE: Run = Run {
     ],
     tickets: &[],
     nonce_seed: [0x66; 32],
+};
+
+static DISK_SCRIPT: Script = Script {
+    steps: &DISK_STEPS,
+    wanted: Wanted::Served(0, b"key"),
+    failures: &DISK_FAILURES,
+    flush: DISK_FLUSH,
+};
+
+static DEVICE_SCRIPT: Script = Script {
     steps: &DEVICE_STEPS,
+    wanted: Wanted::Served(0, b"data"),
+    failures: &DEVICE_FAILURES,
     flush: DEVICE_FLUSH,
 };
 
-fn is_served(end: &End, wanted: &[u8]) -> bool {
-    match end {
-        End::Served(bytes) => bytes.as_slice() == wanted,
-        _ => false,
-    }
-}
-
-fn is_failed(end: &End, code: u32, stage: Stage) -> bool {
-    match end {
-        End::Denied { at, rc } => rc.code == code && *at == stage,
-        End::BadReply(at) => code == 0 && *at == stage,
-        End::Served(_) => false,
-    }
-}
-
-/// Whether a run ended, and was served these bytes.
-fn served(state: &Option<Next>, wanted: &[u8]) -> bool {
-    match state {
-        Some(Next::Over(over)) => is_served(&over.end, wanted),
-        _ => false,
-    }
-}
-
-/// Whether a run ended, and was denied by this code at this stage, or heard a bad reply there where the code
-/// is 0.
-fn failed(state: &Option<Next>, code: u32, stage: Stage) -> bool {
-    match state {
-        Some(Next::Over(over)) => is_failed(&over.end, code, stage),
-        _ => false,
-    }
-}
-
-// A test names the tables of its run, and leaves the states to these functions: a proof about both at once is long.
-
-fn serves(alloc: Global, run: &Run, wanted: &[u8]) -> bool {
-    let state = state_after(alloc, run, None);
-    let answer = served(&state, wanted);
-    drop(state);
-    answer
-}
-
-fn fails(alloc: Global, run: &Run, failing: &Failing) -> bool {
-    let state = state_after(alloc, run, Some(failing));
-    let answer = failed(&state, failing.code, failing.stage);
-    drop(state);
-    answer
-}
-
-/// The number of the first of these replies by which the run does not fail as it is told; none where each does.
-fn first_other(alloc: Global, run: &Run, failures: &[Failing]) -> Option<usize> {
-    for (number, failing) in failures.iter().enumerate() {
-        if !fails(alloc, run, failing) {
-            return Some(number);
-        }
-    }
-    None
-}
-
-/// Whether the run hears a bad reply at this place, wherever the step's reply is cut short.
-fn fails_when_cut(alloc: Global, run: &Run, place: usize, stage: Stage) -> bool {
-    let Some(step) = run.steps.get(place) else {
-        return false;
-    };
-    for length in 0..step.reply.len() {
-        let failing = Failing {
-            place,
-            reply: &step.reply[..length],
-            code: 0,
-            stage,
-        };
-        if !fails(alloc, run, &failing) {
+/// Whether the disk's run hears a bad reply at each step's stage where its reply is cut short.
+fn fails_wherever_cut(alloc: Global, course: &Course, script: &Script) -> bool {
+    for (place, stage) in DISK_STAGES.iter().enumerate() {
+        if !fails_when_cut(alloc, course, script, place, *stage) {
             return false;
         }
     }
     true
 }
 
-/// Whether the disk's run hears a bad reply at its goal where the last bit of this byte of Unseal's reply is changed.
-fn fails_when_changed(alloc: Global, byte: usize) -> bool {
+/// Whether it hears one at its goal where the last bit of this byte of Unseal's reply is changed.
+fn fails_when_changed(alloc: Global, course: &Course, script: &Script, byte: usize) -> bool {
     let mut changed = *UNSEALED;
     if byte >= changed.len() {
         return false;
@@ -420,38 +353,34 @@ fn fails_when_changed(alloc: Global, byte: usize) -> bool {
     let failing = Failing {
         place: 4,
         reply: &changed,
-        code: 0,
-        stage: Stage::Goal,
+        wanted: Wanted::Failed(0, Stage::Goal),
     };
-    fails(alloc, &DISK, &failing)
+    fails(alloc, course, script, &failing)
 }
 
-#[test]
-fn replies_that_are_cut_or_changed(rt: HostRuntime) {
-    for (place, stage) in DISK_STAGES.iter().enumerate() {
-        assert!(rt;
-            fails_when_cut(rt.alloc(), &DISK, place, *stage),
-            "cut at step {place}"
-        );
-    }
+fn fails_wherever_changed(alloc: Global, course: &Course, script: &Script) -> bool {
     for byte in 0..UNSEALED.len() {
-        assert!(rt;
-            fails_when_changed(rt.alloc(), byte),
-            "changed at byte {byte}"
-        );
+        if !fails_when_changed(alloc, course, script, byte) {
+            return false;
+        }
     }
+    true
+}
+
+// A test names the tables of its run once: the proof of each function that does so is long.
+
+fn goes_and_fails(alloc: Global, course: &Course, script: &Script) -> bool {
+    goes_as_told(alloc, course, script)
+        && fails_wherever_cut(alloc, course, script)
+        && fails_wherever_changed(alloc, course, script)
 }
 
 #[test]
-fn runs_of_the_disk(rt: HostRuntime) {
-    let run = &DISK;
-    assert!(rt; serves(rt.alloc(), run, b"key"));
-    assert_eq!(rt; first_other(rt.alloc(), run, &DISK_FAILURES), None);
+fn runs_of_the_disk_and_replies_that_are_cut_or_changed(rt: HostRuntime) {
+    assert!(rt; goes_and_fails(rt.alloc(), &DISK, &DISK_SCRIPT));
 }
 
 #[test]
 fn runs_of_the_device(rt: HostRuntime) {
-    let run = &DEVICE;
-    assert!(rt; serves(rt.alloc(), run, b"data"));
-    assert_eq!(rt; first_other(rt.alloc(), run, &DEVICE_FAILURES), None);
+    assert!(rt; goes_as_told(rt.alloc(), &DEVICE, &DEVICE_SCRIPT));
 }

@@ -1,12 +1,8 @@
 //! Tickets of a run. The commands and the ticket are computed by another program (Python's `hashlib` and `hmac`) from
 //! the rules of the commands, on a machine whose seed is 32 zero bytes.
 
-use crate::plans::Act;
-use crate::runs::{Run, Use, state_after};
-use crate::steps::{DENIED, NONCE_SEED, OK, START, Step};
-use std::alloc::Global;
-use tpol_base::Name;
-use tpol_driver::{HeldTicket, Next};
+use crate::vectors::{DENIED, NONCE_SEED, OK, START};
+use tpol_courses::{Act, Course, Script, Step, TICKET, Use, Wanted, goes_by_each};
 
 /// Its reply: the session 0x0300_0001.
 const STARTED: &[u8] =
@@ -49,12 +45,7 @@ const UNSEAL: &[u8] =
 /// FlushContext.
 const FLUSH: &[u8] = b"\x80\x01\x00\x00\x00\x0e\x00\x00\x01\x65\x03\x00\x00\x01";
 
-/// The ticket: the HMAC over its tag, the deadline, the reset count 0, no cpHashA, no policyRef and the Name.
-const TICKET: [u8; 32] =
-    *b"\x7c\xee\x05\x1b\xe5\x69\x77\xce\x84\x5a\x60\xf6\xaa\x30\x1b\x16\xe6\x3b\xf4\x13\
-      \xd6\x98\xe9\x8f\x79\x08\x93\x8e\xc0\x6f\x53\x9b";
-
-/// The same as the move of a path.
+/// The PolicySecret that earns it, as the move of a path.
 const TICKETED_SECRET: Act = Act::Secret {
     entity: 0x4000_000b,
     expiration: -1,
@@ -120,9 +111,10 @@ const SHOWING_STEPS: [Step<'static>; 4] = [
     },
 ];
 
-/// A run without tickets whose reply has a deadline.
-static EARNING: Run = Run {
+/// A run that holds no ticket.
+static KNOWING: Course = Course {
     path: &[TICKETED_SECRET],
+    blind_paths: &[],
     goal: Use::Unseal {
         object: 0x8000_0000,
     },
@@ -131,28 +123,12 @@ static EARNING: Run = Run {
     directory: &[(0x8000_0000, [0x22; 32], 0x40)],
     tickets: &[],
     nonce_seed: NONCE_SEED,
-    steps: &EARNING_STEPS,
-    flush: FLUSH,
-};
-
-/// One whose reply has none.
-static NOT_EARNING: Run = Run {
-    path: &[TICKETED_SECRET],
-    goal: Use::Unseal {
-        object: 0x8000_0000,
-    },
-    secrets: &[],
-    keys: &[],
-    directory: &[(0x8000_0000, [0x22; 32], 0x40)],
-    tickets: &[],
-    nonce_seed: NONCE_SEED,
-    steps: &NOT_EARNING_STEPS,
-    flush: FLUSH,
 };
 
 /// One that holds a ticket with another policyRef, and two that stand for the move, the right one first.
-static SHOWING: Run = Run {
+static SHOWING: Course = Course {
     path: &[TICKETED_SECRET],
+    blind_paths: &[],
     goal: Use::Unseal {
         object: 0x8000_0000,
     },
@@ -161,53 +137,37 @@ static SHOWING: Run = Run {
     directory: &[(0x8000_0000, [0x22; 32], 0x40)],
     tickets: &[(b"ref", [0x11; 32]), (b"", TICKET), (b"", [0x22; 32])],
     nonce_seed: NONCE_SEED,
-    steps: &SHOWING_STEPS,
-    flush: FLUSH,
 };
 
-/// Whether this is the ticket that the run earns.
-fn is_earned(ticket: &HeldTicket) -> bool {
-    !ticket.signed
-        && ticket.key == Name::Handle(0x4000_000b)
-        && ticket.policy_ref.is_empty()
-        && ticket.cp_hash.is_none()
-        && ticket.deadline == 1000
-        && ticket.reset_count == 0
-        && ticket.digest.bytes == TICKET
-}
+/// A reply with a deadline earns its ticket, and one without a deadline earns none.
+static KNOWN: [Script; 2] = [
+    Script {
+        steps: &EARNING_STEPS,
+        wanted: Wanted::Earned(1),
+        failures: &[],
+        flush: FLUSH,
+    },
+    Script {
+        steps: &NOT_EARNING_STEPS,
+        wanted: Wanted::Earned(0),
+        failures: &[],
+        flush: FLUSH,
+    },
+];
 
-/// Whether the run ended, and has earned this many tickets, each of which is that one.
-fn has_earned(state: &Option<Next>, count: usize) -> bool {
-    match state {
-        Some(Next::Over(over)) => over.earned.len() == count
-            && over
-                .earned
-                .as_slice()
-                .iter()
-                .all(|ticket| is_earned(ticket)),
-        _ => false,
-    }
-}
-
-// A test names the tables of its run, and leaves the states to this function: a proof about both at once is long.
-fn earns(alloc: Global, run: &Run, count: usize) -> bool {
-    let state = state_after(alloc, run, None);
-    let answer = has_earned(&state, count);
-    drop(state);
-    answer
-}
+static SHOWN: [Script; 1] = [Script {
+    steps: &SHOWING_STEPS,
+    wanted: Wanted::Earned(0),
+    failures: &[],
+    flush: FLUSH,
+}];
 
 #[test]
 fn a_reply_with_a_deadline_earns_its_ticket(rt: HostRuntime) {
-    assert!(rt; earns(rt.alloc(), &EARNING, 1));
-}
-
-#[test]
-fn a_reply_without_a_deadline_earns_none(rt: HostRuntime) {
-    assert!(rt; earns(rt.alloc(), &NOT_EARNING, 0));
+    assert!(rt; goes_by_each(rt.alloc(), &KNOWING, &KNOWN));
 }
 
 #[test]
 fn the_first_ticket_that_stands_for_a_move_is_shown(rt: HostRuntime) {
-    assert!(rt; earns(rt.alloc(), &SHOWING, 0));
+    assert!(rt; goes_by_each(rt.alloc(), &SHOWING, &SHOWN));
 }

@@ -1,0 +1,18 @@
+//! A machine under whole command buffers, by the trials of `tpm_trials`.
+
+use tpm_trials::{ENTITIES, Trial, passes_of};
+
+#[test]
+fn cut_commands_change_nothing(rt: HostRuntime) {
+    assert!(rt; passes_of(rt.alloc(), ENTITIES, Trial::Cuts));
+}
+
+#[test]
+fn extends_do_not_replay(rt: HostRuntime) {
+    assert!(rt; passes_of(rt.alloc(), "{}", Trial::Extends));
+}
+
+#[test]
+fn a_reset_begins_anew(rt: HostRuntime) {
+    assert!(rt; passes_of(rt.alloc(), "{}", Trial::Reset));
+}
