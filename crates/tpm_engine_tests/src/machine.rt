@@ -1,18 +1,18 @@
-//! A machine under whole command buffers, by the trials of `tpm_trials`.
+//! A machine under whole command buffers, by the trials of `tpm_exercises`.
 
-use tpm_trials::{ENTITIES, Trial, passes_of};
+use tpm_exercises::{ENTITIES, Exercise, passes_of};
 
 #[test]
 fn cut_commands_change_nothing(rt: HostRuntime) {
-    assert!(rt; passes_of(rt.alloc(), ENTITIES, Trial::Cuts));
+    assert!(rt; passes_of(rt.alloc(), ENTITIES, Exercise::Cuts));
 }
 
 #[test]
 fn extends_do_not_replay(rt: HostRuntime) {
-    assert!(rt; passes_of(rt.alloc(), "{}", Trial::Extends));
+    assert!(rt; passes_of(rt.alloc(), "{}", Exercise::Extends));
 }
 
 #[test]
 fn a_reset_begins_anew(rt: HostRuntime) {
-    assert!(rt; passes_of(rt.alloc(), "{}", Trial::Reset));
+    assert!(rt; passes_of(rt.alloc(), "{}", Exercise::Reset));
 }

@@ -1,11 +1,11 @@
 //! Whole runs over objects in memory whose calls fail where a run says so: what they print and answer. What is
 //! printed where nothing fails, `docs/check` compares as the built program prints it.
 //!
-//! The runs are a table, and the test holds nothing: `tpol_trials` carries them out.
+//! The runs are a table, and the test holds nothing: `tpol_exercises` carries them out.
 
 use std::alloc::Global;
+use tpol_exercises::{Run, ends_as_told};
 use tpol_top::Status;
-use tpol_trials::{Run, ends_as_told};
 
 const SECRET: &str =
     r#"{"description":"ek","policy":[{"type":"POLICYSECRET","objectPath":"/HE"}]}"#;

@@ -6,4 +6,4 @@
 
 mod machine;
 
-pub use machine::{ENTITIES, Trial, passes_of};
+pub use machine::{ENTITIES, Exercise, passes_of};

@@ -283,7 +283,7 @@ fn begins_anew(machine: &mut Machine, alloc: Global) -> bool {
 
 /// What a machine is put through.
 #[derive(Clone, Copy)]
-pub enum Trial {
+pub enum Exercise {
     /// Worked commands, each cut to every shorter length, behind preparing ones: they change nothing.
     Cuts,
     /// A hundred thousand extends in a row. A machine that goes over its journal at each command would take hours.
@@ -292,19 +292,19 @@ pub enum Trial {
     Reset,
 }
 
-fn passes(machine: &mut Machine, alloc: Global, trial: Trial) -> bool {
-    match trial {
-        Trial::Cuts => keeps_as_it_is(machine, alloc),
-        Trial::Extends => extends_in_a_row(machine, alloc),
-        Trial::Reset => begins_anew(machine, alloc),
+fn passes(machine: &mut Machine, alloc: Global, exercise: Exercise) -> bool {
+    match exercise {
+        Exercise::Cuts => keeps_as_it_is(machine, alloc),
+        Exercise::Extends => extends_in_a_row(machine, alloc),
+        Exercise::Reset => begins_anew(machine, alloc),
     }
 }
 
-/// Whether the machine of a scene passes a trial.
-pub fn passes_of(alloc: Global, scene: &str, trial: Trial) -> bool {
+/// Whether the machine of a scene passes an exercise.
+pub fn passes_of(alloc: Global, scene: &str, exercise: Exercise) -> bool {
     match machine_of(alloc, scene) {
         Some(mut machine) => {
-            let answer = passes(&mut machine, alloc, trial);
+            let answer = passes(&mut machine, alloc, exercise);
             drop(machine);
             answer
         }
