@@ -1,4 +1,4 @@
-ghost use Rattle.std.specs.Prelude.{◌≡◌, ◌++◌, ◌≤◌, ◌⊎◌, MatchResult, OnOk};
+ghost use Rattle.std.specs.Prelude.{◌≡◌, ◌++◌, ◌≤◌, ◌⊎◌, IfSome, MatchResult, OnOk};
 ghost use Rattle.tpol_base.specs.Causes.{HasCause, Grows, GrowsInPart, Rose};
 ghost use Rattle.tpol_steps.specs.Answer.{text_of};
 ghost use Rattle.tpol_front.specs.Status.{status_of};
@@ -25,7 +25,10 @@ pub fn print_answer<K: Sink>(out: &mut K, answer: &Answer) -> Status
     }
 }
 
-// Writes lines.
+// The longest line that is joined before it is written: that of a command with a reply of 4,096 bytes.
+const ROOM: usize = 8320;
+
+// Writes lines, each in one write, or in two where it has a tail and is longer than `ROOM`.
 fn print_lines<K: Sink>(out: &mut K, lines: &Lines) -> Result<(), Failed>
     ensures written { MatchResult result
         (λ _. Grows (K.contents out.old) (K.contents out.new) (text_of lines.now))
@@ -33,9 +36,10 @@ fn print_lines<K: Sink>(out: &mut K, lines: &Lines) -> Result<(), Failed>
     ensures cause { HasCause (K.faults out.old) (K.faults out.new) result }
     ensures quiet { OnOk result (K.faults out.new ≡ K.faults out.old) }
 {
+    let mut room = [0; ROOM];
     for index in 0..lines.len() {
         let (head, tail) = lines.parts(index);
-        match print_line(out, head, tail) {
+        match print_line(out, &mut room, head, tail) {
             Ok(()) => {}
             Err(failed) => return Err(failed),
         }
@@ -43,8 +47,39 @@ fn print_lines<K: Sink>(out: &mut K, lines: &Lines) -> Result<(), Failed>
     Ok(())
 }
 
-// Writes a line, in one write where it has no tail.
-fn print_line<K: Sink>(out: &mut K, head: &[u8], tail: &[u8]) -> Result<(), Failed>
+// Writes a line of two parts.
+fn print_line<K: Sink>(out: &mut K, room: &mut [u8], head: &[u8], tail: &[u8]) -> Result<(), Failed>
+    ensures written { MatchResult result
+        (λ _. Grows (K.contents out.old) (K.contents out.new) (head.now ++ tail.now))
+        (λ _. GrowsInPart (K.contents out.old) (K.contents out.new) (head.now ++ tail.now)) }
+    ensures cause { HasCause (K.faults out.old) (K.faults out.new) result }
+    ensures quiet { OnOk result (K.faults out.new ≡ K.faults out.old) }
+{
+    if tail.is_empty() {
+        return out.write(head);
+    }
+    match joined(room, head, tail) {
+        Some(line) => out.write(line),
+        None => print_parts(out, head, tail),
+    }
+}
+
+// The two parts behind one another, if there is room for them.
+fn joined<'a>(room: &'a mut [u8], head: &[u8], tail: &[u8]) -> Option<&'a [u8]>
+    ensures { IfSome result (λ line. line.now ≡ head.now ++ tail.now) }
+{
+    let start = head.len();
+    let end = start.checked_add(tail.len())?;
+    if room.len() < end {
+        return None;
+    }
+    room[..start].copy_from_slice(head);
+    room[start..end].copy_from_slice(tail);
+    Some(&room[..end])
+}
+
+// Writes the two parts, one after the other.
+fn print_parts<K: Sink>(out: &mut K, head: &[u8], tail: &[u8]) -> Result<(), Failed>
     ensures written { MatchResult result
         (λ _. Grows (K.contents out.old) (K.contents out.new) (head.now ++ tail.now))
         (λ _. GrowsInPart (K.contents out.old) (K.contents out.new) (head.now ++ tail.now)) }
@@ -52,7 +87,6 @@ fn print_line<K: Sink>(out: &mut K, head: &[u8], tail: &[u8]) -> Result<(), Fail
     ensures quiet { OnOk result (K.faults out.new ≡ K.faults out.old) }
 {
     match out.write(head) {
-        Ok(()) if tail.is_empty() => Ok(()),
         Ok(()) => out.write(tail),
         Err(failed) => Err(failed),
     }
