@@ -1,4 +1,4 @@
-use Rattle.std.proofs.Common.{rules, ◌≡◌, inr, refl, arith}
+use Rattle.std.proofs.Common.{rules, inr, refl, arith}
 use Rattle.tpol_front.proofs.Losses.{loses_nothing}
 use Rattle.tpol_front.specs.Report.{most_read}
 use Rattle.tpol_front.proofs.answers.answer_of_words.Goals as goal

@@ -1,4 +1,4 @@
-use Rattle.std.proofs.Common.{rules, ◌≡◌, ℕ, List, ap, sym, subst, ◌∙◌, length, replicate, arith}
+use Rattle.std.proofs.Common.{rules, ◌≡◌, ap, sym, subst, ◌∙◌, length, replicate}
 use Rattle.tpol_lines.proofs.WholeLines.{lines_of_texts, tails_of_texts}
 use Rattle.tpol_lines.specs.Whole.{HaveTails, whole_lines}
 use Rattle.tpol_lines.proofs.lines.Lines.of_texts.Goals as goal

@@ -1,4 +1,4 @@
-use Rattle.std.proofs.Common.{◌<◌, ◌≤◌, ◌≡◌, ◌-◌, ◌++◌, ℕ, suc, List, [], ◌∷◌, length, get_or, refl, ap, sym, ◌∙◌, arith}
+use Rattle.std.proofs.Common.{◌<◌, ◌≡◌, ◌++◌, length, get_or, ap, sym, ◌∙◌, arith}
 use Rattle.tpol_lines.proofs.WholeLines.{its_tail, length-numbers, length-whole, no_tail, number_within, whole_at}
 use Rattle.tpol_lines.specs.Whole.{tail_of}
 use Rattle.tpol_lines.proofs.lines.Lines.parts.Goals.{in-None, in-Some}

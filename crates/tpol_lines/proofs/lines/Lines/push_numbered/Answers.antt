@@ -1,4 +1,4 @@
-use Rattle.std.proofs.Common.{◌≡◌, ◌≤◌, ◌+◌, ◌++◌, ◌∷◌, [], List, ℕ, suc, length, ap, sym, subst, ◌∙◌, append_assoc, arith}
+use Rattle.std.proofs.Common.{◌≡◌, ◌++◌, ◌∷◌, [], List, ℕ, suc, ap, sym, subst, ◌∙◌, append_assoc, arith}
 use Rattle.hex.specs.Hex.{encode_lower}
 use Rattle.tpol_lines.specs.Lines.{line_of}
 use Rattle.tpol_lines.proofs.WholeLines.{line_added, lines_with, on_any_error, tail_at, tails_added, tails_with}

@@ -1,4 +1,4 @@
-use Rattle.std.proofs.Common.{◌≡◌, ◌++◌, ◌∷◌, [], Bor, List, ℕ, ap, ◌∙◌, append-nil, arith}
+use Rattle.std.proofs.Common.{◌++◌, ◌∷◌, [], List, ℕ, ap, ◌∙◌, append-nil, arith}
 use Rattle.std.specs.List.{flat_map}
 use Rattle.tpol_lines.proofs.WholeLines.{line_added, tails_added}
 use Rattle.tpol_lines.proofs.lines.Lines.push_pieces.Goals as goal

@@ -1,4 +1,4 @@
-use Rattle.std.proofs.Common.{◌≡◌, ℕ, List, length, take, ap, sym, subst, ◌∙◌, arith}
+use Rattle.std.proofs.Common.{length, take, ap, sym, subst, ◌∙◌, arith}
 use Rattle.tpol_lines.proofs.WholeLines.{first_lines, first_tails, length-whole}
 use Rattle.tpol_lines.specs.Whole.{HaveTails, whole_lines}
 use Rattle.tpol_lines.proofs.lines.Lines.truncate.Goals as goal
