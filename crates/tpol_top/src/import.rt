@@ -32,8 +32,13 @@ pub fn import<H: Shelf>(
 {
     let (policy, _notes) = read_document(alloc, input)?;
     let answer = imported(alloc, name)?;
-    put_policy(alloc, shelf, name.as_str(), &policy)?;
-    Ok(answer)
+    match put_policy(alloc, shelf, name.as_str(), &policy) {
+        Ok(()) => Ok(answer),
+        Err(lapse) => {
+            drop(answer);
+            Err(Halt::from(lapse))
+        }
+    }
 }
 
 fn imported(alloc: Global, name: &Text) -> Result<Answer, NoMemory>
