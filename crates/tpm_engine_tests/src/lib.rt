@@ -3,4 +3,6 @@
 #![tactic(auto)]
 
 #[cfg(test)]
+mod exercises;
+#[cfg(test)]
 mod machine;

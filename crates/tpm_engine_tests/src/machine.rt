@@ -1,6 +1,6 @@
-//! A machine under whole command buffers, by the trials of `tpm_exercises`.
+//! A machine under whole command buffers.
 
-use tpm_exercises::{ENTITIES, Exercise, passes_of};
+use crate::exercises::{ENTITIES, Exercise, passes_of};
 
 #[test]
 fn cut_commands_change_nothing(rt: HostRuntime) {

@@ -1,9 +1,12 @@
 //! Blind runs. The commands are computed by another program (Python's `hashlib`) from the rules of the commands; the
 //! replies are written by hand.
 
+use crate::courses::{Course, Script, Use, goes_by_each};
+use crate::ends::Wanted;
+use crate::plans::Act;
+use crate::steps::Step;
 use crate::vectors::{DENIED, NONCE_SEED, OK, START};
 use tpol_base::Rc;
-use tpol_courses::{Act, Course, Script, Step, Use, Wanted, goes_by_each};
 use tpol_driver::{Stage, Tried};
 
 /// The reply to StartAuthSession: the session 0x0300_0000.

@@ -6,7 +6,15 @@
 #[cfg(test)]
 mod blind;
 #[cfg(test)]
+mod courses;
+#[cfg(test)]
+mod ends;
+#[cfg(test)]
+mod plans;
+#[cfg(test)]
 mod sighted;
+#[cfg(test)]
+mod steps;
 #[cfg(test)]
 mod tickets;
 #[cfg(test)]

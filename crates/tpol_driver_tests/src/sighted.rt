@@ -2,12 +2,12 @@
 //! commands, and the ends that replies lead to. The run of the disk is on a machine whose seed is 32 zero
 //! bytes; its end has the HMAC that `tpm_auth` has from there too.
 
+use crate::courses::{Course, Failing, Script, Use, fails, fails_when_cut, goes_as_told};
+use crate::ends::Wanted;
+use crate::plans::{APPROVALS, Act, COUNTER, KEY};
+use crate::steps::Step;
 use crate::vectors::NONCE_SEED;
 use std::alloc::Global;
-use tpol_courses::{
-    APPROVALS, Act, COUNTER, Course, Failing, KEY, Script, Step, Use, Wanted, fails,
-    fails_when_cut, goes_as_told,
-};
 use tpol_driver::Stage;
 
 /// The reply to Unseal in the disk's run.

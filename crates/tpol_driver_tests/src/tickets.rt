@@ -1,8 +1,11 @@
 //! Tickets of a run. The commands and the ticket are computed by another program (Python's `hashlib` and `hmac`) from
 //! the rules of the commands, on a machine whose seed is 32 zero bytes.
 
+use crate::courses::{Course, Script, Use, goes_by_each};
+use crate::ends::{TICKET, Wanted};
+use crate::plans::Act;
+use crate::steps::Step;
 use crate::vectors::{DENIED, NONCE_SEED, OK, START};
-use tpol_courses::{Act, Course, Script, Step, TICKET, Use, Wanted, goes_by_each};
 
 /// Its reply: the session 0x0300_0001.
 const STARTED: &[u8] =

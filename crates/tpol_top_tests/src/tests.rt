@@ -1,10 +1,10 @@
 //! Whole runs over objects in memory whose calls fail where a run says so: what they print and answer. What is
 //! printed where nothing fails, `docs/check` compares as the built program prints it.
 //!
-//! The runs are a table, and the test holds nothing: `tpol_exercises` carries them out.
+//! The runs are a table, and the test holds nothing: `runs` carries them out.
 
+use crate::runs::{Run, ends_as_told};
 use std::alloc::Global;
-use tpol_exercises::{Run, ends_as_told};
 use tpol_top::Status;
 
 const SECRET: &str =

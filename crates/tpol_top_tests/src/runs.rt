@@ -1,12 +1,7 @@
-//! Whole runs over objects in memory whose calls fail where a run says so, as the tables of `tpol_top_tests` have
-//! them.
-//!
-//! The functions are no tests, so they stand in a library of their own, which is proved once: a test over it names
-//! the tables of its runs alone. Nothing but tests stands on it.
+//! Whole runs over objects in memory whose calls fail where a run says so.
 //!
 //! The proof of a function proves the drop of each value that it holds, wherever it may end early. So functions that
 //! may end early are given what they fill, and a sink is let go by one call.
-#![tactic(auto)]
 
 use std::alloc::Global;
 use tpol_base::{Failing, Lapse, MemoryShelf, MemorySource, NoMemory, Shelf, StdSink};
