@@ -67,12 +67,12 @@ impl Bindings {
         ensures binds { (facts : List OneFact) → self.old ≡ merged facts
             → self.new ≡ merged (facts ++ fact_of 0 (Assert assertion.now) None None ∷ []) }
     {
-        self.codes = self.codes.with(assertion::code(assertion));
+        self.codes.add(assertion::code(assertion));
         self.localities = both(self.localities, assertion::localities(assertion));
-        self.cp_hash = self.cp_hash.with(assertion::cp_hash(assertion));
-        self.name_hash = self.name_hash.with(assertion::name_hash(assertion));
-        self.parent_hash = self.parent_hash.with(assertion::parent_hash(assertion));
-        self.written = self.written.with(assertion::written(assertion));
+        self.cp_hash.add(assertion::cp_hash(assertion));
+        self.name_hash.add(assertion::name_hash(assertion));
+        self.parent_hash.add(assertion::parent_hash(assertion));
+        self.written.add(assertion::written(assertion));
         self.presence |= assertion::is_presence(assertion);
         self.auth = later(self.auth, assertion::auth(assertion));
         self.pcr |= assertion::is_pcr(assertion);
@@ -84,7 +84,7 @@ impl Bindings {
             → self.old ≡ merged (facts ++ fact_of event act None None ∷ [])
             → self.new ≡ merged (facts ++ fact_of event act cp_hash deadline ∷ []) }
     {
-        self.limit = self.limit.with(cp_hash);
+        self.limit.add(cp_hash);
         self.deadline = earlier(self.deadline, deadline);
     }
 

@@ -13,18 +13,18 @@ pub enum Held<T> {
 }
 
 impl<T: Copy + Eq> Held<T> {
-    /// The values with one more, if there is one.
-    pub fn with(self, value: Option<T>) -> Held<T>
-        ensures { (values : List T) → self ≡ held T.eq values
-            → result ≡ held T.eq (values ++ listed value) }
+    /// Adds one more value, if there is one.
+    pub fn add(&mut self, value: Option<T>)
+        ensures { (values : List T) → self.old ≡ held T.eq values
+            → self.new ≡ held T.eq (values ++ listed value) }
     {
         let Some(value) = value else {
-            return self;
+            return;
         };
         match self {
-            Held::Nothing => Held::One(value),
-            Held::One(first) if first == value => Held::One(first),
-            Held::One(_) | Held::Several => Held::Several,
+            Held::Nothing => *self = Held::One(value),
+            Held::One(first) if *first == value => {}
+            Held::One(_) | Held::Several => *self = Held::Several,
         }
     }
 

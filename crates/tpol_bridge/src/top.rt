@@ -17,8 +17,9 @@ use tpol_base::{Shelf, Sink, Source};
 use tpol_front::{Status, run_program};
 
 /// Does all that the program for FAPI's exports does: takes the words behind the program's name, reads the export or
-/// the scene from `source`, prints the report to `out`, one write a line, and answers the status. A scene that a command names is on
-/// the shelf, and so are the policies that the scene names and those that are approved.
+/// the scene from `source`, prints the report to `out`, one write a line, or two where a command's line is very long,
+/// and answers the status. A scene that a command names is on the shelf, and so are the policies that the scene names
+/// and those that are approved.
 ///
 /// `left`, `contents` and `documents` are what source, sink and shelf tell that they hold. Each count of
 /// faults is that object's own, and rises at each of its faults.

@@ -18,8 +18,8 @@ use tpol_base::{Shelf, Sink, Source};
 use tpol_steps::Halt;
 
 /// Does all that a program does whose commands are `C`: takes the words behind its name, reads the document from
-/// `source` where the command wants one, prints the report to `out`, one write a line, and answers the status.
-/// Documents that a command names are on the shelf.
+/// `source` where the command wants one, prints the report to `out`, one write a line, or two where a command's line
+/// is very long, and answers the status. Documents that a command names are on the shelf.
 ///
 /// `left`, `contents` and `documents` are what source, sink and shelf tell that they hold. Each count of faults is
 /// that object's own, and rises at each of its faults.

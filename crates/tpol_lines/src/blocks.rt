@@ -1,43 +1,39 @@
 // The line of a path that cannot be gone.
 
-ghost use Rattle.std.specs.Prelude.{◌≡◌, ◌+◌, ◌++◌, ◌≤◌, codes, decimal, length, IfOk, List};
+ghost use Rattle.std.specs.Prelude.{◌≡◌, ◌∷◌, ◌+◌, ◌++◌, ◌≤◌, [], codes, decimal, length, List, OnErr, OnOk};
 ghost use Rattle.tpol_lines.specs.BlockLine.{block_line, why_text};
+ghost use Rattle.tpol_lines.specs.Lines.{line_of};
 ghost use Rattle.tpol_lines.specs.PathLine.{label};
 ghost use Rattle.tpol_tree.specs.declared.path.PathStep.{PathStep};
 
 use crate::events::check_word;
+use crate::lines::Lines;
 use crate::piece::Piece;
-use std::alloc::Global;
-use tpol_base::{Blob, NoMemory};
+use tpol_base::NoMemory;
 use tpol_choose::{Block, Why};
 
-// Room for all of a path's line, and its line end, but its choices.
-const ROOM_BESIDE_CHOICES: usize = 64;
-
-/// The line of the path at a position, from 1, with its choices as `label` gives them, and the first thing that
-/// stands in its way. It fails only where memory ran out.
-pub fn block_line(
-    alloc: Global,
+/// Adds the line of the path at a position, from 1, with its choices as `label` gives them, and the first thing that
+/// stands in its way. It fails only where memory ran out, and the lines are then as before.
+pub fn push_block_line(
+    lines: &mut Lines,
     position: u32,
     choices: &[u8],
     block: &Block,
-) -> Result<Blob, NoMemory>
-    ensures { (steps : List PathStep) → choices.now ≡ label steps
-        → IfOk result (λ line. line ≡ block_line position steps block.now) }
+) -> Result<(), NoMemory>
+    ensures ok { (steps : List PathStep) → choices.now ≡ label steps
+        → OnOk result (lines.new
+        ≡ lines.old ++ line_of (block_line position steps block.now) ∷ []) }
+    ensures err { OnErr result (lines.new ≡ lines.old) }
 {
     let mut front = Piece::new();
     front.prepend(b" ");
     front.prepend_decimal(position);
     front.prepend(b"block ");
     let mut end = Piece::new();
+    end.prepend(b"\n");
     prepend_why(&mut end, block.at, &block.why);
     end.prepend(b" ");
-    let room = choices.len().saturating_add(ROOM_BESIDE_CHOICES);
-    let mut line = Vec::with_capacity(alloc, room)?;
-    line.extend_from_slice(front.as_slice())?;
-    line.extend_from_slice(choices)?;
-    line.extend_from_slice(end.as_slice())?;
-    Ok(Blob::from_vec(line))
+    lines.push_pieces(&[front.as_slice(), choices, end.as_slice()])
 }
 
 // Sets what stands in the way, of the move at a place where it is a move's, before what is there.

@@ -2,9 +2,10 @@
 //! openings, and of their certificates.
 //!
 //! Each line is a definition over what it tells, without its line end, and `Lines::push_line` adds it to the lines
-//! with that. `path_lines` is the list of all lines of a policy's paths; `write_paths` writes it on one walk
-//! through the policy and holds no path, and `labels` the choices of each path alone. `label_at` gives those of
-//! one path, and `assertion_kind` the word for an assertion's policy command.
+//! with that; `push_command_line` and `push_block_line` add theirs themselves. `path_lines` is the list of all
+//! lines of a policy's paths; `write_paths` writes it on one walk through the policy and holds no path, and `labels`
+//! the choices of each path alone. `label_at` gives those of one path, and `assertion_kind` the word for an
+//! assertion's policy command.
 #![tactic(auto)]
 
 mod blocks;
@@ -26,7 +27,7 @@ mod piece;
 mod runs;
 mod tried;
 
-pub use blocks::block_line;
+pub use blocks::push_block_line;
 pub use certificates::{certificate_line, certified_line};
 pub use dead_paths::{dead_line_at, lint_line};
 pub use events::{presence_line, push_command_line, reset_line, time_line};

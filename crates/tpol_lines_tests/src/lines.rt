@@ -10,7 +10,7 @@ use tpol_base::{Blob, Check, NoMemory, Rc, Text};
 use tpol_choose::{Block, Why};
 use tpol_digest::check_paths;
 use tpol_driver::{End, Stage, Tried};
-use tpol_lines::{blind_line, block_line, end_line, opening_line, tried_line};
+use tpol_lines::{Lines, blind_line, end_line, opening_line, push_block_line, tried_line};
 use tpol_trace::Opening;
 use tpol_tree::{Approvals, Assertion, Closed, ClosedElement, ClosedElements};
 
@@ -153,17 +153,26 @@ fn broken_digests(rt: HostRuntime) -> Result<(), NoMemory> {
     Ok(())
 }
 
+fn shows_block(rt: &HostRuntime, check: Check, wanted: &[u8]) -> bool {
+    let block = Block {
+        at: 0,
+        why: Why::Deferred(check),
+    };
+    let mut lines = Lines::new(rt.alloc());
+    let pushed = push_block_line(&mut lines, 3, b"-", &block).is_ok();
+    let shows = pushed && lines.len() == 1 && lines.parts(0).0 == wanted;
+    drop(lines);
+    shows
+}
+
 #[test]
 fn checks_of_a_goal(rt: HostRuntime) {
-    let blocks = [
-        (Check::PcrChanged, "block 3 - goal denied PcrChanged"),
-        (Check::Expired, "block 3 - goal denied Expired"),
-    ];
-    for (check, wanted) in blocks {
-        let block = Block {
-            at: 0,
-            why: Why::Deferred(check),
-        };
-        assert!(rt; shows(block_line(rt.alloc(), 3, b"-", &block), wanted));
-    }
+    assert!(rt;
+        shows_block(
+            &rt,
+            Check::PcrChanged,
+            b"block 3 - goal denied PcrChanged\n"
+        )
+    );
+    assert!(rt; shows_block(&rt, Check::Expired, b"block 3 - goal denied Expired\n"));
 }

@@ -26,7 +26,7 @@ use tpol_base::{ExactClone, NoMemory};
 use tpol_choose::{Block, blocks, choose_with_memo};
 use tpol_digest::path_at_with_memo;
 use tpol_driver::{Plan, Tickets};
-use tpol_lines::{block_line, chosen_line, labels, nobranch_line};
+use tpol_lines::{chosen_line, labels, nobranch_line, push_block_line};
 use tpol_name::Sight;
 use tpol_prepare::{Scenario, Way};
 use tpol_steps::CompiledDocument;
@@ -323,7 +323,7 @@ impl Performance {
         )?;
         match labels(alloc, policy, documents) {
             Ok(labels) => {
-                let printed = self.print_block_list(alloc, &labels, &blocks);
+                let printed = self.print_block_list(&labels, &blocks);
                 drop(labels);
                 drop(blocks);
                 printed
@@ -337,12 +337,7 @@ impl Performance {
 
     // The lines of what stands in the way of paths with these labels, from the first on.
     #[tactic(auto, using(crate::proofs::TurnSteps::blocks_over))]
-    fn print_block_list(
-        &mut self,
-        alloc: Global,
-        labels: &Texts,
-        blocks: &[Option<Block>],
-    ) -> Result<(), NoMemory>
+    fn print_block_list(&mut self, labels: &Texts, blocks: &[Option<Block>]) -> Result<(), NoMemory>
         requires alike { length labels.now ≡ length blocks.now }
         requires few { length blocks.now ≤ 65536 }
         ensures told { (sight : OneSight) (run : OneRun) (paths : List OnePath)
@@ -355,7 +350,7 @@ impl Performance {
     {
         for index in 0..blocks.len() {
             let position = index as u32 + 1;
-            self.print_block(alloc, position, labels.get(index), &blocks[index])?;
+            self.print_block(position, labels.get(index), &blocks[index])?;
         }
         Ok(())
     }
@@ -363,7 +358,6 @@ impl Performance {
     // The line of what stands in the way of the path at this position, with these choices.
     fn print_block(
         &mut self,
-        alloc: Global,
         position: u32,
         choices: &[u8],
         block: &Option<Block>,
@@ -375,10 +369,7 @@ impl Performance {
     {
         match block {
             None => Ok(()),
-            Some(block) => {
-                let line = block_line(alloc, position, choices, block)?;
-                self.print_bytes(line.as_slice())
-            }
+            Some(block) => push_block_line(&mut self.lines, position, choices, block),
         }
     }
 }

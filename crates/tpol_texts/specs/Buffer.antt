@@ -1,4 +1,4 @@
--- Lines that stand behind one another in one list of bytes.
+-- Texts that stand behind one another in one list of bytes.
 use Rattle.std.specs.Prelude.{ℕ, ◌≡◌, ◌≤◌, List, [], ◌∷◌, slice_range}
 
 -- the bytes from a start on, cut at these ends

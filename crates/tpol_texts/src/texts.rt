@@ -1,4 +1,4 @@
-ghost use Rattle.std.specs.Prelude.{◌≡◌, ◌∷◌, ◌++◌, ◌<◌, ◌≤◌, ◌+◌, ◌⊎◌, [], Some, length, slice_get, slice_index_or, take, IfOk, OnErr, OnOk};
+ghost use Rattle.std.specs.Prelude.{◌≡◌, ◌∷◌, ◌++◌, ◌<◌, ◌≤◌, ◌+◌, ◌-◌, ◌⊎◌, [], Some, length, slice_get, slice_index_or, take, IfOk, OnErr, OnOk};
 ghost use Rattle.std.specs.List.{flat_map};
 
 use std::alloc::Global;
@@ -96,6 +96,8 @@ impl Texts {
         ensures kept { IfOk result (λ index. slice_get self.new index ≡ Some text.now) }
         ensures last { IfOk result (λ index. index + 1 ≡ length self.new) }
         ensures texts { OnOk result ((self.new ≡ self.old) ⊎ (self.new ≡ self.old ++ text.now ∷ [])) }
+        ensures same { slice_get self.old (length self.old - 1) ≡ Some text.now
+            → self.new ≡ self.old }
         ensures err { OnErr result (self.new ≡ self.old) }
     {
         if let Some(last) = self.len().checked_sub(1) {

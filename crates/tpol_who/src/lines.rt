@@ -1,14 +1,15 @@
 // The lines of `who`.
 
-ghost use Rattle.std.specs.Prelude.{◌≡◌, IfOk, List};
+ghost use Rattle.std.specs.Prelude.{◌≡◌, ◌∷◌, ◌++◌, [], IfOk, List, OnOk};
+ghost use Rattle.tpol_lines.specs.Lines.{line_of};
 ghost use Rattle.tpol_lines.specs.PathLine.{label};
 ghost use Rattle.tpol_tree.specs.declared.path.PathStep.{PathStep};
 ghost use Rattle.tpol_who.specs.Lines.{begin_line, can_line, path_told};
 
 use std::alloc::Global;
-use tpol_base::{Blob, NoMemory, Text};
+use tpol_base::{NoMemory, Text};
 use tpol_choose::Block;
-use tpol_lines::block_line;
+use tpol_lines::{Lines, push_block_line};
 use tpol_perform::NewRun;
 
 /// The line of a run of the policy of this name, which is about to begin. It fails only where memory ran out.
@@ -20,32 +21,34 @@ pub fn begin_line(alloc: Global, run: &NewRun, policy: &str) -> Result<Text, NoM
     Ok(Text::from_string(line))
 }
 
-/// The line of the path at a position, from 1, with its choices as `label` gives them: what stands in its way, or that
-/// it can be gone. It fails only where memory ran out.
-pub fn path_told(
+/// Adds the line of the path at a position, from 1, with its choices as `label` gives them: what stands in its way, or
+/// that it can be gone. It fails only where memory ran out.
+pub fn push_path(
     alloc: Global,
     position: u32,
     choices: &[u8],
     block: &Option<Block>,
-) -> Result<Blob, NoMemory>
+    lines: &mut Lines,
+) -> Result<(), NoMemory>
     ensures { (steps : List PathStep) → choices.now ≡ label steps
-        → IfOk result (λ line. line ≡ path_told position steps block.now) }
+        → OnOk result (lines.new ≡ lines.old ++ line_of (path_told position steps block.now) ∷ []) }
 {
     match block {
-        None => can_line(alloc, position, choices),
-        Some(block) => block_line(alloc, position, choices, block),
+        None => push_can_line(alloc, position, choices, lines),
+        Some(block) => push_block_line(lines, position, choices, block),
     }
 }
 
-// The line of a path that can be gone.
-fn can_line(alloc: Global, position: u32, choices: &[u8]) -> Result<Blob, NoMemory>
+// Adds the line of a path that can be gone.
+fn push_can_line(
+    alloc: Global,
+    position: u32,
+    choices: &[u8],
+    lines: &mut Lines,
+) -> Result<(), NoMemory>
     ensures { (steps : List PathStep) → choices.now ≡ label steps
-        → IfOk result (λ line. line ≡ can_line position steps) }
+        → OnOk result (lines.new ≡ lines.old ++ line_of (can_line position steps) ∷ []) }
 {
-    let head = format!(in alloc; "can {position} ")?;
-    let room = head.len().saturating_add(choices.len());
-    let mut line = Vec::with_capacity(alloc, room)?;
-    line.extend_from_slice(head.as_bytes())?;
-    line.extend_from_slice(choices)?;
-    Ok(Blob::from_vec(line))
+    let front = format!(in alloc; "can {position} ")?;
+    lines.push_pieces(&[front.as_bytes(), choices, b"\n"])
 }

@@ -1,18 +1,16 @@
 // The lines of the paths of a policy: which a run can go, and what stands in its way on the others.
 
-ghost use Rattle.std.specs.Prelude.{◌≡◌, ◌++◌, ◌∷◌, ◌≤◌, [], List, OnOk, length, map};
+ghost use Rattle.std.specs.Prelude.{◌≡◌, ◌++◌, ◌≤◌, List, OnOk, length, map};
 ghost use Rattle.tpol_digest.specs.Paths.{paths_of};
-ghost use Rattle.tpol_lines.specs.Lines.{line_of};
 ghost use Rattle.tpol_lines.specs.PathLine.{label};
 ghost use Rattle.tpol_name.specs.Setups.{IsSight};
 ghost use Rattle.tpol_name.specs.declared.sight.Sight.{Sight as OneSight};
 ghost use Rattle.tpol_perform.specs.declared.new_run.NewRun.{NewRun as OneRun};
 ghost use Rattle.tpol_prepare.specs.Scenario.{IsWalkable};
 ghost use Rattle.tpol_tree.specs.declared.path.Path.{Path as OnePath};
-ghost use Rattle.tpol_tree.specs.declared.path.PathStep.{PathStep};
-ghost use Rattle.tpol_who.specs.Lines.{block_for, path_told, paths_told};
+ghost use Rattle.tpol_who.specs.Lines.{block_for, paths_told};
 
-use crate::lines::path_told;
+use crate::lines::push_path;
 use std::alloc::Global;
 use tpol_base::NoMemory;
 use tpol_choose::{Block, blocks};
@@ -85,19 +83,4 @@ fn push_list(
         push_path(alloc, position, labels.get(index), &blocks[index], lines)?;
     }
     Ok(())
-}
-
-// The line of the path at this position, with these choices.
-fn push_path(
-    alloc: Global,
-    position: u32,
-    choices: &[u8],
-    block: &Option<Block>,
-    lines: &mut Lines,
-) -> Result<(), NoMemory>
-    ensures { (steps : List PathStep) → choices.now ≡ label steps
-        → OnOk result (lines.new ≡ lines.old ++ line_of (path_told position steps block.now) ∷ []) }
-{
-    let line = path_told(alloc, position, choices, block)?;
-    lines.push_bytes(line.as_slice())
 }

@@ -13,7 +13,7 @@ returns c = record {
       let before = h ∙ merged-push facts (fact_of event act None None) in
       rw (
         merged-push facts (fact_of event act c.args.cp_hash c.args.deadline),
-        c.with-self.ensures (limits_of facts) (ap (λ b. b.limit) before ∙ ap (held is_same_digest) (append-nil (limits_of facts))),
+        c.add.ensures (limits_of facts) (ap (λ b. b.limit) before ∙ ap (held is_same_digest) (append-nil (limits_of facts))),
         c.earlier-self.ensures (deadlines_of facts) (ap (λ b. b.deadline) before ∙ ap least (append-nil (deadlines_of facts))),
         before,
       )
