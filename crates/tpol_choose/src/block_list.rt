@@ -14,6 +14,7 @@ ghost use Rattle.tpol_digest.specs.Memos.{IsMemo, Knows, KnowsBranches, KnowsFir
 ghost use Rattle.tpol_digest.specs.Paths.{approved_paths, document_paths, outside_paths, paths_of};
 ghost use Rattle.tpol_digest.specs.Positions as at;
 ghost use Rattle.tpol_name.specs.Setups.{IsSight};
+ghost use Rattle.tpol_tree.specs.declared.closed.ClosedElement.TheVariants.{Or as OneOr};
 ghost use Rattle.tpol_choose.specs.Few.{HaveFewBranches, HasFewBranches, ElementHasFewBranches, BranchesHaveFewBranches};
 
 use crate::Block;
@@ -169,34 +170,68 @@ fn push_element<'a>(
             push_elements(walk, &next, rest, after, ahead, found)
         }
         ClosedElement::Or(branches) => {
-            let digests = OrDigests::of(&before, branches, rest);
-            let after = digests.behind(&before, element, rest);
-            let or = OrMove::with_after(digests.as_slice(), after.digest);
-            let lead = Lead::of(rest, after);
-            let inner = before.within(branches, rest);
-            let behind = Ahead::After {
-                act: Act::Or(or),
-                first: lead.first,
-                rest: lead.rest,
-                before: lead.before,
-                levels: walk.levels,
-                ahead: &*ahead,
-            };
-            let selection = track.asking(first_of_branches(branches));
-            let kept = walk.client.keeping(selection, &track.session.bindings);
-            let among = Walk {
-                client: walk.client.or_kept(&kept),
-                approvals: walk.approvals,
-                memos: walk.memos,
-                levels: walk.levels,
-            };
-            push_branches(&among, track, &*branches, inner, &behind, found)
+            push_or(walk, track, element, branches, rest, before, ahead, found)
         }
         ClosedElement::Authorize { .. } | ClosedElement::AuthorizeNv { .. } => {
             let after = before.behind(element, rest);
             push_approvals(walk, track, element, rest, after, ahead, found)
         }
     }
+}
+
+// The same of an OR, the rest of its list and what comes behind it. A function of its own, so that what it keeps is not
+// made for the other elements.
+#[cycle(block_list)]
+fn push_or<'a>(
+    walk: &Walk<'_, '_>,
+    track: &Track,
+    element: &'a ClosedElement,
+    branches: &'a ClosedBranches,
+    rest: &'a ClosedElements,
+    before: Before<'a>,
+    ahead: &'a Ahead<'a>,
+    found: &mut Vec<Option<Block>>,
+) -> Result<(), NoMemory>
+    requires or { element.now ≡ OneOr branches.now }
+    requires branches { ElementHasFewBranches (OneOr branches.now) }
+    requires rest { HasFewBranches rest.now }
+    requires approved { All (λ document. HasFewBranches document.closed.elements)
+        walk.now.approvals.now }
+    requires kept { KnowsApproved walk.now }
+    requires sight { IsSight walk.now.client.now.sight.now }
+    requires ahead { IsSoundAhead ahead.now }
+    requires knows { KnowsFirst before (OneOr branches.now) rest.now }
+    ensures { (state : TrackState) → IsTrack track.now state
+        → OnOk result (found.new.items ≡ found.old.items
+        ++ spec.blocks_of (client_of_lent walk.now.client.now)
+        (spec.blocks_rest (client_of_lent walk.now.client.now) walk.now.approvals.now
+        walk.now.levels rest.now (digest_at_element (OneOr branches.now) before.entry.digest)
+        ahead.now)
+        state (at.element_ways walk.now.approvals.now walk.now.levels (OneOr branches.now)
+        before.entry.digest)) }
+{
+    let digests = OrDigests::of(&before, branches, rest);
+    let after = digests.behind(&before, element, rest);
+    let or = OrMove::with_after(digests.as_slice(), after.digest);
+    let lead = Lead::of(rest, after);
+    let inner = before.within(branches, rest);
+    let behind = Ahead::After {
+        act: Act::Or(or),
+        first: lead.first,
+        rest: lead.rest,
+        before: lead.before,
+        levels: walk.levels,
+        ahead: &*ahead,
+    };
+    let selection = track.asking(first_of_branches(branches));
+    let kept = walk.client.keeping(selection, &track.session.bindings);
+    let among = Walk {
+        client: walk.client.or_kept(&kept),
+        approvals: walk.approvals,
+        memos: walk.memos,
+        levels: walk.levels,
+    };
+    push_branches(&among, track, &*branches, inner, &behind, found)
 }
 
 // The same of branches and what comes behind them. Their positions do not matter.

@@ -13,6 +13,7 @@ ghost use Rattle.tpol_digest.specs.Memos.{Knows, KnowsBranches, KnowsFirst};
 ghost use Rattle.tpol_digest.specs.Paths.{approved_paths, document_paths, outside_paths, paths_of};
 ghost use Rattle.tpol_digest.specs.Positions as at;
 ghost use Rattle.tpol_name.specs.Setups.{IsSight};
+ghost use Rattle.tpol_tree.specs.declared.closed.ClosedElement.TheVariants.{Or as OneOr};
 ghost use Rattle.tpol_choose.specs.Few.{HasFewBranches, ElementHasFewBranches, BranchesHaveFewBranches};
 
 use crate::act::Act;
@@ -126,34 +127,67 @@ fn search_element<'a>(
             search_elements(walk, &next, rest, after, ahead, passed)
         }
         ClosedElement::Or(branches) => {
-            let digests = OrDigests::of(&before, branches, rest);
-            let after = digests.behind(&before, element, rest);
-            let or = OrMove::with_after(digests.as_slice(), after.digest);
-            let lead = Lead::of(rest, after);
-            let inner = before.within(branches, rest);
-            let behind = Ahead::After {
-                act: Act::Or(or),
-                first: lead.first,
-                rest: lead.rest,
-                before: lead.before,
-                levels: walk.levels,
-                ahead: &*ahead,
-            };
-            let selection = first_of_branches(branches);
-            let kept = walk.client.keeping(selection, &track.session.bindings);
-            let among = Walk {
-                client: walk.client.or_kept(&kept),
-                approvals: walk.approvals,
-                memos: walk.memos,
-                levels: walk.levels,
-            };
-            search_branches(&among, track, &*branches, inner, &behind, passed)
+            search_or(walk, track, element, branches, rest, before, ahead, passed)
         }
         ClosedElement::Authorize { .. } | ClosedElement::AuthorizeNv { .. } => {
             let after = before.behind(element, rest);
             search_approvals(walk, track, element, rest, after, ahead, passed)
         }
     }
+}
+
+// The same of an OR, the rest of its list and what comes behind it. A function of its own, so that what it keeps is not
+// made for the other elements.
+#[cycle(searching)]
+fn search_or<'a>(
+    walk: &Walk<'_, '_>,
+    track: &Track,
+    element: &'a ClosedElement,
+    branches: &'a ClosedBranches,
+    rest: &'a ClosedElements,
+    before: Before<'a>,
+    ahead: &'a Ahead<'a>,
+    passed: u64,
+) -> Search
+    requires or { element.now ≡ OneOr branches.now }
+    requires branches { ElementHasFewBranches (OneOr branches.now) }
+    requires rest { HasFewBranches rest.now }
+    requires approved { All (λ document. HasFewBranches document.closed.elements)
+        walk.now.approvals.now }
+    requires kept { KnowsApproved walk.now }
+    requires sight { IsSight walk.now.client.now.sight.now }
+    requires ahead { IsSoundAhead ahead.now }
+    requires knows { KnowsFirst before (OneOr branches.now) rest.now }
+    ensures { (state : TrackState) → IsTrack track.now state
+        → result ≡ spec.search_ways (client_of_lent walk.now.client.now)
+        (spec.search_rest (client_of_lent walk.now.client.now) walk.now.approvals.now
+        walk.now.levels rest.now (digest_at_element (OneOr branches.now) before.entry.digest)
+        ahead.now)
+        state passed (at.element_ways walk.now.approvals.now walk.now.levels
+        (OneOr branches.now) before.entry.digest) }
+{
+    let digests = OrDigests::of(&before, branches, rest);
+    let after = digests.behind(&before, element, rest);
+    let or = OrMove::with_after(digests.as_slice(), after.digest);
+    let lead = Lead::of(rest, after);
+    let inner = before.within(branches, rest);
+    let behind = Ahead::After {
+        act: Act::Or(or),
+        first: lead.first,
+        rest: lead.rest,
+        before: lead.before,
+        levels: walk.levels,
+        ahead: &*ahead,
+    };
+    let selection = first_of_branches(branches);
+    let kept = walk.client.keeping(selection, &track.session.bindings);
+    let among = Walk {
+        client: walk.client.or_kept(&kept),
+        approvals: walk.approvals,
+        memos: walk.memos,
+        levels: walk.levels,
+    };
+    search_branches(&among, track, &*branches, inner, &behind, passed)
 }
 
 // The same of branches and what comes behind them. Their positions do not matter.

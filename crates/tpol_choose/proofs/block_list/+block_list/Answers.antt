@@ -68,31 +68,7 @@ push_element-returns-in-Assert t c =
     ∙ ap (λ l. blocks ++ l) (sym (blocks_one_move client (blocks_rest client documents levels rest (digest_at_element (closed.Assert c.in-Assert.assertion) c.args.before.digest) ahead) state act))) (c.push_elements.ensures (track_after client state act) (subst (λ a. IsTrack c.add.new.self (track_after client state (Assert a))) c.with_after-step.ensures (c.add.ensures state h))))
 
 pub push_element-returns-in-Or : goal.push_element-returns-in-Or
-push_element-returns-in-Or t c =
-    let client = client_of_lent c.or_kept.result.now in
-    let documents = c.args.walk.now.approvals.now in
-    let levels = c.args.walk.now.levels in
-    let rest = c.args.rest.now in
-    let ahead = c.args.ahead.now in
-    let blocks = c.args.found.now.items in
-    let d = c.args.before.digest in
-    let branches = c.in-Or.branches in
-    let digests = branch_digests branches d in
-    let ways = branch_ways documents levels branches 1 d in
-    let first = c.of-lead.result.first in
-    let before = c.of-lead.result.before.digest in
-    let begins = c.of-lead.result.rest.now in
-    let behind = λ (s : TrackState). blocks_rest client documents levels begins before ahead (after_first client (track_after client s (Or c.with_after-or.result.digests.now)) first) in
-    let whole = λ (s : TrackState). blocks_rest client documents levels rest c.behind-after-in-Or.result.digest ahead (track_after client s (Or c.with_after-or.result.digests.now)) in
-    let leads = λ (s : TrackState). lead_blocks client documents levels ahead (track_after client s (Or c.with_after-or.result.digests.now)) first rest c.behind-after-in-Or.result.digest begins before c.of-lead.ensures.lead in
-    rw c.in-Or.is (λ state h. on_ok_weaker c.push_branches.result (λ e. e
-    ∙ ap (λ x. blocks ++ blocks_of client behind state (branch_ways documents levels branches 1 x)) c.within-inner.ensures.digest
-    ∙ ap (λ l. blocks ++ l) (blocks_same client behind whole leads state ways)
-    ∙ ap (λ ds. blocks ++ blocks_of client (λ s. blocks_rest client documents levels rest c.behind-after-in-Or.result.digest ahead (track_after client s (Or ds))) state ways) (c.with_after-or.ensures ∙ c.as_slice.ensures ∙ c.of-digests.ensures)
-    ∙ ap (λ x. blocks ++ blocks_of client (λ s. blocks_rest client documents levels rest x ahead (track_after client s (Or digests))) state ways) (c.behind-after-in-Or.ensures.digest ∙ ap or_digest c.of-digests.ensures)
-    ∙ ap (λ l. blocks ++ l) (sym (blocks_by_move client (blocks_rest client documents levels rest (or_digest digests) ahead) state (Or digests) ways)
-    ∙ ap (blocks_of client (blocks_rest client documents levels rest (or_digest digests) ahead) state) (branches_closed documents levels branches 1 (Or digests) d))
-    ∙ ap (λ (one : Client). blocks ++ blocks_of one (blocks_rest one documents levels rest (or_digest digests) ahead) state (element_ways documents levels (closed.Or branches) d)) c.or_kept.ensures) (c.push_branches.ensures state 1 h))
+push_element-returns-in-Or t c = rw c.in-Or.is (λ state h. c.push_or.ensures state h)
 
 pub push_element-returns-in-Authorize : goal.push_element-returns-in-Authorize
 push_element-returns-in-Authorize t c = λ state h.
@@ -111,6 +87,35 @@ push_element-returns-in-Authorize t c = λ state h.
     on_ok_weaker c.push_approvals.result (λ e. e
     ∙ ap (λ x. blocks ++ blocks_of client (blocks_rest client documents levels rest x ahead) state (approval_ways documents levels element)) c.behind-after-in-Authorize.ensures.digest
     ∙ ap (λ w. blocks ++ blocks_of client (blocks_rest client documents levels rest (digest_at_element element d) ahead) state w) same) (c.push_approvals.ensures state h)
+
+-- ---- an OR
+
+pub push_or-returns : goal.push_or-returns
+push_or-returns t c =
+    let client = client_of_lent c.or_kept.result.now in
+    let documents = c.args.walk.now.approvals.now in
+    let levels = c.args.walk.now.levels in
+    let rest = c.args.rest.now in
+    let ahead = c.args.ahead.now in
+    let blocks = c.args.found.now.items in
+    let d = c.args.before.digest in
+    let branches = c.args.branches.now in
+    let digests = branch_digests branches d in
+    let ways = branch_ways documents levels branches 1 d in
+    let first = c.of-lead.result.first in
+    let before = c.of-lead.result.before.digest in
+    let begins = c.of-lead.result.rest.now in
+    let behind = λ (s : TrackState). blocks_rest client documents levels begins before ahead (after_first client (track_after client s (Or c.with_after-or.result.digests.now)) first) in
+    let whole = λ (s : TrackState). blocks_rest client documents levels rest c.behind-after.result.digest ahead (track_after client s (Or c.with_after-or.result.digests.now)) in
+    let leads = λ (s : TrackState). lead_blocks client documents levels ahead (track_after client s (Or c.with_after-or.result.digests.now)) first rest c.behind-after.result.digest begins before c.of-lead.ensures.lead in
+    (λ state h. on_ok_weaker c.push_branches.result (λ e. e
+    ∙ ap (λ x. blocks ++ blocks_of client behind state (branch_ways documents levels branches 1 x)) c.within-inner.ensures.digest
+    ∙ ap (λ l. blocks ++ l) (blocks_same client behind whole leads state ways)
+    ∙ ap (λ ds. blocks ++ blocks_of client (λ s. blocks_rest client documents levels rest c.behind-after.result.digest ahead (track_after client s (Or ds))) state ways) (c.with_after-or.ensures ∙ c.as_slice.ensures ∙ c.of-digests.ensures)
+    ∙ ap (λ x. blocks ++ blocks_of client (λ s. blocks_rest client documents levels rest x ahead (track_after client s (Or digests))) state ways) (c.behind-after.ensures.digest ∙ ap or_digest c.of-digests.ensures)
+    ∙ ap (λ l. blocks ++ l) (sym (blocks_by_move client (blocks_rest client documents levels rest (or_digest digests) ahead) state (Or digests) ways)
+    ∙ ap (blocks_of client (blocks_rest client documents levels rest (or_digest digests) ahead) state) (branches_closed documents levels branches 1 (Or digests) d))
+    ∙ ap (λ (one : Client). blocks ++ blocks_of one (blocks_rest one documents levels rest (or_digest digests) ahead) state (element_ways documents levels (closed.Or branches) d)) c.or_kept.ensures) (c.push_branches.ensures state 1 h))
 
 -- ---- branches
 
@@ -225,15 +230,20 @@ push_element-push_elements-requires t c =
     let some = share_some c.args.walk.now.approvals.now c.args.walk.now.levels in
     (omega (arith, rw c.in-Assert.is at c.decreases, some), (c.requires.rest, (c.requires.approved, (c.requires.kept, (c.requires.sight, (c.requires.ahead, c.behind-after.ensures.knows))))))
 
-pub push_element-push_branches-requires : goal.push_element-push_branches-requires
-push_element-push_branches-requires t c =
+pub push_element-push_or-requires : goal.push_element-push_or-requires
+push_element-push_or-requires t c =
+    let some = share_some c.args.walk.now.approvals.now c.args.walk.now.levels in
+    (omega (arith, rw c.in-Or.is at c.decreases, some), (c.in-Or.is, (rw c.in-Or.is at c.requires.branches, (c.requires.rest, (c.requires.approved, (c.requires.kept, (c.requires.sight, (c.requires.ahead, rw c.in-Or.is at c.requires.knows))))))))
+
+pub push_or-push_branches-requires : goal.push_or-push_branches-requires
+push_or-push_branches-requires t c =
     let some = share_some c.args.walk.now.approvals.now c.args.walk.now.levels in
     let sight = subst (λ (one : Client). IsSight one.sight) (sym c.or_kept.ensures) c.requires.sight in
-    let counts = rw c.in-Or.is at c.requires.branches in
+    let counts = c.requires.branches in
     let lead = c.of-lead.result in
-    let lighter = lead_lighter (share c.args.walk.now.approvals.now c.args.walk.now.levels) lead.first c.args.rest.now c.behind-after-in-Or.result.digest lead.rest.now lead.before.digest c.of-lead.ensures.lead in
-    let few = lead_few lead.first c.args.rest.now c.behind-after-in-Or.result.digest lead.rest.now lead.before.digest c.of-lead.ensures.lead c.requires.rest in
-    (omega (arith, rw c.in-Or.is at c.decreases, some, lighter), (counts.1, (c.requires.approved, (c.requires.kept, (sight, ((few, (c.of-lead.ensures.knows, c.requires.ahead)), c.within-inner.ensures.knows))))))
+    let lighter = lead_lighter (share c.args.walk.now.approvals.now c.args.walk.now.levels) lead.first c.args.rest.now c.behind-after.result.digest lead.rest.now lead.before.digest c.of-lead.ensures.lead in
+    let few = lead_few lead.first c.args.rest.now c.behind-after.result.digest lead.rest.now lead.before.digest c.of-lead.ensures.lead c.requires.rest in
+    (omega (arith, c.decreases, some, lighter), (counts.1, (c.requires.approved, (c.requires.kept, (sight, ((few, (c.of-lead.ensures.knows, c.requires.ahead)), c.within-inner.ensures.knows))))))
 
 pub push_element-push_approvals-requires : goal.push_element-push_approvals-requires
 push_element-push_approvals-requires t c =

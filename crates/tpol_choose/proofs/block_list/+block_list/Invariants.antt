@@ -1,4 +1,4 @@
-use Rattle.std.proofs.Common.{◌≡◌, ◌+◌, ◌*◌, ◌++◌, drop}
+use Rattle.std.proofs.Common.{◌≡◌, ◌+◌, ◌-◌, ◌*◌, ◌++◌, drop}
 use Rattle.tpol_digest.specs.Paths.{approved_paths, document_paths}
 use Rattle.tpol_digest.proofs.Weights.{weight, weight_of_element, weight_of_branches}
 use Rattle.tpol_choose.specs.BlockLists.{blocks_of, blocks_rest}
@@ -14,6 +14,10 @@ decreases-push_elements l =
 abbrev pub decreases-push_element : goal.decreases-push_element
 decreases-push_element l =
     4 * ((weight_of_element l.element.now + weight l.rest.now) * share l.walk.now.approvals.now l.walk.now.levels) + load l.walk.now.approvals.now l.ahead.now
+
+abbrev pub decreases-push_or : goal.decreases-push_or
+decreases-push_or l =
+    (4 * ((weight_of_branches l.branches.now + 1 + weight l.rest.now) * share l.walk.now.approvals.now l.walk.now.levels) + load l.walk.now.approvals.now l.ahead.now) - 1
 
 abbrev pub decreases-push_branches : goal.decreases-push_branches
 decreases-push_branches l =

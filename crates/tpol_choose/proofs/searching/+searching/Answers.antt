@@ -76,32 +76,7 @@ search_element-returns-in-Assert t c =
     ∙ sym (ways_one_move client (search_rest client documents levels rest (digest_at_element (closed.Assert c.in-Assert.assertion) c.args.before.digest) ahead) state passed act))
 
 pub search_element-returns-in-Or : goal.search_element-returns-in-Or
-search_element-returns-in-Or t c =
-    let client = client_of_lent c.or_kept.result.now in
-    let documents = c.args.walk.now.approvals.now in
-    let levels = c.args.walk.now.levels in
-    let rest = c.args.rest.now in
-    let ahead = c.args.ahead.now in
-    let passed = c.args.passed in
-    let d = c.args.before.digest in
-    let branches = c.in-Or.branches in
-    let digests = branch_digests branches d in
-    let ways = branch_ways documents levels branches 1 d in
-    let first = c.of-lead.result.first in
-    let before = c.of-lead.result.before.digest in
-    let begins = c.of-lead.result.rest.now in
-    let behind = λ (s : TrackState) (m : ℕ). search_rest client documents levels begins before ahead (after_first client (track_after client s (Or c.with_after-or.result.digests.now)) first) m in
-    let whole = λ (s : TrackState) (m : ℕ). search_rest client documents levels rest c.behind-after-in-Or.result.digest ahead (track_after client s (Or c.with_after-or.result.digests.now)) m in
-    let leads = λ (s : TrackState) (m : ℕ). lead_search client documents levels ahead (track_after client s (Or c.with_after-or.result.digests.now)) m first rest c.behind-after-in-Or.result.digest begins before c.of-lead.ensures.lead in
-    rw c.in-Or.is (λ state h.
-    c.search_branches.ensures state 1 h
-    ∙ ap (λ x. search_ways client behind state passed (branch_ways documents levels branches 1 x)) c.within-inner.ensures.digest
-    ∙ ways_same client behind whole leads state passed ways
-    ∙ ap (λ ds. search_ways client (λ s m. search_rest client documents levels rest c.behind-after-in-Or.result.digest ahead (track_after client s (Or ds)) m) state passed ways) (c.with_after-or.ensures ∙ c.as_slice.ensures ∙ c.of-digests.ensures)
-    ∙ ap (λ e. search_ways client (λ s m. search_rest client documents levels rest e ahead (track_after client s (Or digests)) m) state passed ways) (c.behind-after-in-Or.ensures.digest ∙ ap or_digest c.of-digests.ensures)
-    ∙ sym (ways_by_move client (search_rest client documents levels rest (or_digest digests) ahead) state passed (Or digests) ways)
-    ∙ ap (search_ways client (search_rest client documents levels rest (or_digest digests) ahead) state passed) (branches_closed documents levels branches 1 (Or digests) d)
-    ∙ ap (λ (one : Client). search_ways one (search_rest one documents levels rest (or_digest digests) ahead) state passed (element_ways documents levels (closed.Or branches) d)) c.or_kept.ensures)
+search_element-returns-in-Or t c = rw c.in-Or.is (λ state h. c.search_or.ensures state h)
 
 pub search_element-returns-in-Authorize : goal.search_element-returns-in-Authorize
 search_element-returns-in-Authorize t c = λ state h.
@@ -120,6 +95,36 @@ search_element-returns-in-Authorize t c = λ state h.
     c.search_approvals.ensures state h
     ∙ ap (λ e. search_ways client (search_rest client documents levels rest e ahead) state passed (approval_ways documents levels element)) c.behind-after-in-Authorize.ensures.digest
     ∙ ap (search_ways client (search_rest client documents levels rest (digest_at_element element d) ahead) state passed) same
+
+-- ---- an OR
+
+pub search_or-returns : goal.search_or-returns
+search_or-returns t c =
+    let client = client_of_lent c.or_kept.result.now in
+    let documents = c.args.walk.now.approvals.now in
+    let levels = c.args.walk.now.levels in
+    let rest = c.args.rest.now in
+    let ahead = c.args.ahead.now in
+    let passed = c.args.passed in
+    let d = c.args.before.digest in
+    let branches = c.args.branches.now in
+    let digests = branch_digests branches d in
+    let ways = branch_ways documents levels branches 1 d in
+    let first = c.of-lead.result.first in
+    let before = c.of-lead.result.before.digest in
+    let begins = c.of-lead.result.rest.now in
+    let behind = λ (s : TrackState) (m : ℕ). search_rest client documents levels begins before ahead (after_first client (track_after client s (Or c.with_after-or.result.digests.now)) first) m in
+    let whole = λ (s : TrackState) (m : ℕ). search_rest client documents levels rest c.behind-after.result.digest ahead (track_after client s (Or c.with_after-or.result.digests.now)) m in
+    let leads = λ (s : TrackState) (m : ℕ). lead_search client documents levels ahead (track_after client s (Or c.with_after-or.result.digests.now)) m first rest c.behind-after.result.digest begins before c.of-lead.ensures.lead in
+    (λ state h.
+    c.search_branches.ensures state 1 h
+    ∙ ap (λ x. search_ways client behind state passed (branch_ways documents levels branches 1 x)) c.within-inner.ensures.digest
+    ∙ ways_same client behind whole leads state passed ways
+    ∙ ap (λ ds. search_ways client (λ s m. search_rest client documents levels rest c.behind-after.result.digest ahead (track_after client s (Or ds)) m) state passed ways) (c.with_after-or.ensures ∙ c.as_slice.ensures ∙ c.of-digests.ensures)
+    ∙ ap (λ e. search_ways client (λ s m. search_rest client documents levels rest e ahead (track_after client s (Or digests)) m) state passed ways) (c.behind-after.ensures.digest ∙ ap or_digest c.of-digests.ensures)
+    ∙ sym (ways_by_move client (search_rest client documents levels rest (or_digest digests) ahead) state passed (Or digests) ways)
+    ∙ ap (search_ways client (search_rest client documents levels rest (or_digest digests) ahead) state passed) (branches_closed documents levels branches 1 (Or digests) d)
+    ∙ ap (λ (one : Client). search_ways one (search_rest one documents levels rest (or_digest digests) ahead) state passed (element_ways documents levels (closed.Or branches) d)) c.or_kept.ensures)
 
 -- ---- branches
 
@@ -292,15 +297,20 @@ search_element-search_elements-requires t c =
     let some = share_some c.args.walk.now.approvals.now c.args.walk.now.levels in
     (omega (arith, rw c.in-Assert.is at c.decreases, some), (c.requires.rest, (c.requires.approved, (c.requires.kept, (c.requires.sight, (c.requires.ahead, c.behind-after.ensures.knows))))))
 
-pub search_element-search_branches-requires : goal.search_element-search_branches-requires
-search_element-search_branches-requires t c =
+pub search_element-search_or-requires : goal.search_element-search_or-requires
+search_element-search_or-requires t c =
+    let some = share_some c.args.walk.now.approvals.now c.args.walk.now.levels in
+    (omega (arith, rw c.in-Or.is at c.decreases, some), (c.in-Or.is, (rw c.in-Or.is at c.requires.branches, (c.requires.rest, (c.requires.approved, (c.requires.kept, (c.requires.sight, (c.requires.ahead, rw c.in-Or.is at c.requires.knows))))))))
+
+pub search_or-search_branches-requires : goal.search_or-search_branches-requires
+search_or-search_branches-requires t c =
     let some = share_some c.args.walk.now.approvals.now c.args.walk.now.levels in
     let sight = subst (λ (one : Client). IsSight one.sight) (sym c.or_kept.ensures) c.requires.sight in
-    let counts = rw c.in-Or.is at c.requires.branches in
+    let counts = c.requires.branches in
     let lead = c.of-lead.result in
-    let lighter = lead_lighter (share c.args.walk.now.approvals.now c.args.walk.now.levels) lead.first c.args.rest.now c.behind-after-in-Or.result.digest lead.rest.now lead.before.digest c.of-lead.ensures.lead in
-    let few = lead_few lead.first c.args.rest.now c.behind-after-in-Or.result.digest lead.rest.now lead.before.digest c.of-lead.ensures.lead c.requires.rest in
-    (omega (arith, rw c.in-Or.is at c.decreases, some, lighter), (counts.1, (c.requires.approved, (c.requires.kept, (sight, ((few, (c.of-lead.ensures.knows, c.requires.ahead)), c.within-inner.ensures.knows))))))
+    let lighter = lead_lighter (share c.args.walk.now.approvals.now c.args.walk.now.levels) lead.first c.args.rest.now c.behind-after.result.digest lead.rest.now lead.before.digest c.of-lead.ensures.lead in
+    let few = lead_few lead.first c.args.rest.now c.behind-after.result.digest lead.rest.now lead.before.digest c.of-lead.ensures.lead c.requires.rest in
+    (omega (arith, c.decreases, some, lighter), (counts.1, (c.requires.approved, (c.requires.kept, (sight, ((few, (c.of-lead.ensures.knows, c.requires.ahead)), c.within-inner.ensures.knows))))))
 
 pub search_element-search_approvals-requires : goal.search_element-search_approvals-requires
 search_element-search_approvals-requires t c =

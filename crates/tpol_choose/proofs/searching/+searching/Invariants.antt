@@ -1,4 +1,4 @@
-use Rattle.std.proofs.Common.{◌≡◌, ◌+◌, ◌*◌, drop}
+use Rattle.std.proofs.Common.{◌≡◌, ◌+◌, ◌-◌, ◌*◌, drop}
 use Rattle.tpol_digest.specs.Paths.{approved_paths, document_paths}
 use Rattle.tpol_digest.proofs.Weights.{weight, weight_of_element, weight_of_branches}
 use Rattle.tpol_choose.specs.Lent.{client_of_lent}
@@ -14,6 +14,10 @@ decreases-search_elements l =
 abbrev pub decreases-search_element : goal.decreases-search_element
 decreases-search_element l =
     4 * ((weight_of_element l.element.now + weight l.rest.now) * share l.walk.now.approvals.now l.walk.now.levels) + load l.walk.now.approvals.now l.ahead.now
+
+abbrev pub decreases-search_or : goal.decreases-search_or
+decreases-search_or l =
+    (4 * ((weight_of_branches l.branches.now + 1 + weight l.rest.now) * share l.walk.now.approvals.now l.walk.now.levels) + load l.walk.now.approvals.now l.ahead.now) - 1
 
 abbrev pub decreases-search_branches : goal.decreases-search_branches
 decreases-search_branches l =
