@@ -104,26 +104,28 @@ pub fn fields_of(alloc: Global, reply: &Reply) -> Result<Blob, NoMemory>
 }
 
 /// The fields of a reply; with an authorization their size before them and the authorization behind.
-fn body(alloc: Global, reply: &Reply, auth: Option<&ReplyAuth>) -> Result<Blob, NoMemory>
-    ensures { IfOk result (λ bytes. bytes
-        ≡ reply_body (reply_fields_of reply.now) (option_copied auth.entry)) }
+fn body(
+    alloc: Global,
+    out: &mut Blob,
+    reply: &Reply,
+    auth: Option<&ReplyAuth>,
+) -> Result<(), NoMemory>
+    ensures { Appends result out.old out.new
+        (reply_body (reply_fields_of reply.now) (option_copied auth.entry)) }
 {
-    let fields = fields_of(alloc, reply)?;
     match auth {
-        None => Ok(fields),
-        Some(auth) => authorized(alloc, &fields, auth),
+        None => fields(out, reply),
+        Some(auth) => authorized(out, &fields_of(alloc, reply)?, auth),
     }
 }
 
 /// The size of the fields, the fields and the authorization.
-fn authorized(alloc: Global, fields: &Blob, auth: &ReplyAuth) -> Result<Blob, NoMemory>
-    ensures { IfOk result (λ bytes. bytes ≡ reply_body fields.now (Some auth.now)) }
+fn authorized(out: &mut Blob, fields: &Blob, auth: &ReplyAuth) -> Result<(), NoMemory>
+    ensures { Appends result out.old out.new (reply_body fields.now (Some auth.now)) }
 {
-    let mut out = Blob::new(alloc);
-    spelling::length32(&mut out, fields.len())?;
+    spelling::length32(out, fields.len())?;
     out.extend_from_slice(fields.as_slice())?;
-    authorization::write_tail(&mut out, &auth.nonce, auth.attributes, &auth.hmac)?;
-    Ok(out)
+    authorization::write_tail(out, &auth.nonce, auth.attributes, &auth.hmac)
 }
 
 /// The one spelling of a reply with its authorization, where there is one (TPM 2.0 Part 1, "Response
@@ -136,11 +138,12 @@ pub fn write_reply(alloc: Global, reply: &Reply, auth: Option<&ReplyAuth>) -> Re
         → PartsAnswer code (parts_of reply.now)
         → IfOk result (λ bytes. SpellsReply code bytes reply.now (option_copied auth.entry)) }
 {
+    let mut message = message::begin(alloc)?;
     match answered(reply) {
         Ok(command) => {
-            let body = body(alloc, reply, auth)?;
-            message::write(alloc, table::tag_of(command), 0, body.as_slice())
+            body(alloc, &mut message, reply, auth)?;
+            Ok(message::finish(message, table::tag_of(command), 0))
         }
-        Err(rc) => message::write(alloc, refusal_tag(rc.code), rc.code, &[]),
+        Err(rc) => Ok(message::finish(message, refusal_tag(rc.code), rc.code)),
     }
 }

@@ -196,9 +196,9 @@ pub fn write_command(alloc: Global, command: &Command) -> Result<Blob, NoMemory>
     ensures spelling { IfOk result (λ bytes. bytes ≡ spelled command.now) }
     ensures spells { FitsCommand command.now → IfOk result (λ bytes. Spells bytes command.now) }
 {
-    let mut body = Blob::new(alloc);
-    front(alloc, &mut body, command)?;
-    parameters(&mut body, command)?;
+    let mut message = message::begin(alloc)?;
+    front(alloc, &mut message, command)?;
+    parameters(&mut message, command)?;
     let code = command_code(command);
-    message::write(alloc, table::tag_of(code), code.number(), body.as_slice())
+    Ok(message::finish(message, table::tag_of(code), code.number()))
 }
