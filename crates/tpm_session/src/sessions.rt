@@ -139,13 +139,9 @@ impl Sessions {
         ensures slots { self.new ≡ spec.changed_at self.old handle kept.without_facts }
         ensures refused { result ≡ false → self.new ≡ self.old }
     {
-        match self.take_out(handle) {
-            Some(session) => {
-                self.put_back(session.restarted());
-                true
-            }
-            None => false,
-        }
+        let live = self.find(handle).is_some();
+        self.change(handle, |session| session.restart());
+        live
     }
 
     /// Ends a live session. Answers whether the handle was live; where it was not, nothing changes.
