@@ -1,4 +1,5 @@
 pub mod Bits
+pub mod Changed
 pub mod Keeping
 pub mod Least
 pub mod Numbered

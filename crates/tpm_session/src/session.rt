@@ -158,20 +158,16 @@ impl Session {
         self.facts.push(fact);
     }
 
-    /// The session without its facts; start and nonce stay.
-    pub(crate) fn restarted(self) -> Session
-        ensures handle { result.handle ≡ self.handle }
-        ensures state { result.state ≡ spec.without_facts self.state }
+    /// Drops the facts; start and nonce stay.
+    #[tactic(auto, using(tpol_base::proofs::Digests::same_digest))]
+    pub(crate) fn restart(&mut self)
+        ensures handle { self.new.handle ≡ self.old.handle }
+        ensures state { self.new.state ≡ spec.without_facts self.old.state }
     {
-        let Session {
-            handle,
-            start,
-            nonce,
-            mut facts,
-            ..
-        } = self;
-        facts.clear();
-        Session::new(handle, start, nonce, facts)
+        self.facts.clear();
+        self.counter = None;
+        self.digest = Digest32::ZERO;
+        self.bindings = Bindings::new();
     }
 
     /// The session with a new nonce and without its facts, which are handed out; `empty` takes their place.

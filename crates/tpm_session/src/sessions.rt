@@ -1,6 +1,9 @@
-ghost use Rattle.std.specs.Prelude.{◌≡◌, ℕ, [], ◌+◌, ◌-◌, ◌<◌, ◌≤◌, ◌^◌, IfOk, IfSome, IsNone, OnErr, MatchResult, None, Some, replicate, true, false};
+ghost use Rattle.std.specs.Prelude.{◌≡◌, ℕ, [], ◌+◌, ◌-◌, ◌<◌, ◌≤◌, ◌^◌, IfOk, IfSome, IsNone, OnErr, MatchOption, MatchResult, None, Some, replicate, true, false};
+ghost use Rattle.std.specs.Borrow.{MutBor};
+ghost use Rattle.std.specs.Fn.{FnOnceReturnsAtMut};
 ghost use Rattle.std.specs.Option.{option_copied, option_map};
 ghost use Rattle.tpm_session.specs.Kept as kept;
+ghost use Rattle.tpm_session.specs.Kept.{SessionView};
 ghost use Rattle.tpm_session.specs.Slots as spec;
 
 use crate::table::{FIRST_HANDLE, SLOT_COUNT, Table};
@@ -115,6 +118,20 @@ impl Sessions {
         self.table.put(session.handle(), session);
     }
 
+    /// Changes the live session with this handle where it lies; the change leaves its handle as it is. Where the
+    /// handle is not live nothing changes.
+    pub fn change<F: FnOnce(&mut Session)>(&mut self, handle: u32, change: F)
+        requires takes { (session : MutBor SessionView)
+            → spec.session_at self.old handle ≡ Some session.now → F.pre change session }
+        requires stays { (before after : SessionView) → spec.session_at self.old handle ≡ Some before
+            → FnOnceReturnsAtMut F.FnOnce change before tt after → after.handle ≡ before.handle }
+        ensures slots { MatchOption (spec.session_at self.old handle) (self.new ≡ self.old)
+            (λ before. (after : SessionView) × FnOnceReturnsAtMut F.FnOnce change before tt after
+            × (self.new ≡ spec.with_state self.old handle (Some after.state))) }
+    {
+        self.table.change(handle, change);
+    }
+
     /// Drops the facts of a live session; its start and nonce stay. Answers whether the handle is live; where it
     /// is not, nothing changes.
     pub fn restart(&mut self, handle: u32) -> bool
@@ -122,13 +139,9 @@ impl Sessions {
         ensures slots { self.new ≡ spec.changed_at self.old handle kept.without_facts }
         ensures refused { result ≡ false → self.new ≡ self.old }
     {
-        match self.take_out(handle) {
-            Some(session) => {
-                self.put_back(session.restarted());
-                true
-            }
-            None => false,
-        }
+        let live = self.find(handle).is_some();
+        self.change(handle, |session| session.restart());
+        live
     }
 
     /// Ends a live session. Answers whether the handle was live; where it was not, nothing changes.

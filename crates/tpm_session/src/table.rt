@@ -1,4 +1,6 @@
-ghost use Rattle.std.specs.Prelude.{◌≡◌, ℕ, ◌+◌, IfOk, None, Some, is_some, replicate, true};
+ghost use Rattle.std.specs.Prelude.{◌≡◌, ℕ, ◌+◌, IfOk, MatchOption, None, Some, is_some, replicate, true};
+ghost use Rattle.std.specs.Borrow.{MutBor};
+ghost use Rattle.std.specs.Fn.{FnOnceReturnsAtMut};
 ghost use Rattle.std.specs.Int.{bit_at};
 ghost use Rattle.std.specs.Option.{option_copied};
 ghost use Rattle.tpm_session.specs.Slots as spec;
@@ -95,6 +97,26 @@ impl<T: Drop> Table<T> {
         if let Some(slot) = self.slots.get_mut((handle - FIRST_HANDLE) as usize) {
             *slot = Some(content);
         }
+    }
+
+    /// Changes the content of a handle's slot where it lies. Where the slot has none nothing changes.
+    pub fn change<F: FnOnce(&mut T)>(&mut self, handle: u32, change: F)
+        requires takes { (content : MutBor T) → spec.content_at self.old handle ≡ Some content.now
+            → F.pre change content }
+        ensures slots { MatchOption (spec.content_at self.old handle) (self.new ≡ self.old)
+            (λ before. (after : T) × FnOnceReturnsAtMut F.FnOnce change before tt after
+            × (self.new ≡ spec.with_content self.old handle (Some after))) }
+    {
+        if handle < FIRST_HANDLE {
+            return;
+        }
+        let Some(slot) = self.slots.get_mut((handle - FIRST_HANDLE) as usize) else {
+            return;
+        };
+        let Some(content) = slot else {
+            return;
+        };
+        change(content);
     }
 
     /// The slots that have something: bit k for slot k.
