@@ -1,6 +1,7 @@
 -- From the response to a command to the answer to its bytes.
 use Rattle.std.proofs.Common.{◌≡◌, ℕ, false, List, Option, None, Some, IfSome, Result, Ok, Err, IfOk, refl, ap, sym, subst, ◌∙◌}
 use Rattle.tpol_base.specs.declared.no_memory.NoMemory.{NoMemory}
+use Rattle.tpol_fields.specs.declared.fault.WireFault.{WireFault}
 use Rattle.tpol_wire.specs.declared.command.Command.{Command}
 use Rattle.tpol_wire.specs.Reading.{reading}
 use Rattle.tpm_engine.specs.declared.opened.Opened.{Opened}
@@ -9,10 +10,10 @@ use Rattle.tpm_engine.specs.declared.stop.Stop.{Stop}
 use Rattle.tpm_engine.specs.Answers.{answer, answer_to_command, answer_to_reading, answer_unless, first_stop, opened_by_command, opened_by_reading, opened_of, opened_unless, opening_of, stopped, succeeding}
 use Rattle.tpm_engine.specs.Deeds.{after_event}
 use Rattle.tpm_engine.specs.Events.{Answered, event_of, is_success}
-use Rattle.tpm_engine.specs.Responses.{IsPrepared, IsReady, after_ready, opened_by_ready}
+use Rattle.tpm_engine.specs.Responses.{IsAnswer, IsPrepared}
 use Rattle.tpm_engine.specs.Stops.{refuses}
 use Rattle.tpm_engine.specs.Tables.{TableState}
-use Rattle.tpm_engine.proofs.Serving.{Fails, event-after, event-fails, first-fails, none-ready, none-stops, stopped-response}
+use Rattle.tpm_engine.proofs.Serving.{Fails, event-after, event-fails, first-fails, none-stops, stopped-response}
 
 pub ok-map : {A E : Type 0} (P Q : A → Type 0) (result : Result A E) → ((x : A) → P x → Q x) → IfOk result P → IfOk result Q
 ok-map P Q (Ok x) f h = f x h
@@ -48,13 +49,6 @@ none-response tables number locality command (Err e) none h = tt
 
 -- ---- the answer to bytes
 
-pub record IsAnswer (tables : TableState) (number locality : ℕ) (buffer : List ℕ) (done : Prepared) : Type 0 where
-  pub reply : done.reply ≡ (answer tables number locality buffer).reply
-  pub outcome : done.outcome ≡ (answer tables number locality buffer).outcome
-  pub ready : IfSome done.success (IsReady tables)
-  pub later : (client : ℕ) → after_ready tables number done.success ≡ after_event tables number (event_of client locality buffer (answer tables number locality buffer))
-  pub opened : opened_by_ready tables done.success ≡ opened_of tables number locality buffer
-
 answer-read : (before : TableState) (number locality : ℕ) (buffer : List ℕ) (read : Result Command ℕ) → reading buffer ≡ read → answer before number locality buffer ≡ answer_to_reading before number locality read
 unfolding answer
 answer-read before number locality buffer read is = ap (answer_to_reading before number locality) is
@@ -63,36 +57,36 @@ opened-read : (before : TableState) (number locality : ℕ) (buffer : List ℕ) 
 unfolding opened_of
 opened-read before number locality buffer read is = ap (opened_by_reading before locality) is
 
-pub response-answer : (tables : TableState) (number locality : ℕ) (buffer : List ℕ) (command : Command) (done : Prepared) → reading buffer ≡ Ok command
+response-answer : (tables : TableState) (number locality : ℕ) (buffer : List ℕ) (command : Command) (done : Prepared) → reading buffer ≡ Ok command
     → IsPrepared tables number command (answer_to_command tables number locality command) (opened_by_command tables locality command) done
-    → IsAnswer tables number locality buffer done
+    → IsAnswer tables number locality buffer (Ok command) done
 response-answer tables number locality buffer command done read response =
     let is = answer-read tables number locality buffer (Ok command) read in
     record {
       reply = response.reply ∙ ap (λ (a : Answered). a.reply) (sym is);
       outcome = response.outcome ∙ ap (λ (a : Answered). a.outcome) (sym is);
       ready = response.ready;
-      later = λ client. response.tables ∙ (sym (event-after tables number client locality buffer command read)
+      tables = λ client. response.tables ∙ (sym (event-after tables number client locality buffer command read)
           ∙ ap (λ (a : Answered). after_event tables number (event_of client locality buffer a)) (sym is));
-      opened = response.opens ∙ sym (opened-read tables number locality buffer (Ok command) read);
+      opens = response.opens ∙ sym (opened-read tables number locality buffer (Ok command) read);
     }
 
-pub refusal-answer : (tables : TableState) (number locality : ℕ) (buffer : List ℕ) (code : ℕ) (result : Result Prepared NoMemory) → reading buffer ≡ Err code → IsStopped (refuses code) result
-    → IfOk result (λ done. IsAnswer tables number locality buffer done)
-refusal-answer tables number locality buffer code (Err e) read how = tt
-refusal-answer tables number locality buffer code (Ok done) read how =
+pub refusal-answer : (tables : TableState) (number locality : ℕ) (buffer : List ℕ) (fault : WireFault) (code : ℕ) (result : Result Prepared NoMemory) → reading buffer ≡ Err code → IsStopped (refuses code) result
+    → IfOk result (IsAnswer tables number locality buffer (Err fault))
+refusal-answer tables number locality buffer fault code (Err e) read how = tt
+refusal-answer tables number locality buffer fault code (Ok done) read how =
     let is = answer-read tables number locality buffer (Err code) read in
     record {
       reply = how.reply ∙ ap (λ (a : Answered). a.reply) (sym is);
       outcome = how.outcome ∙ ap (λ (a : Answered). a.outcome) (sym is);
-      ready = none-ready tables done.success how.nothing;
-      later = λ client. ap (after_ready tables number) how.nothing ∙ (sym (event-fails tables number client locality buffer (stopped (refuses code)) refl)
-          ∙ ap (λ (a : Answered). after_event tables number (event_of client locality buffer a)) (sym is));
-      opened = ap (opened_by_ready tables) how.nothing ∙ sym (opened-read tables number locality buffer (Err code) read);
+      ready = tt;
+      tables = λ client. sym (event-fails tables number client locality buffer (stopped (refuses code)) refl)
+          ∙ ap (λ (a : Answered). after_event tables number (event_of client locality buffer a)) (sym is);
+      opens = sym (opened-read tables number locality buffer (Err code) read);
     }
 
 pub ok-answers : (tables : TableState) (number locality : ℕ) (buffer : List ℕ) (command : Command) (result : Result Prepared NoMemory) → reading buffer ≡ Ok command
     → IfOk result (λ done. IsPrepared tables number command (answer_to_command tables number locality command) (opened_by_command tables locality command) done)
-    → IfOk result (λ done. IsAnswer tables number locality buffer done)
+    → IfOk result (IsAnswer tables number locality buffer (Ok command))
 ok-answers tables number locality buffer command (Ok done) read h = response-answer tables number locality buffer command done read h
 ok-answers tables number locality buffer command (Err e) read h = tt

@@ -171,8 +171,8 @@ opened-before before after number command reply none carried = at (closing_of co
 -- ---- the response
 
 -- nothing is ready without a success
-pub none-ready : (tables : TableState) (success : Option Success) → success ≡ None → IfSome success (IsReady tables)
-none-ready tables success none = subst (λ (o : Option Success). IfSome o (IsReady tables)) (sym none) tt
+none-ready : (tables : TableState) (command : Command) (success : Option Success) → success ≡ None → IfSome success (IsReady tables command)
+none-ready tables command success none = subst (λ (o : Option Success). IfSome o (IsReady tables command)) (sym none) tt
 
 -- a command that is stopped changes nothing
 pub stopped-response : (tables : TableState) (number : ℕ) (command : Command) (done : Prepared) (stop : Stop) (answered : Answered) (opened : Option Opened)
@@ -182,28 +182,28 @@ pub stopped-response : (tables : TableState) (number : ℕ) (command : Command) 
 stopped-response tables number command done stop answered opened is none fails reply outcome nothing = record {
   reply = reply ∙ ap (λ (a : Answered). a.reply) (sym is);
   outcome = outcome ∙ ap (λ (a : Answered). a.outcome) (sym is);
-  ready = none-ready tables done.success nothing;
+  ready = none-ready tables command done.success nothing;
   tables =
-      ap (after_ready tables number) nothing
+      ap (after_ready tables number (Ok command)) nothing
       ∙ sym (ap (after_command tables number command) is ∙ ap (λ b. if b then after_success tables number command (stopped stop).reply else tables) fails);
-  opens = ap (opened_by_ready tables) nothing ∙ sym none;
+  opens = ap (opened_by_ready tables (Ok command)) nothing ∙ sym none;
 }
 
 pub success-is : (command : Command) → is_success (success_of command) ≡ true
 success-is command = elim (is_some (area_of command)) as (λ b. is_success (if b then Served else Accepted) ≡ true) [ true ↦ refl | false ↦ refl ]
 
 -- a command that succeeds
-pub ready-response : (tables : TableState) (number : ℕ) (done : Prepared) (success : Success) → done.success ≡ Some success → IsReady tables success
-    → done.reply ≡ (succeeding tables number success.command).reply → done.outcome ≡ success_of success.command
-    → IsPrepared tables number success.command (succeeding tables number success.command) (opening_of tables success.command) done
-ready-response tables number done success is ready reply outcome = record {
+pub ready-response : (tables : TableState) (number : ℕ) (command : Command) (done : Prepared) (success : Success) → done.success ≡ Some success → IsReady tables command success
+    → done.reply ≡ (succeeding tables number command).reply → done.outcome ≡ success_of command
+    → IsPrepared tables number command (succeeding tables number command) (opening_of tables command) done
+ready-response tables number command done success is ready reply outcome = record {
   reply = reply;
   outcome = outcome;
-  ready = subst (λ (o : Option Success). IfSome o (IsReady tables)) (sym is) ready;
+  ready = subst (λ (o : Option Success). IfSome o (IsReady tables command)) (sym is) ready;
   tables =
-      ap (after_ready tables number) is
-      ∙ sym (ap (λ b. if b then after_success tables number success.command (succeeding tables number success.command).reply else tables) (success-is success.command));
-  opens = ap (opened_by_ready tables) is;
+      ap (after_ready tables number (Ok command)) is
+      ∙ sym (ap (λ b. if b then after_success tables number command (succeeding tables number command).reply else tables) (success-is command));
+  opens = ap (opened_by_ready tables (Ok command)) is;
 }
 
 -- the tables after it was carried out, and its use closed

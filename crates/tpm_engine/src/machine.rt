@@ -25,6 +25,7 @@ use std::alloc::Global;
 use std::marker::Model;
 use tpol_base::NoMemory;
 use tpol_name::{Setup, Sight};
+use tpol_wire::read_command;
 
 /// A machine; contracts see what it started from, its events, newest first, and how many more have room. All
 /// that it shows and answers is told by the setup and the events: `answer_to`, `opened_to` and the views.
@@ -121,20 +122,26 @@ impl Machine {
         ensures spare { OnErr result (self.old.spare ≤ self.new.spare) }
     {
         let event = self.journal.next_number();
-        let Prepared {
+        let read = read_command(alloc, buffer);
+        let prepared = self.tables.prepare(alloc, event, locality, &read);
+        let Ok(Prepared {
             reply,
             outcome,
             success,
-        } = self.tables.prepare(alloc, event, locality, buffer)?;
+        }) = prepared else {
+            drop(read);
+            return Err(NoMemory);
+        };
         let pushed = self
             .journal
             .push_command(client, locality, buffer, reply.as_slice(), outcome);
         if let Err(NoMemory) = pushed {
             drop(success);
             drop(reply);
+            drop(read);
             return Err(NoMemory);
         }
-        let opened = self.tables.finish(alloc, event, success);
+        let opened = self.tables.finish(alloc, event, read, success);
         Ok(Executed {
             event,
             reply,

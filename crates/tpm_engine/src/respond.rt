@@ -1,18 +1,18 @@
 //! The response to a command buffer, over the tables of a machine: all that takes memory is prepared first, and
 //! then the tables change.
 
-ghost use Rattle.std.specs.Prelude.{◌≡◌, ℕ, None, Some, IfOk, IfSome};
+ghost use Rattle.std.specs.Prelude.{◌≡◌, ℕ, List, None, Ok, Some, IfOk, IfSome};
 ghost use Rattle.tpol_digest.specs.Sound.{IsSound};
 ghost use Rattle.tpol_wire.specs.Commands.{FitsCommand};
+ghost use Rattle.tpol_fields.specs.Answers.{Gives};
+ghost use Rattle.tpol_wire.specs.Reading.{reading};
 ghost use Rattle.tpol_wire.specs.Replies.{spell_reply};
 ghost use Rattle.tpm_bindings.specs.Agreement.{Agree};
 ghost use Rattle.tpm_bindings.specs.Facts.{moves_of};
 ghost use Rattle.tpm_engine.specs.Answers as spec;
 ghost use Rattle.tpm_engine.specs.Authorization.{reply_auth};
 ghost use Rattle.tpm_engine.specs.Closings.{closing_of as spec_closing_of};
-ghost use Rattle.tpm_engine.specs.Deeds.{after_event};
-ghost use Rattle.tpm_engine.specs.Events.{event_of};
-ghost use Rattle.tpm_engine.specs.Responses.{IsPrepared, IsReady, after_ready, first_facts, opened_by_ready};
+ghost use Rattle.tpm_engine.specs.Responses.{IsAnswer, IsPrepared, IsReady, IsReadyBy, after_ready, first_facts, opened_by_ready};
 ghost use Rattle.tpm_engine.specs.Stops.{room_stop, session_stop};
 
 use crate::closing::closing_of;
@@ -23,11 +23,11 @@ use tpm_rules::Outcome;
 use tpm_session::fresh_facts;
 use tpol_base::{Blob, NoMemory, Rc};
 use tpol_tree::Facts;
-use tpol_wire::{Command, Reply, WireFault, read_command, write_reply};
+use tpol_wire::{Command, Reply, WireFault, write_reply};
 
 impl Tables {
-    /// Prepares the response to the bytes that a client sends at a locality, as the event of this number; nothing
-    /// changes yet. The reply has the code of the first rule that is broken, in this order, or it succeeds:
+    /// Prepares the response to what was read of the bytes that a client sends at a locality, as the event of this number;
+    /// nothing changes yet. The reply has the code of the first rule that is broken, in this order, or it succeeds:
     ///
     /// 1. the bytes spell a command;
     /// 2. its handles are there;
@@ -42,21 +42,13 @@ impl Tables {
         alloc: Global,
         number: u32,
         locality: u8,
-        buffer: &[u8],
+        read: &Result<Command, WireFault>,
     ) -> Result<Prepared, NoMemory>
-        ensures reply { IfOk result (λ done. done.reply
-            ≡ (spec.answer self.now number locality buffer.now).reply) }
-        ensures outcome { IfOk result (λ done. done.outcome
-            ≡ (spec.answer self.now number locality buffer.now).outcome) }
-        ensures ready { IfOk result (λ done. IfSome done.success (IsReady self.now)) }
-        ensures tables { (client : ℕ) → IfOk result (λ done. after_ready self.now number done.success
-            ≡ after_event self.now number
-            (event_of client locality buffer.now
-            (spec.answer self.now number locality buffer.now))) }
-        ensures opened { IfOk result (λ done. opened_by_ready self.now done.success
-            ≡ spec.opened_of self.now number locality buffer.now) }
+        requires fits { IfOk read.now FitsCommand }
+        ensures answer { (buffer : List ℕ) → Gives read.now (reading buffer)
+            → IfOk result (IsAnswer self.now number locality buffer read.now) }
     {
-        match read_command(alloc, buffer) {
+        match read {
             Ok(command) => self.prepare_for(alloc, number, locality, command),
             Err(WireFault::Refused(rc)) => stopped(alloc, refuses(rc.code)),
             Err(WireFault::NoMemory) => Err(NoMemory),
@@ -69,23 +61,16 @@ impl Tables {
         alloc: Global,
         number: u32,
         locality: u8,
-        command: Command,
+        command: &Command,
     ) -> Result<Prepared, NoMemory>
-        requires fits { FitsCommand command }
-        ensures response { IfOk result (λ done. IsPrepared self.now number command
-            (spec.answer_to_command self.now number locality command)
-            (spec.opened_by_command self.now locality command) done) }
+        requires fits { FitsCommand command.now }
+        ensures response { IfOk result (λ done. IsPrepared self.now number command.now
+            (spec.answer_to_command self.now number locality command.now)
+            (spec.opened_by_command self.now locality command.now) done) }
     {
-        match self.first_stop(alloc, locality, &command) {
-            Ok(None) => self.prepare_success(alloc, number, command),
-            Ok(Some(stop)) => {
-                drop(command);
-                stopped(alloc, stop)
-            }
-            Err(NoMemory) => {
-                drop(command);
-                Err(NoMemory)
-            }
+        match self.first_stop(alloc, locality, command)? {
+            None => self.prepare_success(alloc, number, command),
+            Some(stop) => stopped(alloc, stop),
         }
     }
 
@@ -94,32 +79,22 @@ impl Tables {
         &self,
         alloc: Global,
         number: u32,
-        command: Command,
+        command: &Command,
     ) -> Result<Prepared, NoMemory>
-        requires fits { FitsCommand command }
-        requires session { session_stop self.now command ≡ None }
-        requires room { room_stop self.now command ≡ None }
-        requires rule { spec.own_rule self.now command ≡ None }
-        ensures response { IfOk result (λ done. IsPrepared self.now number command
-            (spec.succeeding self.now number command)
-            (spec.opening_of self.now command) done) }
+        requires fits { FitsCommand command.now }
+        requires session { session_stop self.now command.now ≡ None }
+        requires room { room_stop self.now command.now ≡ None }
+        requires rule { spec.own_rule self.now command.now ≡ None }
+        ensures response { IfOk result (λ done. IsPrepared self.now number command.now
+            (spec.succeeding self.now number command.now)
+            (spec.opening_of self.now command.now) done) }
     {
-        let outcome = success_of(&command);
-        match self.parts_of(alloc, number, &command) {
-            Ok((reply, closing, facts)) => Ok(Prepared {
-                reply,
-                outcome,
-                success: Some(Success {
-                    command,
-                    closing,
-                    facts,
-                }),
-            }),
-            Err(NoMemory) => {
-                drop(command);
-                Err(NoMemory)
-            }
-        }
+        let (reply, closing, facts) = self.parts_of(alloc, number, command)?;
+        Ok(Prepared {
+            reply,
+            outcome: success_of(command),
+            success: Some(Success { closing, facts }),
+        })
     }
 
     // All that takes memory in the response to a command that succeeds: the bytes of the reply, the use of a policy
@@ -141,34 +116,46 @@ impl Tables {
         Ok((reply, closing, first_facts(alloc, command)?))
     }
 
-    /// Carries out a command that was prepared, if it succeeds, and closes the use of the policy session that
+    /// Carries out the command that was read and prepared, if it succeeds, and closes the use of the policy session that
     /// authorized it, which tells what that opened. It takes no memory.
-    pub fn finish(&mut self, alloc: Global, number: u32, success: Option<Success>) -> Option<Opened>
-        requires ready { IfSome success (IsReady self.old) }
-        ensures tables { self.new ≡ after_ready self.old number success }
-        ensures opened { result ≡ opened_by_ready self.old success }
+    pub fn finish(
+        &mut self,
+        alloc: Global,
+        number: u32,
+        read: Result<Command, WireFault>,
+        success: Option<Success>,
+    ) -> Option<Opened>
+        requires ready { IsReadyBy self.old read success }
+        ensures tables { self.new ≡ after_ready self.old number read success }
+        ensures opened { result ≡ opened_by_ready self.old read success }
         ensures sound { IfSome result (λ opened. IsSound (moves_of opened.facts)) }
         ensures agree { IfSome result (λ opened. Agree (moves_of opened.facts)) }
     {
-        match success {
-            Some(success) => self.succeed(alloc, number, success),
-            None => None,
+        match (read, success) {
+            (Ok(command), Some(success)) => self.succeed(alloc, number, command, success),
+            (read, success) => {
+                drop(success);
+                drop(read);
+                None
+            }
         }
     }
 
     // Carries a command out.
-    fn succeed(&mut self, alloc: Global, number: u32, success: Success) -> Option<Opened>
-        requires ready { IsReady self.old success }
-        ensures tables { self.new ≡ after_ready self.old number (Some success) }
-        ensures opened { result ≡ spec.opening_of self.old success.command }
+    fn succeed(
+        &mut self,
+        alloc: Global,
+        number: u32,
+        command: Command,
+        success: Success,
+    ) -> Option<Opened>
+        requires ready { IsReady self.old command success }
+        ensures tables { self.new ≡ after_ready self.old number (Ok command) (Some success) }
+        ensures opened { result ≡ spec.opening_of self.old command }
         ensures sound { IfSome result (λ opened. IsSound (moves_of opened.facts)) }
         ensures agree { IfSome result (λ opened. Agree (moves_of opened.facts)) }
     {
-        let Success {
-            command,
-            closing,
-            facts,
-        } = success;
+        let Success { closing, facts } = success;
         self.carry_out(alloc, number, command, facts);
         self.close(number, closing)
     }

@@ -1,4 +1,4 @@
-use Rattle.std.proofs.Common.{◌≡◌, ◌↔◌, IsSome, Some, sym, subst, ◌∙◌, rules}
+use Rattle.std.proofs.Common.{◌≡◌, ◌↔◌, ℕ, IsSome, Some, ap, sym, subst, ◌∙◌, rules}
 use Rattle.std.specs.Option.{option_map}
 use Rattle.tpol_digest.specs.Digest.{digest_of_moves}
 use Rattle.tpol_wire.specs.Reading.{reading}
@@ -7,29 +7,51 @@ use Rattle.tpm_rules.specs.declared.outcome.Outcome.TheVariants.{Served}
 use Rattle.tpm_rules.specs.Entity.{auth_policy_of}
 use Rattle.tpm_world.specs.Entities.{entity_at}
 use Rattle.tpm_world.specs.World.{world_of}
+use Rattle.tpm_engine.specs.declared.prepared.Prepared.{Prepared}
+use Rattle.tpm_engine.specs.Answers.{opened_of}
+use Rattle.tpm_engine.specs.Events.{Answered}
 use Rattle.tpm_engine.specs.Legal.{answer_to, opened_to}
+use Rattle.tpm_engine.specs.Responses.{IsAnswer}
+use Rattle.tpm_engine.specs.Tables.{TableState}
 use Rattle.tpm_engine.specs.Uses.{AreOfPcrs, IsNotDeniedByCheck, IsServed, IsServedBySession, Passes, session_in}
-use Rattle.tpm_engine.specs.Views.{facts_of, next_number, pcrs_of}
+use Rattle.tpm_engine.specs.Views.{facts_of, next_number, pcrs_of, view_of}
 use Rattle.tpm_engine.proofs.Headline.{authorizes, serves}
-use Rattle.tpm_engine.proofs.Machines.{if-opened, machine-executed}
+use Rattle.tpm_engine.proofs.Machines.{if-opened, machine-answer, machine-executed}
 use Rattle.tpm_engine.proofs.Opening.{opened-facts, opened-pcrs, opened-policy, opens-served}
 use Rattle.tpm_engine.proofs.machine.Machine.execute.Goals as goal
 use Rattle.tpm_engine.proofs.machine.Machine.execute.Goals.{After-finish-opened}
 
--- the outcome, and what is opened, over the journal
-outcome-is : (c : After-finish-opened) → c.in_ok-reply.field-0.outcome ≡ (answer_to c.args.self.now.setup c.args.self.now.events c.args.locality c.args.buffer.now).outcome
-outcome-is c = search rules
+-- what was prepared, the outcome and what is opened, over the journal
+prepared-is : (c : After-finish-opened) → IsAnswer c.self.inside.tables c.next_number-event.result c.args.locality c.args.buffer.now c.read_command-read.result c.in-Ok.field-0
+prepared-is c = c.in-Ok.ensures.answer c.args.buffer.now c.read_command-read.ensures.reading
+
+outcome-same : (c : After-finish-opened) → c.in-Ok.outcome ≡ c.in-Ok.field-0.outcome
+outcome-same c = search rules
+
+outcome-is : (c : After-finish-opened) → c.in-Ok.field-0.outcome ≡ (answer_to c.args.self.now.setup c.args.self.now.events c.args.locality c.args.buffer.now).outcome
+outcome-is c =
+    let past = c.self.inside.journal.events in
+    (prepared-is c).outcome
+    ∙ (ap (λ (answered : Answered). answered.outcome)
+    (machine-answer c.self.inside.setup past c.self.inside.tables c.self.invariant c.next_number-event.result c.args.locality c.args.buffer.now c.next_number-event.ensures.number)
+    ∙ ap (λ m. (answer_to m.setup m.events c.args.locality c.args.buffer.now).outcome) c.self.view_is)
 
 opened-is : (c : After-finish-opened) → c.finish-opened.result ≡ opened_to c.args.self.now.setup c.args.self.now.events c.args.locality c.args.buffer.now
-opened-is c = search rules
+opened-is c =
+    let past = c.self.inside.journal.events in
+    c.finish-opened.ensures.opened
+    ∙ ((prepared-is c).opens
+    ∙ (ap (λ (tables : TableState). opened_of tables c.next_number-event.result c.args.locality c.args.buffer.now) c.self.invariant.tables
+    ∙ (ap (λ (number : ℕ). opened_of (view_of c.self.inside.setup past) number c.args.locality c.args.buffer.now) c.next_number-event.ensures.number
+    ∙ ap (λ m. opened_to m.setup m.events c.args.locality c.args.buffer.now) c.self.view_is)))
 
 pub invariant_of-self-2 : goal.invariant_of-self-2
 invariant_of-self-2 c =
     let past = c.self.inside.journal.events in
     let count : c.next_number-event.result ≡ next_number past = c.next_number-event.ensures.number in
     machine-executed c.self.inside.setup past c.self.inside.tables c.self.invariant
-    c.next_number-event.result c.args.client c.args.locality c.args.buffer.now c.as_slice.result.now c.in_ok-reply.outcome c.push_command-pushed.new.self.events c.finish-opened.new.self
-    count (search rules) (search rules) (c.finish-opened.ensures.tables ∙ c.in_ok-reply.ensures.tables c.args.client)
+    c.next_number-event.result c.args.client c.args.locality c.args.buffer.now c.as_slice.result.now c.in-Ok.outcome c.push_command-pushed.new.self.events c.finish-opened.new.self
+    count (c.as_slice.ensures ∙ (prepared-is c).reply) (outcome-same c ∙ (prepared-is c).outcome) (c.finish-opened.ensures.tables ∙ (prepared-is c).tables c.args.client)
     (search rules)
 
 pub returns-clause-opens : goal.returns-clause-opens

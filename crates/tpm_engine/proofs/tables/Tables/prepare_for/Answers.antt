@@ -5,28 +5,32 @@ use Rattle.tpm_engine.proofs.tables.Tables.prepare_for.Goals as goal
 
 -- src/respond.rt
 pub prepare_success-requires-clause-session : goal.prepare_success-requires-clause-session
-prepare_success-requires-clause-session c = (are-kept c.args.self.now c.args.locality c.args.command (sym c.in-Ok-None.ensures ∙ c.in-Ok-None.field-0-is)).session
+prepare_success-requires-clause-session c =
+    (are-kept c.args.self.now c.args.locality c.args.command.now (sym c.in_ok-first_stop.ensures ∙ c.in-None.is)).session
 
 -- src/respond.rt
 pub prepare_success-requires-clause-room : goal.prepare_success-requires-clause-room
-prepare_success-requires-clause-room c = (are-kept c.args.self.now c.args.locality c.args.command (sym c.in-Ok-None.ensures ∙ c.in-Ok-None.field-0-is)).room
+prepare_success-requires-clause-room c =
+    (are-kept c.args.self.now c.args.locality c.args.command.now (sym c.in_ok-first_stop.ensures ∙ c.in-None.is)).room
 
 -- src/respond.rt
 pub prepare_success-requires-clause-rule : goal.prepare_success-requires-clause-rule
-prepare_success-requires-clause-rule c = (are-kept c.args.self.now c.args.locality c.args.command (sym c.in-Ok-None.ensures ∙ c.in-Ok-None.field-0-is)).own
+prepare_success-requires-clause-rule c =
+    (are-kept c.args.self.now c.args.locality c.args.command.now (sym c.in_ok-first_stop.ensures ∙ c.in-None.is)).own
 
 -- src/respond.rt
-pub returns-in-Ok-None : goal.returns-in-Ok-None
-returns-in-Ok-None c = record {
+pub returns-in-None : goal.returns-in-None
+returns-in-None c = record {
   response =
-      none-response c.args.self.now c.args.number c.args.locality c.args.command c.prepare_success.result
-      (sym c.in-Ok-None.ensures ∙ c.in-Ok-None.field-0-is) c.prepare_success.ensures.response;
+      none-response c.args.self.now c.args.number c.args.locality c.args.command.now c.prepare_success.result
+      (sym c.in_ok-first_stop.ensures ∙ c.in-None.is) c.prepare_success.ensures.response;
 }
 
 -- src/respond.rt
-pub returns-in-Ok-Some : goal.returns-in-Ok-Some
-returns-in-Ok-Some c = record {
+pub returns-in-Some : goal.returns-in-Some
+returns-in-Some c = record {
   response =
-      first-response c.args.self.now c.args.number c.args.locality c.args.command c.stopped.result c.in-Ok-Some.stop (sym c.in-Ok-Some.ensures ∙ c.in-Ok-Some.field-0-is)
+      first-response c.args.self.now c.args.number c.args.locality c.args.command.now c.stopped.result c.in-Some.stop
+      (sym c.in_ok-first_stop.ensures ∙ c.in-Some.is)
       (record { reply = c.stopped.ensures.reply; outcome = c.stopped.ensures.outcome; nothing = c.stopped.ensures.nothing });
 }
