@@ -6,6 +6,7 @@ use Rattle.std.proofs.lemmas.List.{append-nil, drop_more, length-map}
 use Rattle.std.proofs.Math.ListN.{drop_of_length-le}
 use Rattle.json.specs.Print.{quoted}
 use Rattle.tpol_base.specs.declared.digest.Digest32.{Digest32}
+use Rattle.tpol_tree.specs.declared.closed.Assertion.{Assertion}
 use Rattle.tpol_tree.specs.declared.closed.ClosedElements.{ClosedElements}
 use Rattle.tpol_tree.specs.declared.closed.ClosedElement.{ClosedElement}
 use Rattle.tpol_tree.specs.declared.closed.ClosedElement.TheVariants.{Assert, Or, Authorize, AuthorizeNv}
@@ -16,13 +17,13 @@ use Rattle.tpol_tree.specs.declared.path.PathStep.TheVariants.{Outside}
 use Rattle.tpol_digest.specs.Digest.{zero_digest}
 use Rattle.tpol_digest.specs.Paths.{approval_of}
 use Rattle.tpol_digest.specs.Positions.{element_list_ways, element_ways}
-use Rattle.tpol_digest.proofs.Images.{of_key, of_index, document_entered, document_passed, no_documents}
+use Rattle.tpol_digest.proofs.Images.{of_assertion, of_key, of_index, document_entered, document_passed, no_documents}
 use Rattle.tpol_digest.proofs.Positions.{Parted, parted}
 use Rattle.tpol_choose.proofs.Counts.{IsCount}
 use Rattle.tpol_lines.specs.OpeningLine.{steps_of}
-use Rattle.tpol_lines.specs.PathLine.{label, step_text}
+use Rattle.tpol_lines.specs.PathLine.{assertion_kind, label, step_text}
 use Rattle.tpol_lines.specs.Pen.{behind_separator}
-use Rattle.tpol_lines.specs.Texts.{GoesOn, Texts, approval_texts, behind_slash, both, document_texts, element_list_texts, element_texts, join, of_choice, of_kind, step_texts, texts_of}
+use Rattle.tpol_lines.specs.Texts.{GoesOn, Texts, approval_texts, behind_slash, both, document_texts, element_list_choices, element_list_texts, element_texts, join, of_choice, of_kind, step_texts, texts_of}
 use Rattle.tpol_lines.proofs.TextLaws.{label_is, texts}
 
 -- ---- at an index of a list that is made of parts
@@ -102,6 +103,41 @@ goes_closed a b kind xs i g = record {
   is_there = at_map (λ x. join x (of_kind kind)) xs i g.one g.is_there;
   follows = g.follows ∙ ap (λ l. a ++ l) (sym (append-nil g.one.choices));
 }
+
+-- ---- choices alone
+
+choices_behind_kind : (kind : List ℕ) (ts : List Texts) → map (λ (t : Texts). t.choices) (map (join (of_kind kind)) ts) ≡ map (λ (t : Texts). t.choices) ts
+choices_behind_kind kind [] = refl
+choices_behind_kind kind (t ∷ ts) = ap (λ l. t.choices ∷ l) (choices_behind_kind kind ts)
+
+-- an assertion leaves none
+pub choices_behind : (documents : List ApprovedDoc) (levels : ℕ) (assertion : Assertion) (rest : ClosedElements) → map (λ (t : Texts). t.choices) (both (element_texts documents levels (Assert assertion)) (element_list_texts documents levels rest)) ≡ element_list_choices documents levels rest
+choices_behind documents levels assertion rest =
+    let ts = element_list_texts documents levels rest in
+    ap (λ firsts. map (λ (t : Texts). t.choices) (both firsts ts)) (of_assertion texts documents levels assertion)
+    ∙ ap (map (λ (t : Texts). t.choices)) (append-nil (map (join (of_kind (assertion_kind assertion))) ts))
+    ∙ choices_behind_kind (assertion_kind assertion) ts
+
+pub as_many : (xs ys : List Texts) → map (λ (t : Texts). t.choices) xs ≡ map (λ (t : Texts). t.choices) ys → length xs ≡ length ys
+as_many xs ys e =
+    sym (length-map xs (λ (t : Texts). t.choices)) ∙ ap length e ∙ length-map ys (λ (t : Texts). t.choices)
+
+pub goes_alike : (a b : List ℕ) (xs ys : List Texts) (i : ℕ) → map (λ (t : Texts). t.choices) xs ≡ map (λ (t : Texts). t.choices) ys → GoesOn a xs i b → GoesOn a ys i b
+goes_alike a b [] ys i e g = let none = g.is_there in cc
+goes_alike a b (x ∷ xs) [] i e g = cc
+goes_alike a b (x ∷ xs) (y ∷ ys) zero e g =
+    let there = g.is_there in
+    let one : x ≡ g.one = cc in
+    let same : x.choices ≡ y.choices = cc in
+    record {
+      one = y;
+      is_there = refl;
+      follows = g.follows ∙ ap (λ (t : Texts). a ++ t.choices) (sym one) ∙ ap (λ l. a ++ l) same;
+    }
+goes_alike a b (x ∷ xs) (y ∷ ys) (suc i) e g =
+    let rest : map (λ (t : Texts). t.choices) xs ≡ map (λ (t : Texts). t.choices) ys = cc in
+    let r = goes_alike a b xs ys i rest (record { one = g.one; is_there = g.is_there; follows = g.follows }) in
+    record { one = r.one; is_there = r.is_there; follows = r.follows }
 
 -- ---- how many there are
 

@@ -55,6 +55,10 @@ move_texts act = of_kind (move_kind act)
 abbrev pub element_list_texts : List ApprovedDoc → ℕ → ClosedElements → List Texts
 element_list_texts documents levels elements = images.element_list_images texts_of documents levels elements
 
+-- the choices alone of the paths of elements
+abbrev pub element_list_choices : List ApprovedDoc → ℕ → ClosedElements → List (List ℕ)
+element_list_choices documents levels elements = map (λ (t : Texts). t.choices) (element_list_texts documents levels elements)
+
 abbrev pub element_texts : List ApprovedDoc → ℕ → ClosedElement → List Texts
 element_texts documents levels element = images.element_images texts_of documents levels element
 

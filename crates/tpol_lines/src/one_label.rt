@@ -1,6 +1,6 @@
 // The choices of one path, by its position: the policy is walked to it by counting.
 
-ghost use Rattle.std.specs.Prelude.{◌≡◌, ◌-◌, ◌<◌, ◌≤◌, ◌++◌, IfOk, OnOk, length, option_map};
+ghost use Rattle.std.specs.Prelude.{◌≡◌, ◌-◌, ◌<◌, ◌≤◌, ◌++◌, IfOk, OnOk, List, ℕ, length, option_map};
 ghost use Rattle.std.specs.List.{slice_get};
 ghost use Rattle.json.specs.Print.{quoted};
 ghost use Rattle.tpol_digest.specs.Limits.{AreWithinLimits};
@@ -8,6 +8,7 @@ ghost use Rattle.tpol_digest.specs.Paths.{paths_of};
 ghost use Rattle.tpol_lines.specs.OpeningLine.{steps_of};
 ghost use Rattle.tpol_lines.specs.PathLine.{label};
 ghost use Rattle.tpol_lines.specs.Texts as texts;
+ghost use Rattle.tpol_tree.specs.declared.path.ApprovedDoc.{ApprovedDoc as OneDocument};
 
 use std::alloc::Global;
 use tpol_base::{NoMemory, Text};
@@ -41,13 +42,29 @@ pub fn label_at(
         approvals: approvals.as_slice(),
         levels: MAX_LEVELS,
     };
-    let count = count_ways(scope.approvals, scope.levels, &policy.elements);
+    let elements = behind_assertions(&policy.elements);
+    let count = count_ways(scope.approvals, scope.levels, elements);
     let index = u64::from(position - 1);
     let mut choices = Text::new(alloc);
-    push_elements(&scope, &mut choices, &policy.elements, index, count)?;
+    push_elements(&scope, &mut choices, elements, index, count)?;
     match behind_slash(choices.as_str()) {
         Some(choices) => Text::from_str(alloc, choices),
         None => Text::from_str(alloc, "-"),
+    }
+}
+
+// Elements without the assertions that stand before all others, which leave no choice.
+fn behind_assertions(elements: &ClosedElements) -> &ClosedElements
+    ensures { (documents : List OneDocument) (levels : ℕ)
+        → texts.element_list_choices documents levels result.now
+        ≡ texts.element_list_choices documents levels elements.now }
+{
+    match elements {
+        ClosedElements::End => elements,
+        ClosedElements::More(element, rest) => match &**element {
+            ClosedElement::Assert(_) => behind_assertions(rest),
+            _ => elements,
+        },
     }
 }
 

@@ -114,7 +114,7 @@ fn first_match(
 fn asked_facts(alloc: Global, facts: &[Fact]) -> Result<Vec<Asked>, NoMemory>
     ensures { IfOk result (λ asked. AllAsk asked.items (moves_of facts.now)) }
 {
-    let mut asked = Vec::new(alloc);
+    let mut asked = Vec::with_capacity(alloc, facts.len())?;
     for fact in facts {
         asked.push(Asked::of_move(alloc, &fact.act)?)?;
     }
@@ -125,9 +125,9 @@ fn asked_facts(alloc: Global, facts: &[Fact]) -> Result<Vec<Asked>, NoMemory>
 fn events_of(alloc: Global, facts: &[Fact]) -> Result<Events, NoMemory>
     ensures { IfOk result (λ events. events ≡ spec.events_of facts.now) }
 {
-    let mut events = Events::new(alloc);
+    let mut events = Vec::with_capacity(alloc, facts.len())?;
     for fact in facts {
         events.push(fact.event)?;
     }
-    Ok(events)
+    Ok(Events::from_vec(events))
 }

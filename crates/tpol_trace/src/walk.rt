@@ -159,19 +159,43 @@ fn ways_of_element(
             behind.put_behind(walk.facts, &Asked::not_approving(update));
             Ok(behind)
         }
-        ClosedElement::Or(branches) => {
-            let digests = digests_of_branches(walk.alloc, branches, rest, before)?;
-            let update = update_of_or(walk.alloc, &digests)?;
-            behind.put_behind(walk.facts, &Asked::not_approving(update));
-            let mut found = Ways::none(walk.alloc, walk.facts)?;
-            let within = before.within(branches, rest);
-            add_branches(walk, &mut found, branches, &within, &behind)?;
-            Ok(found)
-        }
+        ClosedElement::Or(branches) => ways_of_or(walk, branches, rest, before, behind),
         ClosedElement::Authorize { .. } | ClosedElement::AuthorizeNv { .. } => {
             ways_of_approval(walk, element, &behind)
         }
     }
+}
+
+// The ways through an OR before the rest of its list, each before one of the ways behind it.
+#[cycle(walk)]
+fn ways_of_or(
+    walk: &Walk<'_>,
+    branches: &ClosedBranches,
+    rest: &ClosedElements,
+    before: &Before<'_>,
+    mut behind: Ways,
+) -> Result<Ways, NoMemory>
+    requires lead { ApprovalsLeadBranches true branches.now }
+    requires knows { KnowsFirst before.now (OneOr branches.now) rest.now }
+    requires documents { All (λ document. ApprovalsLead true document.closed.elements)
+        walk.now.approvals.now }
+    requires size { length behind.first.items ≡ length walk.now.facts.now + 1 }
+    ensures size { IfOk result (λ table. length table.first.items ≡ length walk.now.facts.now + 1) }
+    ensures table { (moves : List OneMove) (ways : List Path) → AllAsk walk.now.facts.now moves
+        → AreInside ways
+        → IsTable walk.now.approvals.now walk.now.levels moves behind ways
+        → IfOk result (λ table. IsTable walk.now.approvals.now walk.now.levels moves table
+        (spec.product (spec.paths_at_element
+        (spec.document_paths walk.now.approvals.now walk.now.levels) walk.now.approvals.now
+        (OneOr branches.now) before.now.digest) ways)) }
+{
+    let digests = digests_of_branches(walk.alloc, branches, rest, before)?;
+    let update = update_of_or(walk.alloc, &digests)?;
+    behind.put_behind(walk.facts, &Asked::not_approving(update));
+    let mut found = Ways::none(walk.alloc, walk.facts)?;
+    let within = before.within(branches, rest);
+    add_branches(walk, &mut found, branches, &within, &behind)?;
+    Ok(found)
 }
 
 // The digests of the branches of an OR, as they are kept or else as they are hashed.

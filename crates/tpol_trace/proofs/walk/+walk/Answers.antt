@@ -120,16 +120,6 @@ ways_of_element-returns-in_ok-update-in-Assert-clause-table t c =
     let act = Assert c.in-Assert.assertion in
     rw c.in-Assert.is (λ moves ways asks inside table. one_table approvals moves levels act c.put_behind.new.self ways (c.put_behind.ensures.behind approvals levels moves act ways asks (c.not_approving.ensures.asks act c.in_ok-update-in-Assert.ensures refl) inside table))
 
-pub ways_of_element-returns-in_ok-add_branches-in-Or-clause-table : goal.ways_of_element-returns-in_ok-add_branches-in-Or-clause-table
-ways_of_element-returns-in_ok-add_branches-in-Or-clause-table t c =
-    let approvals = c.args.walk.now.approvals.now in
-    let levels = c.args.walk.now.levels in
-    let d = c.args.before.now.digest in
-    let within = document_paths approvals levels in
-    let act = Or (branch_digests c.in-Or.branches d) in
-    let hashed = c.in_ok-update-in-Or.ensures in
-    rw c.in-Or.is (λ moves ways asks inside table. subst (λ x. IsTable approvals levels moves c.add_branches.new.found (product (paths_at_branches within approvals c.in-Or.branches 1 act x) ways)) c.within-within.ensures.digest (c.in_ok-add_branches-in-Or.ensures.table moves act 1 ways [] asks inside (c.put_behind-in-Or.ensures.behind approvals levels moves act ways asks (c.not_approving-in-Or.ensures.asks act (hashed ∙ ap update_of_or c.in_ok-digests-in-Or.ensures) refl) inside table) (c.in_ok-found-in-Or.ensures.none approvals levels moves asks)))
-
 pub ways_of_element-returns-in-Authorize-clause-table : goal.ways_of_element-returns-in-Authorize-clause-table
 ways_of_element-returns-in-Authorize-clause-table t c = λ moves ways asks inside table.
     let approvals = c.args.walk.now.approvals.now in
@@ -139,6 +129,17 @@ ways_of_element-returns-in-Authorize-clause-table t c = λ moves ways asks insid
       | inr q ↦ subst IsApproval (sym q.1) tt
     ] in
     subst (λ paths. IfOk c.ways_of_approval.result (λ found. IsTable approvals levels moves found (product paths ways))) (sym (approval_paths approvals (document_paths approvals levels) c.args.element.now c.args.before.now.digest approval)) (c.ways_of_approval.ensures.table moves ways asks inside table)
+
+pub ways_of_or-returns-clause-table : goal.ways_of_or-returns-clause-table
+ways_of_or-returns-clause-table t c = λ moves ways asks inside table.
+    let approvals = c.args.walk.now.approvals.now in
+    let levels = c.args.walk.now.levels in
+    let d = c.args.before.now.digest in
+    let within = document_paths approvals levels in
+    let branches = c.args.branches.now in
+    let act = Or (branch_digests branches d) in
+    let hashed = c.in_ok-update.ensures in
+    subst (λ x. IsTable approvals levels moves c.add_branches.new.found (product (paths_at_branches within approvals branches 1 act x) ways)) c.within-within.ensures.digest (c.in_ok-add_branches.ensures.table moves act 1 ways [] asks inside (c.put_behind.ensures.behind approvals levels moves act ways asks (c.not_approving.ensures.asks act (hashed ∙ ap update_of_or c.in_ok-digests.ensures) refl) inside table) (c.in_ok-found.ensures.none approvals levels moves asks))
 
 pub ways_of_approval-returns-clause-table : goal.ways_of_approval-returns-clause-table
 ways_of_approval-returns-clause-table t c = λ moves ways asks inside table.

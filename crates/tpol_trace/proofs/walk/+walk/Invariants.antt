@@ -18,6 +18,9 @@ decreases-ways_of_unbranched l = 2 * (l.walk.now.levels * greatest l.walk.now.ap
 abbrev pub decreases-ways_of_element : goal.decreases-ways_of_element
 decreases-ways_of_element l = 2 * (l.walk.now.levels * greatest l.walk.now.approvals.now) + 2 * weight_of_element l.element.now
 
+abbrev pub decreases-ways_of_or : goal.decreases-ways_of_or
+decreases-ways_of_or l = 2 * (l.walk.now.levels * greatest l.walk.now.approvals.now) + 2 * weight_of_branches l.branches.now + 1
+
 abbrev pub decreases-add_branches : goal.decreases-add_branches
 decreases-add_branches l = 2 * (l.walk.now.levels * greatest l.walk.now.approvals.now) + 2 * weight_of_branches l.branches.now
 
