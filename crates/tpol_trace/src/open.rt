@@ -14,12 +14,12 @@ ghost use Rattle.tpol_trace.specs.Tables.{AllAsk};
 
 use crate::asked::Asked;
 use crate::broken::broken_opening;
-use crate::walk::{Walk, ways_of_elements};
+use crate::walk::{Walk, ways_of_policy};
 use crate::ways::Ways;
 use crate::{Events, Opening};
 use std::alloc::Global;
 use tpol_base::NoMemory;
-use tpol_digest::{Before, Memo, memo_of};
+use tpol_digest::{Memo, memo_of};
 use tpol_tree::{Approvals, Closed, Fact, Facts};
 
 // How many approvals may lie inside one another.
@@ -106,7 +106,7 @@ fn first_match(
         levels: MAX_LEVELS,
     };
     let end = Ways::end(alloc, &asked)?;
-    let ways = ways_of_elements(&walk, &policy.elements, &Before::start(memo), end)?;
+    let ways = ways_of_policy(&walk, &policy.elements, memo, end)?;
     Ok(ways.first[0])
 }
 

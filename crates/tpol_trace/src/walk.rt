@@ -3,7 +3,7 @@
 ghost use Rattle.std.specs.Prelude.{◌≡◌, ◌+◌, ◌++◌, true, false, length, map, nat_lt, All, List, ℕ, IfOk, OnOk};
 ghost use Rattle.tpol_base.specs.declared.digest.Digest32.{Digest32 as OneDigest};
 ghost use Rattle.tpol_digest.specs.Digest.{branch_digests, digest_at_element, zero_digest};
-ghost use Rattle.tpol_digest.specs.Memos.{Knows, KnowsBranches, KnowsFirst};
+ghost use Rattle.tpol_digest.specs.Memos.{IsMemo, Knows, KnowsBranches, KnowsFirst};
 ghost use Rattle.tpol_digest.specs.Positions as at;
 ghost use Rattle.tpol_digest.specs.Paths as spec;
 ghost use Rattle.tpol_digest.specs.UpdateBytes.{update_value};
@@ -20,8 +20,8 @@ use crate::ways::Ways;
 use std::alloc::Global;
 use tpol_base::{Digest32, Digests, NoMemory};
 use tpol_digest::{
-    Before, BeforeBranches, UpdateBytes, accepts, has_or, push_branch_digests, update_of_approve,
-    update_of_approve_nv, update_of_assertion, update_of_or, zero_digest,
+    Before, BeforeBranches, Memo, UpdateBytes, accepts, has_or, push_branch_digests,
+    update_of_approve, update_of_approve_nv, update_of_assertion, update_of_or, zero_digest,
 };
 use tpol_tree::{ApprovedDoc, ClosedBranches, ClosedElement, ClosedElements};
 
@@ -34,10 +34,39 @@ pub struct Walk<'a> {
     pub levels: u8,
 }
 
+// The ways through a policy's elements, each before one of the ways behind them; `memo` has the digests of the
+// policy, which are looked at only where it has an OR.
+pub fn ways_of_policy(
+    walk: &Walk<'_>,
+    elements: &ClosedElements,
+    memo: &Memo,
+    behind: Ways,
+) -> Result<Ways, NoMemory>
+    requires lead { ApprovalsLead true elements.now }
+    requires memo { IsMemo elements.now zero_digest memo.now }
+    requires documents { All (λ document. ApprovalsLead true document.closed.elements)
+        walk.now.approvals.now }
+    requires size { length behind.first.items ≡ length walk.now.facts.now + 1 }
+    ensures size { IfOk result (λ table. length table.first.items ≡ length walk.now.facts.now + 1) }
+    ensures table { (moves : List OneMove) (ways : List Path) → AllAsk walk.now.facts.now moves
+        → AreInside ways
+        → IsTable walk.now.approvals.now walk.now.levels moves behind ways
+        → IfOk result (λ table. IsTable walk.now.approvals.now walk.now.levels moves table
+        (spec.product (spec.paths_at
+        (spec.document_paths walk.now.approvals.now walk.now.levels) walk.now.approvals.now
+        elements.now zero_digest) ways)) }
+{
+    if has_or(elements) {
+        ways_of_elements(walk, elements, &Before::start(memo), behind)
+    } else {
+        ways_of_unbranched(walk, elements, behind)
+    }
+}
+
 // The ways through elements, each before one of the ways behind them; `before` has the digest before the
 // elements.
 #[cycle(walk)]
-pub fn ways_of_elements(
+fn ways_of_elements(
     walk: &Walk<'_>,
     elements: &ClosedElements,
     before: &Before<'_>,

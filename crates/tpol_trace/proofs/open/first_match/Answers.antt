@@ -1,4 +1,5 @@
 use Rattle.std.proofs.Common.{◌∷◌, [], refl, sym, ap, subst}
+use Rattle.tpol_digest.specs.Digest.{zero_digest}
 use Rattle.tpol_digest.specs.Paths.{empty_path}
 use Rattle.tpol_tree.specs.Facts.{moves_of}
 use Rattle.tpol_trace.specs.Tables.{AllAsk}
@@ -10,11 +11,11 @@ returns-clause-index c =
     let moves = moves_of c.as_slice.result.now in
     let asks = subst (λ asked. AllAsk asked moves) (sym c.deref.ensures.value) c.in_ok-asked.ensures in
     let asked = subst (λ asked. AllAsk asked moves) (sym c.deref-2.ensures.value) c.in_ok-asked.ensures in
-    first_is c.args.policy.now c.args.approvals.now c.args.facts.now c.requires.within c.as_slice-2.result.now moves c.start.result.digest c.in_ok-ways.ways c.index.result.now c.as_slice-2.ensures (ap moves_of c.as_slice.ensures) (ap (λ d. d.bytes) c.start.ensures.digest) (c.in_ok-ways.ensures.table moves (empty_path ∷ []) asks (refl, tt) (c.in_ok-end.ensures.end c.as_slice-2.result.now 4 moves asked)) c.index.ensures
+    first_is c.args.policy.now c.args.approvals.now c.args.facts.now c.requires.within c.as_slice-2.result.now moves zero_digest c.in_ok-ways.ways c.index.result.now c.as_slice-2.ensures (ap moves_of c.as_slice.ensures) refl (c.in_ok-ways.ensures.table moves (empty_path ∷ []) asks (refl, tt) (c.in_ok-end.ensures.end c.as_slice-2.result.now 4 moves asked)) c.index.ensures
 
 pub returns-clause-few : goal.returns-clause-few
 returns-clause-few c =
     let moves = moves_of c.as_slice.result.now in
     let asks = subst (λ asked. AllAsk asked moves) (sym c.deref.ensures.value) c.in_ok-asked.ensures in
     let asked = subst (λ asked. AllAsk asked moves) (sym c.deref-2.ensures.value) c.in_ok-asked.ensures in
-    few_paths c.args.policy.now c.args.approvals.now c.args.facts.now c.requires.within c.index.result.now (first_is c.args.policy.now c.args.approvals.now c.args.facts.now c.requires.within c.as_slice-2.result.now moves c.start.result.digest c.in_ok-ways.ways c.index.result.now c.as_slice-2.ensures (ap moves_of c.as_slice.ensures) (ap (λ d. d.bytes) c.start.ensures.digest) (c.in_ok-ways.ensures.table moves (empty_path ∷ []) asks (refl, tt) (c.in_ok-end.ensures.end c.as_slice-2.result.now 4 moves asked)) c.index.ensures)
+    few_paths c.args.policy.now c.args.approvals.now c.args.facts.now c.requires.within c.index.result.now (first_is c.args.policy.now c.args.approvals.now c.args.facts.now c.requires.within c.as_slice-2.result.now moves zero_digest c.in_ok-ways.ways c.index.result.now c.as_slice-2.ensures (ap moves_of c.as_slice.ensures) refl (c.in_ok-ways.ensures.table moves (empty_path ∷ []) asks (refl, tt) (c.in_ok-end.ensures.end c.as_slice-2.result.now 4 moves asked)) c.index.ensures)
