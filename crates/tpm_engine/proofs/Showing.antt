@@ -2,11 +2,13 @@
 use Rattle.std.proofs.Common.{◌≡◌, ℕ, ◌==◌, Bool, true, false, List, Option, None, Some, IfSome, is_some, cond, refl, ap, sym, ◌∙◌}
 use Rattle.std.specs.Prelude.{pos}
 use Rattle.std.specs.Option.{option_map, option_map_or}
+use Rattle.std.specs.Prelude.{MatchOption}
 use Rattle.std.proofs.lemmas.Bool.{false≢true}
 use Rattle.std.proofs.lemmas.Option.{none-some, same_Some}
 use Rattle.tpol_base.specs.declared.digest.Digest32.{Digest32}
 use Rattle.tpol_base.specs.declared.name.Name.{Name}
 use Rattle.tpol_base.specs.Constants.{st_auth_secret}
+use Rattle.tpol_base.specs.ResponseCode.{rc_reference_h0}
 use Rattle.tpol_tree.specs.declared.closed.Assertion.TheVariants.{Secret, Signed}
 use Rattle.tpol_tree.specs.declared.facts.Fact.{Fact}
 use Rattle.tpol_tree.specs.declared.path.Move.{Move}
@@ -21,17 +23,19 @@ use Rattle.tpm_policy.specs.Asserted.{with_one_more}
 use Rattle.tpm_policy.specs.Judgments.{is_auth_ticket}
 use Rattle.tpm_rules.specs.PolicyTicket.{policy_ticket_rule}
 use Rattle.tpm_session.specs.Kept.{SessionView, counter_after, with_fact}
-use Rattle.tpm_session.specs.Slots.{is_live, session_at, with_state}
-use Rattle.tpm_session.proofs.Slots.{found-state, put-back}
+use Rattle.tpm_session.specs.Slots.{is_live, session_at, session_of, state_at, with_state}
+use Rattle.tpm_session.proofs.Slots.{found-state}
 use Rattle.tpol_wire.specs.Handles.{is_policy_command, policy_session_of}
 use Rattle.tpm_world.specs.Hashes.{proof_of}
 use Rattle.tpm_world.specs.World.{WorldState}
 use Rattle.tpm_engine.specs.Deeds.{Shows, after_deed, command_deed, plain_deed, with_shown}
 use Rattle.tpm_engine.specs.Facts.{Moment, Shown, moment, shown_by}
-use Rattle.tpm_engine.specs.PolicyCommands.{ticket_rule}
+use Rattle.tpm_engine.specs.PolicyCommands.{policy_command_rule, policy_rule, ticket_rule}
 use Rattle.tpm_engine.specs.Responses.{kept_counter}
 use Rattle.tpm_engine.specs.Tables.{TableState}
+use Rattle.tpm_engine.proofs.OwnRules.{session-rule}
 use Rattle.tpm_engine.proofs.Slotted.{changed-live, tables_of}
+use Rattle.tpm_engine.proofs.Stopping.{map-none}
 
 -- ---- the session of a policy command
 
@@ -91,11 +95,10 @@ state-of-counter state fact a b same = ap (λ (counter : Option ℕ). keep count
 pub live-found : (slots : List (Option SessionState)) (handle : ℕ) (session : SessionView) → Some session ≡ session_at slots handle → is_live slots handle ≡ true
 live-found slots handle session found = ap is_some (found-state slots handle session found).1
 
-pub shown-tables : (tables : TableState) (number : ℕ) (command : Command) (reply : List ℕ) (own : ℕ × ℕ) (session after : SessionView)
+shown-tables : (tables : TableState) (number : ℕ) (command : Command) (reply : List ℕ) (own : ℕ × ℕ) (session after : SessionView)
     → AreApart tables.sessions tables.saved → policy_session_of command ≡ Some own → Some session ≡ session_at tables.sessions own.0
     → IfSome (shown_by command) (λ shown. after ≡ with_one_more session (shown.1 (moment tables.world number session.state.start session.state.facts)) (kept_counter tables.world command))
-    → tables_of tables.world (with_state (with_state tables.sessions own.0 None) after.handle (Some after.state)) tables.saved
-    ≡ after_deed number (command_deed command reply) tables
+    → tables_of tables.world (with_state tables.sessions own.0 (Some after.state)) tables.saved ≡ after_deed number (command_deed command reply) tables
 shown-tables tables number command reply own session after apart policy found does =
     at (shown_by command) refl (same-counter tables.world command session.state.counter now) does
   where
@@ -104,26 +107,48 @@ shown-tables tables number command reply own session after apart policy found do
 
     one : (shown : Shown) → shown_by command ≡ Some shown → counter_after session.state.counter (shown.1 now).act (kept_counter tables.world command) ≡ counter_after session.state.counter (shown.1 now).act tables.world.pcrs.counter
         → after ≡ with_one_more session (shown.1 now) (kept_counter tables.world command)
-        → tables_of tables.world (with_state (with_state tables.sessions own.0 None) after.handle (Some after.state)) tables.saved
+        → tables_of tables.world (with_state tables.sessions own.0 (Some after.state)) tables.saved
         ≡ after_deed number (option_map_or (λ s. Shows s.0 s.1) (shown_by command) (plain_deed command reply)) tables
     one shown is same after-is =
         let here : shown.0 ≡ own.0 = same_Some _ _ (sym (ap first is) ∙ (same-session command ∙ ap first policy)) in
-        let handle : after.handle ≡ own.0 = ap (λ (s : SessionView). s.handle) after-is ∙ (found-state tables.sessions own.0 session found).0 in
         let state : after.state ≡ with_shown tables.world number shown.1 session.state =
         ap (λ (s : SessionView). s.state) after-is ∙ state-of-counter session.state (shown.1 now) (kept_counter tables.world command) tables.world.pcrs.counter same in
-        ap (λ h. tables_of tables.world (with_state (with_state tables.sessions own.0 None) h (Some after.state)) tables.saved) handle
-        ∙ (ap (λ s. tables_of tables.world (with_state (with_state tables.sessions own.0 None) own.0 (Some s)) tables.saved) state
-        ∙ (ap (λ s. tables_of tables.world s tables.saved) (put-back tables.sessions own.0 session (with_shown tables.world number shown.1) found)
+        ap (λ s. tables_of tables.world (with_state tables.sessions own.0 (Some s)) tables.saved) state
+        ∙ (ap (λ content. tables_of tables.world (with_state tables.sessions own.0 (option_map (with_shown tables.world number shown.1) content)) tables.saved)
+        (sym (found-state tables.sessions own.0 session found).1)
         ∙ (changed-live tables own.0 (with_shown tables.world number shown.1) apart (live-found tables.sessions own.0 session found)
         ∙ (ap (λ h. after_deed number (Shows h shown.1) tables) (sym here)
-        ∙ sym (ap (λ o. after_deed number (option_map_or (λ s. Shows s.0 s.1) o (plain_deed command reply)) tables) is)))))
+        ∙ sym (ap (λ o. after_deed number (option_map_or (λ s. Shows s.0 s.1) o (plain_deed command reply)) tables) is))))
 
     at : (o : Option Shown) → shown_by command ≡ o → IfSome o (λ shown. SameCounter tables.world (kept_counter tables.world command) session.state.counter (shown.1 now).act)
         → IfSome o (λ shown. after ≡ with_one_more session (shown.1 now) (kept_counter tables.world command))
-        → tables_of tables.world (with_state (with_state tables.sessions own.0 None) after.handle (Some after.state)) tables.saved
-        ≡ after_deed number (command_deed command reply) tables
+        → tables_of tables.world (with_state tables.sessions own.0 (Some after.state)) tables.saved ≡ after_deed number (command_deed command reply) tables
     at None e same after-is = absurd (none-some own.0 (sym (ap first e) ∙ (same-session command ∙ ap first policy)))
     at (Some shown) e same after-is = one shown e same after-is
+
+-- the session of a command whose rule holds is live, and one that a call changes by the command's fact gives the tables
+-- after it
+pub changed-tables : {Changes : SessionView → SessionView → Type 0} (tables : TableState) (number : ℕ) (command : Command) (reply : List ℕ) (own : ℕ × ℕ) (slots : List (Option SessionState))
+    → AreApart tables.sessions tables.saved → policy_session_of command ≡ Some own → policy_command_rule tables command ≡ None
+    → ((before after : SessionView) → Changes before after
+    → IfSome (shown_by command) (λ shown. after ≡ with_one_more before (shown.1 (moment tables.world number before.state.start before.state.facts)) (kept_counter tables.world command)))
+    → MatchOption (session_at tables.sessions own.0) (slots ≡ tables.sessions)
+    (λ before. (after : SessionView) × Changes before after × (slots ≡ with_state tables.sessions own.0 (Some after.state)))
+    → tables_of tables.world slots tables.saved ≡ after_deed number (command_deed command reply) tables
+changed-tables {Changes} tables number command reply own slots apart policy rule shows told = at (session_at tables.sessions own.0) refl told
+  where
+    none : option_map_or (λ state. policy_rule tables.world state command) (state_at tables.sessions own.0) (Some rc_reference_h0) ≡ None
+    none = sym (session-rule tables command own policy) ∙ rule
+
+    at : (o : Option SessionView) → session_at tables.sessions own.0 ≡ o
+        → MatchOption o (slots ≡ tables.sessions) (λ before. (after : SessionView) × Changes before after × (slots ≡ with_state tables.sessions own.0 (Some after.state)))
+        → tables_of tables.world slots tables.saved ≡ after_deed number (command_deed command reply) tables
+    at None e same =
+        absurd (none-some rc_reference_h0
+        (sym none ∙ ap (λ (o : Option SessionState). option_map_or (λ state. policy_rule tables.world state command) o (Some rc_reference_h0)) (map-none _ (state_at tables.sessions own.0) e)))
+    at (Some before) e changed =
+        ap (λ s. tables_of tables.world s tables.saved) changed.2
+        ∙ shown-tables tables number command reply own before changed.0 apart policy (sym e) (shows before changed.0 changed.1)
 
 -- ---- the session after a policy command
 
@@ -149,14 +174,6 @@ shown-none command policy = none-first (shown_by command) (same-session command 
     first-none : (o : Option (ℕ × ℕ)) → is_some o ≡ false → first o ≡ None
     first-none None h = refl
     first-none (Some own) h = absurd (false≢true (sym h))
-
-pub handle-stays : (command : Command) (session after : SessionView) (fact : Shown → Fact) (counter : ℕ) → is_policy_command command ≡ true
-    → IfSome (shown_by command) (λ shown. after ≡ with_one_more session (fact shown) counter) → after.handle ≡ session.handle
-handle-stays command session after fact counter policy does = at (shown_by command) (shown-there command policy) does
-  where
-    at : (o : Option Shown) → is_some o ≡ true → IfSome o (λ shown. after ≡ with_one_more session (fact shown) counter) → after.handle ≡ session.handle
-    at None there h = absurd (false≢true there)
-    at (Some shown) there h = ap (λ (s : SessionView). s.handle) h
 
 -- the rule of PolicyTicket over what the world tells
 pub ticket-rule : (world : WorldState) (session : SessionState) (time count : ℕ) (proof : Digest32) (bytes : List ℕ) (timeout : ℕ) (cp_hash : Option Digest32) (policy_ref : List ℕ) (key : Name) (ticket : Ticket)

@@ -105,11 +105,10 @@ impl Tables {
         let Some((handle, _)) = command.policy_session() else {
             unreachable!();
         };
-        let Some(mut session) = self.sessions.take_out(handle) else {
-            unreachable!();
-        };
-        policy_commands::carry_out(alloc, &self.world, &mut session, number, command);
-        self.sessions.put_back(session);
+        let world = &self.world;
+        self.sessions.change(handle, |session| {
+            policy_commands::carry_out(alloc, world, session, number, command)
+        });
     }
 
     // The same for what is no policy command.
