@@ -123,22 +123,23 @@ fn path_from(
         levels: MAX_LEVELS,
     };
     let elements = &policy.elements;
-    let count = before.extent(walk.approvals, walk.levels, elements).paths;
-    let mut path = empty_path(alloc);
+    let extent = before.extent(walk.approvals, walk.levels, elements);
+    let mut path = empty_path(alloc, extent.moves)?;
     let index = u64::from(position - 1);
-    push_from_zero(&walk, &mut path, elements, before, index, count)?;
+    push_from_zero(&walk, &mut path, elements, before, index, extent.paths)?;
     Ok(path)
 }
 
-// The path with no choice and no move.
-fn empty_path(alloc: Global) -> Path
-    ensures { result ≡ spec.empty_path }
+// The path with no choice and no move, with room for so many moves.
+fn empty_path(alloc: Global, moves: u64) -> Result<Path, NoMemory>
+    ensures { IfOk result (λ path. path ≡ spec.empty_path) }
 {
-    Path {
+    let moves = Vec::with_capacity(alloc, moves as usize)?;
+    Ok(Path {
         steps: PathSteps::new(alloc),
-        moves: Moves::new(alloc),
+        moves: Moves::from_vec(moves),
         outside: false,
-    }
+    })
 }
 
 /// Whether an OR stands among elements, those of approved documents aside. Where none does, the ways through

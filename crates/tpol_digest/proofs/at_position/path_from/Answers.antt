@@ -17,18 +17,18 @@ pub push_from_zero-requires-clause-counted : goal.push_from_zero-requires-clause
 push_from_zero-requires-clause-counted c =
     let policy = c.args.policy.now in
     let approvals = c.args.approvals.now in
-    let counted = counted_paths policy approvals c.as_slice.result.now c.as_slice.ensures c.extent-count.result c.extent-count.ensures in
+    let counted = counted_paths policy approvals c.as_slice.result.now c.as_slice.ensures c.extent-extent.result c.extent-extent.ensures in
     let same = ap (λ l. length (element_list_ways l 4 policy.elements zero_digest)) c.as_slice.ensures in
     omega (arith, counted, c.requires.within.few, same)
 
 pub push_from_zero-requires-clause-few : goal.push_from_zero-requires-clause-few
 push_from_zero-requires-clause-few c =
-    let counted = counted_paths c.args.policy.now c.args.approvals.now c.as_slice.result.now c.as_slice.ensures c.extent-count.result c.extent-count.ensures in
+    let counted = counted_paths c.args.policy.now c.args.approvals.now c.as_slice.result.now c.as_slice.ensures c.extent-extent.result c.extent-extent.ensures in
     omega (arith, counted, c.requires.within.few)
 
 pub push_from_zero-requires-clause-inside : goal.push_from_zero-requires-clause-inside
 push_from_zero-requires-clause-inside c =
-    let counted = counted_paths c.args.policy.now c.args.approvals.now c.as_slice.result.now c.as_slice.ensures c.extent-count.result c.extent-count.ensures in
+    let counted = counted_paths c.args.policy.now c.args.approvals.now c.as_slice.result.now c.as_slice.ensures c.extent-extent.result c.extent-extent.ensures in
     omega (arith, counted, c.requires.within.few, c.requires.positions.0, c.requires.positions.1, c.from-index.ensures)
 
 pub returns-clause-path : goal.returns-clause-path
@@ -36,7 +36,7 @@ returns-clause-path c =
     let policy = c.args.policy.now in
     let approvals = c.args.approvals.now in
     let path = c.push_from_zero.new.path in
-    let found = found_path c.empty_path-path.result path (element_list_ways c.as_slice.result.now 4 policy.elements zero_digest) c.from-index.result c.empty_path-path.ensures c.in_ok-push_from_zero.ensures in
+    let found = found_path c.in_ok-path.path path (element_list_ways c.as_slice.result.now 4 policy.elements zero_digest) c.from-index.result c.in_ok-path.ensures c.in_ok-push_from_zero.ensures in
     let same = ap (λ l. element_list_ways l 4 policy.elements zero_digest) c.as_slice.ensures in
     subst (λ i. slice_get (paths_of policy approvals) i ≡ Some path) c.from-index.ensures (subst (λ ways. slice_get ways c.from-index.result ≡ Some path) same found)
 
