@@ -1,5 +1,5 @@
 -- From the response to a command to the answer to its bytes.
-use Rattle.std.proofs.Common.{◌≡◌, ℕ, false, List, Option, None, Some, IfSome, Result, Ok, Err, IfOk, refl, ap, sym, subst, ◌∙◌}
+use Rattle.std.proofs.Common.{◌≡◌, ℕ, false, List, Option, None, Some, Result, Ok, Err, IfOk, refl, ap, sym, subst, ◌∙◌}
 use Rattle.tpol_base.specs.declared.no_memory.NoMemory.{NoMemory}
 use Rattle.tpol_fields.specs.declared.fault.WireFault.{WireFault}
 use Rattle.tpol_wire.specs.declared.command.Command.{Command}

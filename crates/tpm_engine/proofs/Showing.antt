@@ -3,7 +3,6 @@ use Rattle.std.proofs.Common.{◌≡◌, ℕ, ◌==◌, Bool, true, false, List,
 use Rattle.std.specs.Prelude.{pos}
 use Rattle.std.specs.Option.{option_map, option_map_or}
 use Rattle.std.specs.Prelude.{MatchOption}
-use Rattle.std.proofs.lemmas.Bool.{false≢true}
 use Rattle.std.proofs.lemmas.Option.{none-some, same_Some}
 use Rattle.tpol_base.specs.declared.digest.Digest32.{Digest32}
 use Rattle.tpol_base.specs.declared.name.Name.{Name}
@@ -23,9 +22,9 @@ use Rattle.tpm_policy.specs.Asserted.{with_one_more}
 use Rattle.tpm_policy.specs.Judgments.{is_auth_ticket}
 use Rattle.tpm_rules.specs.PolicyTicket.{policy_ticket_rule}
 use Rattle.tpm_session.specs.Kept.{SessionView, counter_after, with_fact}
-use Rattle.tpm_session.specs.Slots.{is_live, session_at, session_of, state_at, with_state}
+use Rattle.tpm_session.specs.Slots.{is_live, session_at, state_at, with_state}
 use Rattle.tpm_session.proofs.Slots.{found-state}
-use Rattle.tpol_wire.specs.Handles.{is_policy_command, policy_session_of}
+use Rattle.tpol_wire.specs.Handles.{policy_session_of}
 use Rattle.tpm_world.specs.Hashes.{proof_of}
 use Rattle.tpm_world.specs.World.{WorldState}
 use Rattle.tpm_engine.specs.Deeds.{Shows, after_deed, command_deed, plain_deed, with_shown}
@@ -149,31 +148,6 @@ changed-tables {Changes} tables number command reply own slots apart policy rule
     at (Some before) e changed =
         ap (λ s. tables_of tables.world s tables.saved) changed.2
         ∙ shown-tables tables number command reply own before changed.0 apart policy (sym e) (shows before changed.0 changed.1)
-
--- ---- the session after a policy command
-
--- a policy command shows something, and another shows nothing
-pub shown-there : (command : Command) → is_policy_command command ≡ true → is_some (shown_by command) ≡ true
-shown-there command policy = some-first (shown_by command) (ap is_some (same-session command) ∙ first-some (policy_session_of command) policy)
-  where
-    some-first : (o : Option Shown) → is_some (first o) ≡ true → is_some o ≡ true
-    some-first None h = h
-    some-first (Some shown) h = refl
-
-    first-some : (o : Option (ℕ × ℕ)) → is_some o ≡ true → is_some (first o) ≡ true
-    first-some None h = h
-    first-some (Some own) h = refl
-
-pub shown-none : (command : Command) → is_policy_command command ≡ false → shown_by command ≡ None
-shown-none command policy = none-first (shown_by command) (same-session command ∙ first-none (policy_session_of command) policy)
-  where
-    none-first : (o : Option Shown) → first o ≡ None → o ≡ None
-    none-first None h = refl
-    none-first (Some shown) h = absurd (none-some shown.0 (sym h))
-
-    first-none : (o : Option (ℕ × ℕ)) → is_some o ≡ false → first o ≡ None
-    first-none None h = refl
-    first-none (Some own) h = absurd (false≢true (sym h))
 
 -- the rule of PolicyTicket over what the world tells
 pub ticket-rule : (world : WorldState) (session : SessionState) (time count : ℕ) (proof : Digest32) (bytes : List ℕ) (timeout : ℕ) (cp_hash : Option Digest32) (policy_ref : List ℕ) (key : Name) (ticket : Ticket)

@@ -1,15 +1,14 @@
 -- Slots: one write that changes nothing, and sessions that stay apart.
-use Rattle.std.proofs.Common.{◌≡◌, ℕ, zero, suc, ◌+◌, ◌-◌, ◌==◌, ⊎_elim, true, false, List, [], ◌∷◌, get_or, set, replicate, Option, None, Some, is_some, nat_le, if◌then◌else◌, refl, ap, sym, ◌∙◌}
+use Rattle.std.proofs.Common.{◌≡◌, ℕ, zero, suc, ◌+◌, ◌-◌, ◌==◌, true, false, List, [], ◌∷◌, get_or, set, replicate, Option, None, Some, is_some, nat_le, if◌then◌else◌, refl, ap, sym, ◌∙◌}
 use Rattle.std.specs.Int.{bit_at}
 use Rattle.std.specs.Option.{option_map}
 use Rattle.std.specs.Prelude.{not}
-use Rattle.std.proofs.lemmas.Bool.{cases_eq, false≢true}
+use Rattle.std.proofs.lemmas.Bool.{false≢true}
 use Rattle.std.proofs.lemmas.Option.{none-some}
 use Rattle.tpm_bindings.specs.State.{SessionState}
 use Rattle.tpm_context.specs.Saved.{AreApart, SavedState, is_saved}
-use Rattle.tpm_session.specs.Slots.{bit_of, bits_of, changed_at, content_at, first_handle, in_slot, is_live, session_at, session_of, state_at, with_content, with_state}
+use Rattle.tpm_session.specs.Slots.{bit_of, bits_of, changed_at, content_at, first_handle, in_slot, is_live, session_at, session_of, state_at, with_content}
 use Rattle.tpm_session.proofs.Bits.{bit_at-bits, content-handle}
-use Rattle.tpm_session.proofs.Slots.{content-emptied, content-other}
 use Rattle.tpm_world.specs.World.{WorldState}
 use Rattle.tpm_engine.specs.Tables.{TableState, saved_changed, with_changed}
 
@@ -34,23 +33,6 @@ none-of (Some x) h = absurd (false≢true (sym h))
 -- a live session is not saved, and a saved one is not live
 pub unsaved : (live : List (Option SessionState)) (saved : List (Option SavedState)) (handle : ℕ) → AreApart live saved → is_live live handle ≡ true → content_at saved handle ≡ None
 unsaved live saved handle apart there = none-of (content_at saved handle) (apart handle there)
-
--- ---- what keeps live and saved sessions apart
-
-pub apart-emptied : (live : List (Option SessionState)) (saved : List (Option SavedState)) (handle : ℕ) → AreApart live saved → AreApart (with_state live handle None) saved
-apart-emptied live saved handle apart other there =
-    ⊎_elim
-    (λ same. absurd (false≢true (sym (ap is_some (content-emptied live handle)) ∙ (ap (is_live (with_state live handle None)) (sym same) ∙ there))))
-    (λ away. apart other (ap is_some (sym (content-other live handle other None away)) ∙ there))
-    (cases_eq other handle)
-
-pub apart-written : (live : List (Option SessionState)) (saved : List (Option SavedState)) (handle : ℕ) (state : Option SessionState)
-    → AreApart live saved → content_at saved handle ≡ None → AreApart (with_state live handle state) saved
-apart-written live saved handle state apart none other there =
-    ⊎_elim
-    (λ same. ap (is_saved saved) same ∙ ap is_some none)
-    (λ away. apart other (ap is_some (sym (content-other live handle other state away)) ∙ there))
-    (cases_eq other handle)
 
 -- ---- the tables after a change of a live session
 

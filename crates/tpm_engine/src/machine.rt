@@ -124,11 +124,14 @@ impl Machine {
         let event = self.journal.next_number();
         let read = read_command(alloc, buffer);
         let prepared = self.tables.prepare(alloc, event, locality, &read);
-        let Ok(Prepared {
-            reply,
-            outcome,
-            success,
-        }) = prepared else {
+        let Ok(
+            Prepared {
+                reply,
+                outcome,
+                success,
+            },
+        ) = prepared
+        else {
             drop(read);
             return Err(NoMemory);
         };

@@ -7,7 +7,6 @@ use Rattle.tpm_rules.specs.declared.outcome.Outcome.TheVariants.{Served}
 use Rattle.tpm_rules.specs.Entity.{auth_policy_of}
 use Rattle.tpm_world.specs.Entities.{entity_at}
 use Rattle.tpm_world.specs.World.{world_of}
-use Rattle.tpm_engine.specs.declared.prepared.Prepared.{Prepared}
 use Rattle.tpm_engine.specs.Answers.{opened_of}
 use Rattle.tpm_engine.specs.Events.{Answered}
 use Rattle.tpm_engine.specs.Legal.{answer_to, opened_to}

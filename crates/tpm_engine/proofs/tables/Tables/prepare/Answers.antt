@@ -1,6 +1,6 @@
 use Rattle.std.proofs.Common.{ℕ, List, Result, IfOk, rules, subst, sym}
 use Rattle.tpol_fields.specs.declared.fault.WireFault.{WireFault}
-use Rattle.tpol_fields.specs.Answers.{Fails, Gives}
+use Rattle.tpol_fields.specs.Answers.{Gives}
 use Rattle.tpol_wire.specs.declared.command.Command.{Command}
 use Rattle.tpol_wire.specs.Reading.{reading}
 use Rattle.tpm_engine.specs.declared.stop.Stop.{Stop}

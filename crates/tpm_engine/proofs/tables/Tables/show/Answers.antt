@@ -1,4 +1,4 @@
-use Rattle.std.proofs.Common.{ℕ, List, ap, rules, subst, sym, ◌∙◌}
+use Rattle.std.proofs.Common.{ℕ, List, ap, rules, sym, ◌∙◌}
 use Rattle.tpm_engine.specs.Deeds.{after_deed, command_deed}
 use Rattle.tpm_engine.specs.PolicyCommands.{policy_command_rule}
 use Rattle.tpm_engine.specs.Tables.{TableState}
