@@ -8,6 +8,7 @@ use Rattle.tpol_lines.specs.Lines.{line_of}
 use Rattle.tpol_lines.specs.PathLine.{path_line}
 use Rattle.tpol_moves.specs.Steps.{step_lines}
 use Rattle.tpol_prepare.specs.Prepared.{opening_step}
+use Rattle.tpol_name.specs.declared.sight.Sight.{Sight}
 use Rattle.tpol_scene.specs.declared.scene.Scene.{Scene}
 use Rattle.tpol_steps.specs.declared.answer.Answer.{Answer}
 use Rattle.tpol_steps.specs.declared.answer.Verdict.TheVariants.{Done, Usage}
@@ -51,20 +52,22 @@ unfoldable pub stepped : ℕ → Closed → List ApprovedDoc → Step Answer
 stepped position closed approvals =
     limit_step None closed approvals >>= λ within. found_step closed position (path_at (paths_of closed approvals) position)
 
--- the same of a policy that is filled with what the machine of a scene shows, and whose approvals are those of the
--- store
-unfoldable pub stepped_in : ℕ → List NamedPolicy → Option Scene → Policy → Step Answer
-stepped_in position store scene policy = do
-  sight ← opening_step store scene
-  closed ← filled_step None policy sight
-  stepped position closed (approved_documents store sight)
+-- the same of a policy that is filled with what a machine shows, and whose approvals are those of the store
+unfoldable pub stepped_at : ℕ → List NamedPolicy → Policy → Option Sight → Step Answer
+stepped_at position store policy sight =
+    filled_step None policy sight >>= λ closed. stepped position closed (approved_documents store sight)
 
--- the same with the scene of the shelf, if one is named, and the documents of the shelf
+-- the same with what the machine of a scene shows
+unfoldable pub stepped_in : ℕ → List NamedPolicy → Option Scene → Policy → Step Answer
+stepped_in position store scene policy = opening_step store scene >>= λ sight. stepped_at position store policy sight
+
+-- the same over the documents of the shelf
+unfoldable pub stepped_over : ℕ → Policy → List Document → Option Scene → Step Answer
+stepped_over position policy all scene = store_step all >>= λ store. stepped_in position store scene policy
+
+-- the same with the scene of the shelf, if one is named
 unfoldable pub stepped_with : ℕ → Option (List ℕ) → Policy → List Document → Step Answer
-stepped_with position name policy all = do
-  scene ← named_scene_step name all
-  store ← store_step all
-  stepped_in position store scene policy
+stepped_with position name policy all = named_scene_step name all >>= stepped_over position policy all
 
 -- the same of the export in the source
 unfoldable pub steps_step : ℕ → Option (List ℕ) → List ℕ → List Document → Step Answer

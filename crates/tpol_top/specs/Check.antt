@@ -14,6 +14,7 @@ use Rattle.tpol_lines.specs.Lines.{line_of, spaced}
 use Rattle.tpol_lines.specs.OpeningLine.{steps_of}
 use Rattle.tpol_prepare.specs.Prepared.{opening_step}
 use Rattle.tpol_prepare.specs.References.{policy_called}
+use Rattle.tpol_name.specs.declared.sight.Sight.{Sight}
 use Rattle.tpol_scene.specs.declared.scene.Scene.{Scene}
 use Rattle.tpol_store.specs.Approvals.{approved_documents}
 use Rattle.tpol_store.specs.Stores.{NamedPolicy}
@@ -80,17 +81,22 @@ abbrev pub named_policy_step : List ℕ → Option Policy → Step Policy
 named_policy_step name None = Err (no_such_policy name)
 named_policy_step name (Some policy) = Ok policy
 
+-- of a policy of a store, filled with what a machine shows
+unfoldable pub checked_at : List NamedPolicy → List ℕ → Option (List ℕ) → Policy → Option Sight → Step Answer
+checked_at store name bytes policy sight =
+    filled_step (Some name) policy sight >>= λ closed. checked_against name closed (approved_documents store sight) bytes
+
 -- of the policy of this name of a store, filled with what the machine of a scene shows
 unfoldable pub checked_in : List NamedPolicy → Option Scene → List ℕ → Option (List ℕ) → Step Answer
 checked_in store scene name bytes = do
   policy ← named_policy_step name (policy_called name store)
   sight ← opening_step store scene
-  closed ← filled_step (Some name) policy sight
-  checked_against name closed (approved_documents store sight) bytes
+  checked_at store name bytes policy sight
 
--- the same with the scene of the shelf, if one is named, and the documents of the shelf
+-- the same over the documents of the shelf
+unfoldable pub checked_over : List ℕ → List ℕ → List Document → Option Scene → Step Answer
+checked_over name input all scene = store_step all >>= λ store. checked_in store scene name (bytes_in input)
+
+-- the same with the scene of the shelf, if one is named
 unfoldable pub check_step : List ℕ → Option (List ℕ) → List ℕ → List Document → Step Answer
-check_step name scene input all = do
-  found ← named_scene_step scene all
-  store ← store_step all
-  checked_in store found name (bytes_in input)
+check_step name scene input all = named_scene_step scene all >>= checked_over name input all

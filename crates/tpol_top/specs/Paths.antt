@@ -7,6 +7,7 @@ use Rattle.tpol_lines.specs.Lines.{line_of}
 use Rattle.tpol_lines.specs.LintLine.{dead_lines, lint_line}
 use Rattle.tpol_lines.specs.PathLine.{path_lines}
 use Rattle.tpol_lint.specs.Dead.{dead_paths}
+use Rattle.tpol_name.specs.declared.sight.Sight.{Sight}
 use Rattle.tpol_scene.specs.declared.scene.Scene.{Scene}
 use Rattle.tpol_store.specs.Approvals.{approved_documents}
 use Rattle.tpol_store.specs.Stores.{NamedPolicy}
@@ -51,20 +52,22 @@ unfoldable pub listed : PathView → Closed → List ApprovedDoc → Step Answer
 listed view closed approvals =
     limit_step None closed approvals >>= λ within. Ok (view_answer view closed (paths_of closed approvals))
 
--- the same of a document that is filled with what the machine of a scene shows, and whose approvals are those of
--- the store
-unfoldable pub listed_in : PathView → List NamedPolicy → Option Scene → Policy → Step Answer
-listed_in view store scene policy = do
-  sight ← opening_step store scene
-  closed ← filled_step None policy sight
-  listed view closed (approved_documents store sight)
+-- the same of a document that is filled with what a machine shows, and whose approvals are those of the store
+unfoldable pub listed_at : PathView → List NamedPolicy → Policy → Option Sight → Step Answer
+listed_at view store policy sight =
+    filled_step None policy sight >>= λ closed. listed view closed (approved_documents store sight)
 
--- the same with the scene of the shelf, if one is named, and the documents of the shelf
+-- the same with what the machine of a scene shows
+unfoldable pub listed_in : PathView → List NamedPolicy → Option Scene → Policy → Step Answer
+listed_in view store scene policy = opening_step store scene >>= λ sight. listed_at view store policy sight
+
+-- the same over the documents of the shelf
+unfoldable pub listed_over : PathView → Policy → List Document → Option Scene → Step Answer
+listed_over view policy all scene = store_step all >>= λ store. listed_in view store scene policy
+
+-- the same with the scene of the shelf, if one is named
 unfoldable pub listed_with : PathView → Option (List ℕ) → Policy → List Document → Step Answer
-listed_with view name policy all = do
-  scene ← named_scene_step name all
-  store ← store_step all
-  listed_in view store scene policy
+listed_with view name policy all = named_scene_step name all >>= listed_over view policy all
 
 -- the same of the document in the source
 unfoldable pub paths_step : PathView → Option (List ℕ) → List ℕ → List Document → Step Answer

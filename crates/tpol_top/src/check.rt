@@ -1,5 +1,6 @@
 // The command `check`.
 
+ghost use Rattle.std.specs.Option.{option_copied};
 ghost use Rattle.std.specs.Prelude.{◌≡◌, ◌∷◌, ◌-◌, ◌≤◌, [], true, IfSome, IfOk, decimal, length, map, slice_get, ⊤};
 ghost use Rattle.tpol_cert.specs.Judgement.{judgement_of};
 ghost use Rattle.tpol_digest.specs.Limits.{AreWithinLimits};
@@ -9,8 +10,9 @@ ghost use Rattle.tpol_lines.specs.OpeningLine.{steps_of};
 ghost use Rattle.tpol_prepare.specs.References.{policy_called};
 ghost use Rattle.tpol_steps.specs.Refusals as refusals;
 ghost use Rattle.tpol_steps.specs.Steps.{Answers, AsksShelf, IsInside};
+ghost use Rattle.tpol_store.specs.Approvals.{approved_documents};
 ghost use Rattle.tpol_store.specs.Stores.{policies_of};
-ghost use Rattle.tpol_top.specs.Check.{accepted, bytes_in, certificate_answer, certificate_step, check_step, checked_against, checked_in, named_policy_step, without_line_feed};
+ghost use Rattle.tpol_top.specs.Check.{accepted, bytes_in, certificate_answer, certificate_step, check_step, checked_against, checked_at, checked_in, checked_over, named_policy_step, without_line_feed};
 ghost use Rattle.tpol_tree.specs.ClosedErased.{erased, erased_document};
 ghost use Rattle.tpol_tree.specs.Erased.{erased_policy};
 
@@ -20,6 +22,7 @@ use tpol_base::{NoMemory, Shelf, Text};
 use tpol_cert::{CertFault, check};
 use tpol_digest::{digest_of, path_at};
 use tpol_lines::{Lines, certified_line};
+use tpol_name::Sight;
 use tpol_prepare::opening_of;
 use tpol_scene::Scene;
 use tpol_steps::{
@@ -51,8 +54,30 @@ pub fn check_source<H: Shelf>(
         (H.faults shelf.new) result }
 {
     let scene = named_scene(alloc, scene, shelf)?;
+    let answer = check_over(alloc, name, &scene, input, shelf);
+    drop(scene);
+    answer
+}
+
+// The same with a scene.
+#[tactic(auto, unfolding(crate::specs::Check::checked_over))]
+fn check_over<H: Shelf>(
+    alloc: Global,
+    name: &Text,
+    scene: &Option<Scene>,
+    input: &[u8],
+    shelf: &mut H,
+) -> Result<Answer, Halt>
+    ensures answer { IfSome (H.documents shelf.old) (λ all.
+        Answers (λ answer. answer) (checked_over name.now input.now all scene.now) result) }
+    ensures keeps { H.documents shelf.new ≡ H.documents shelf.old }
+    ensures asks { AsksShelf true ⊤ shelf.old shelf.new (H.faults shelf.old)
+        (H.faults shelf.new) result }
+{
     let store = load_store(alloc, shelf)?;
-    check_stored(alloc, &store, &scene, name, input)
+    let answer = check_stored(alloc, &store, scene, name, input);
+    drop(store);
+    answer
 }
 
 // The same over a store and a scene.
@@ -70,9 +95,49 @@ fn check_stored(
 {
     let policy = named_policy(alloc, store, name)?;
     let sight = opening_of(alloc, store, scene)?;
-    let closed = fill_document(alloc, Some(name), policy, sight.as_ref())?;
-    let approvals = store.approvals(alloc, sight.as_ref())?;
-    check_filled(alloc, name, &closed, &approvals, input)
+    let answer = check_at(alloc, store, name, input, policy, sight.as_ref());
+    drop(sight);
+    answer
+}
+
+// The same of a policy, with what a machine shows.
+#[tactic(auto, unfolding(crate::specs::Check::checked_at))]
+fn check_at(
+    alloc: Global,
+    store: &Store,
+    name: &Text,
+    input: &[u8],
+    policy: &Policy,
+    sight: Option<&Sight>,
+) -> Result<Answer, Halt>
+    ensures answer { Answers (λ answer. answer) (checked_at (policies_of store.now) name.now
+        (bytes_in input.now) (erased_policy policy.now) (option_copied sight.entry)) result }
+    ensures inside { IsInside result }
+{
+    let closed = fill_document(alloc, Some(name), policy, sight)?;
+    let answer = check_closed(alloc, store, name, input, &closed, sight);
+    drop(closed);
+    answer
+}
+
+// The same of a policy that is filled.
+fn check_closed(
+    alloc: Global,
+    store: &Store,
+    name: &Text,
+    input: &[u8],
+    closed: &Closed,
+    sight: Option<&Sight>,
+) -> Result<Answer, Halt>
+    ensures answer { Answers (λ answer. answer) (checked_against name.now (erased closed.now)
+        (approved_documents (policies_of store.now) (option_copied sight.entry))
+        (bytes_in input.now)) result }
+    ensures inside { IsInside result }
+{
+    let approvals = store.approvals(alloc, sight)?;
+    let answer = check_filled(alloc, name, closed, &approvals, input);
+    drop(approvals);
+    answer
 }
 
 // The policy of this name, or the end of the run where the store has none.
@@ -88,7 +153,7 @@ fn named_policy<'a>(alloc: Global, store: &'a Store, name: &Text) -> Result<&'a 
     }
 }
 
-// The same of a policy that is filled.
+// The same with its approvals.
 #[tactic(auto, unfolding(crate::specs::Check::checked_against))]
 fn check_filled(
     alloc: Global,
