@@ -62,8 +62,9 @@ pub struct StagedScene {
 /// manner.
 ///
 /// `Refused` tells the first refusal: of the scene, of a ninth blind run, of the shelf's documents, of a name without a
-/// policy, of a policy that is not filled, or of one that is not within the limits. `ShelfFailed` comes only where the shelf failed, and
-/// `NoMemory` where memory ran out. The shelf is asked only once the scene was read and has no ninth blind run.
+/// policy, of a policy that is not filled, or of one that is not within the limits. `ShelfFailed` comes only where the
+/// shelf failed, and `NoMemory` where memory ran out. The shelf is asked only once the scene was read and has no ninth
+/// blind run.
 #[tactic(auto, using(crate::proofs::StagedScenes::scene_for), unfolding(crate::specs::Scenario::staged_step))]
 pub fn stage<H: Shelf>(
     alloc: Global,
