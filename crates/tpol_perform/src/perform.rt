@@ -1,12 +1,11 @@
 // The commands that carry out a scene.
 
-ghost use Rattle.std.specs.Prelude.{◌≡◌, ◌≤◌, true, All, IfOk, IfSome, IsOk, length};
+ghost use Rattle.std.specs.Prelude.{◌≡◌, ◌≤◌, true, All, IfOk, IfSome, length};
 ghost use Rattle.tpol_name.specs.Setups.{IsSetup};
 ghost use Rattle.tpol_perform.specs.Explained.{IsExplainedScene};
 ghost use Rattle.tpol_perform.specs.Script.{perform_step, performance_answer};
 ghost use Rattle.tpol_prepare.specs.Manner.{explains};
-ghost use Rattle.tpol_prepare.specs.Scenario.{CanHappen, IsScenarioOf};
-ghost use Rattle.tpol_steps.specs.SceneStep.{scene_of_bytes};
+ghost use Rattle.tpol_prepare.specs.Scenario.{CanHappen, IsScenarioOf, IsSceneFor};
 ghost use Rattle.tpol_steps.specs.Steps.{Answers, AsksShelf, IfAnswered};
 
 use crate::performance::Performance;
@@ -35,7 +34,7 @@ pub fn perform_scene<H: Shelf>(
         → IfSome (H.documents shelf.old)
         (λ all. IsExplainedScene manner input.now all answer.lines)) }
     ensures keeps { H.documents shelf.new ≡ H.documents shelf.old }
-    ensures asks { AsksShelf true (IsOk (scene_of_bytes input.now)) shelf.old shelf.new
+    ensures asks { AsksShelf true (IsSceneFor manner input.now) shelf.old shelf.new
         (H.faults shelf.old) (H.faults shelf.new) result }
 {
     let staged = stage(alloc, manner, input, shelf)?;

@@ -19,7 +19,7 @@ use Rattle.tpol_prepare.specs.Begins.{begins_step}
 use Rattle.tpol_prepare.specs.Entities.{IsReadyEntity}
 use Rattle.tpol_prepare.specs.Manner.{way_of}
 use Rattle.tpol_prepare.specs.Prepared.{erased_prepared, prepared_step}
-use Rattle.tpol_prepare.specs.Scenario.{CanHappen, IsScenarioOf, erased_staged, limited_step, scenario_with, staged_by, staged_from, staged_step, staged_with}
+use Rattle.tpol_prepare.specs.Scenario.{CanHappen, IsScenarioOf, IsSceneFor, erased_staged, limited_step, scenario_with, staged_by, staged_from, staged_step, staged_with}
 use Rattle.tpol_prepare.specs.Staged.{IsScriptOf, IsStaged}
 use Rattle.tpol_steps.specs.declared.halt.Halt.{Halt}
 use Rattle.tpol_steps.specs.declared.halt.Halt.TheVariants.{Refused, ReadFailed, ShelfFailed, NoMemory}
@@ -90,6 +90,15 @@ on_shelf manner scene view None store result loads answers = tt
 on_shelf manner scene view (Some documents) store result loads answers = rw loads answers
 
 -- of a scene that begins no more runs than may be driven so
+few_begin : (manner : Manner) (scene : Scene) (way : Way) (script : List ScriptEvent) → way ≡ way_of manner → script ≡ scene.script → begins_step way script ≡ Ok tt
+    → begins_step (way_of manner) scene.script ≡ Ok tt
+few_begin manner scene way script driven same few =
+    subst (λ (w : Way). begins_step w scene.script ≡ Ok tt) driven (subst (λ (s : List ScriptEvent). begins_step way s ≡ Ok tt) same few)
+
+pub scene_for : (manner : Manner) (input : List ℕ) (scene : Scene) (way : Way) (script : List ScriptEvent)
+    → scene_of_bytes input ≡ Ok scene → way ≡ way_of manner → script ≡ scene.script → begins_step way script ≡ Ok tt → IsSceneFor manner input
+scene_for manner input scene way script reads driven same few = rw (reads, few_begin manner scene way script driven same few) refl
+
 pub staged_few : {A : Type 0} (manner : Manner) (input : List ℕ) (scene : Scene) (way : Way) (script : List ScriptEvent) (view : A → StagedScene) (all : Option (List Document)) (result : Result A Halt)
     → scene_of_bytes input ≡ Ok scene → way ≡ way_of manner → script ≡ scene.script → begins_step way script ≡ Ok tt
     → IfSome all (λ documents. Answers view (staged_from manner scene documents) result)
@@ -97,8 +106,7 @@ pub staged_few : {A : Type 0} (manner : Manner) (input : List ℕ) (scene : Scen
 unfolding staged_step
 staged_few manner input scene way script view None result reads driven same few answers = tt
 staged_few manner input scene way script view (Some documents) result reads driven same few answers =
-    let allowed : begins_step (way_of manner) scene.script ≡ Ok tt = subst (λ (w : Way). begins_step w scene.script ≡ Ok tt) driven (subst (λ (s : List ScriptEvent). begins_step way s ≡ Ok tt) same few) in
-    rw (reads, allowed) answers
+    rw (reads, few_begin manner scene way script driven same few) answers
 
 -- ---- all of it
 

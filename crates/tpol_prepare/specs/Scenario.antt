@@ -1,5 +1,5 @@
 -- Scenes that can be carried out: their policies are filled, and the paths of each policy are within the limits.
-use Rattle.std.specs.Prelude.{◌≡◌, ℕ, ◌==◌, ◌≤◌, ⊤, List, [], All, IfSome, find, length, map, reverse, Bool, Option, Some, None, Ok}
+use Rattle.std.specs.Prelude.{◌≡◌, ℕ, ◌==◌, ◌≤◌, ⊤, List, [], All, IfSome, IsOk, find, length, map, reverse, Bool, Option, Some, None, Ok}
 use Rattle.std.specs.Option.{option_map, unwrap_or}
 use Rattle.std.specs.Str.{bytes_eq}
 use Rattle.tpm_nv.specs.Indices.{index_of}
@@ -114,6 +114,10 @@ staged_with manner scene store =
 -- the scene with the policies of the shelf
 abbrev pub staged_from : Manner → Scene → List Document → Step StagedScene
 staged_from manner scene all = store_step all >>= λ store. staged_with manner scene store
+
+-- the bytes are the document of a scene, whose script begins no more runs than may be driven so
+abbrev pub IsSceneFor : Manner → List ℕ → Type 0
+IsSceneFor manner input = IsOk (scene_of_bytes input >>= λ scene. begins_step (way_of manner) scene.script)
 
 -- the scene that the bytes are the document of, with the policies of the shelf
 unfoldable pub staged_step : Manner → List ℕ → List Document → Step StagedScene

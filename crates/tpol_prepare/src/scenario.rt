@@ -1,7 +1,7 @@
 //! Scenes that can be carried out.
 
 ghost use Rattle.std.specs.Option.{option_copied, option_map};
-ghost use Rattle.std.specs.Prelude.{◌≡◌, ◌≤◌, Some, true, All, IfSome, IfOk, IsOk, ⊤, find, length, map, reverse};
+ghost use Rattle.std.specs.Prelude.{◌≡◌, ◌≤◌, Some, true, All, IfSome, IfOk, ⊤, find, length, map, reverse};
 ghost use Rattle.tpol_name.specs.Directories.{directory_of};
 ghost use Rattle.tpol_name.specs.Setups.{IsSetup};
 ghost use Rattle.tpol_scene.specs.Conditions.{HasClients, HasScript};
@@ -11,14 +11,13 @@ ghost use Rattle.tpol_fill.specs.Forms.{IsFilledApproval};
 ghost use Rattle.tpol_prepare.specs.Entities.{IsReadyEntity, erased_entity};
 ghost use Rattle.tpol_prepare.specs.Prepared.{erased_prepared};
 ghost use Rattle.tpol_prepare.specs.declared.manner.Way.TheVariants.{Blind};
-ghost use Rattle.tpol_prepare.specs.Scenario.{CanHappen, HasFewPaths, IsScenarioOf, IsWalkable, begun_limits, entity_document, erased_staged, grants_of, is_client, is_document, is_entity, limited_step, policy_of_entity, scenario_with, staged_from, staged_of, staged_step, staged_with};
+ghost use Rattle.tpol_prepare.specs.Scenario.{CanHappen, HasFewPaths, IsScenarioOf, IsSceneFor, IsWalkable, begun_limits, entity_document, erased_staged, grants_of, is_client, is_document, is_entity, limited_step, policy_of_entity, scenario_with, staged_from, staged_of, staged_step, staged_with};
 ghost use Rattle.tpol_prepare.specs.Staged.{IsStaged};
 ghost use Rattle.tpol_steps.specs.Filled.{IsReadyDocument, erased_filled};
 ghost use Rattle.tpol_steps.specs.declared.filled.FilledDocument.{FilledDocument as OneDocument};
 ghost use Rattle.tpol_digest.specs.Limits.{AreWithinLimits};
 ghost use Rattle.tpol_digest.specs.Paths.{paths_of};
 ghost use Rattle.tpol_steps.specs.Limits.{limits_step};
-ghost use Rattle.tpol_steps.specs.SceneStep.{scene_of_bytes};
 ghost use Rattle.tpol_steps.specs.Steps.{Answers, AsksShelf, IsInside};
 ghost use Rattle.tpol_tree.specs.ClosedErased.{erased_document};
 
@@ -63,9 +62,10 @@ pub struct StagedScene {
 /// manner.
 ///
 /// `Refused` tells the first refusal: of the scene, of a ninth blind run, of the shelf's documents, of a name without a
-/// policy, of a policy that is not filled, or of one that is not within the limits. `ShelfFailed` comes only where the shelf failed, and
-/// `NoMemory` where memory ran out. The shelf is asked only once the scene was read.
-#[tactic(auto, unfolding(crate::specs::Scenario::staged_step))]
+/// policy, of a policy that is not filled, or of one that is not within the limits. `ShelfFailed` comes only where the
+/// shelf failed, and `NoMemory` where memory ran out. The shelf is asked only once the scene was read and has no ninth
+/// blind run.
+#[tactic(auto, using(crate::proofs::StagedScenes::scene_for), unfolding(crate::specs::Scenario::staged_step))]
 pub fn stage<H: Shelf>(
     alloc: Global,
     manner: Manner,
@@ -75,7 +75,7 @@ pub fn stage<H: Shelf>(
     ensures answer { IfSome (H.documents shelf.old)
         (λ all. Answers erased_staged (staged_step manner input.now all) result) }
     ensures keeps { H.documents shelf.new ≡ H.documents shelf.old }
-    ensures asks { AsksShelf true (IsOk (scene_of_bytes input.now)) shelf.old shelf.new
+    ensures asks { AsksShelf true (IsSceneFor manner input.now) shelf.old shelf.new
         (H.faults shelf.old) (H.faults shelf.new) result }
     ensures staged { IfOk result IsStaged }
     ensures setup { IfOk result (λ staged. IsSetup staged.setup) }

@@ -1,8 +1,8 @@
 -- How far a run comes before it asks the shelf.
 use Rattle.std.specs.Prelude.{ℕ, ⊤, List, IsOk}
 use Rattle.tpol_front.specs.Reached as front
+use Rattle.tpol_prepare.specs.Scenario.{IsSceneFor}
 use Rattle.tpol_steps.specs.ReadStep.{read_step}
-use Rattle.tpol_steps.specs.SceneStep.{scene_of_bytes}
 use Rattle.tpol_top.specs.declared.request.Request.{Request}
 use Rattle.tpol_top.specs.declared.request.Request.TheVariants.{Check, Perform, Generate}
 use Rattle.tpol_top.specs.Commands.{policy_commands}
@@ -11,7 +11,7 @@ use Rattle.tpol_top.specs.Words.{request_of}
 -- the bytes are the document that a command reads: a scene, or a policy; a certificate is looked at last
 abbrev pub IsDocumentFor : Request → List ℕ → Type 0
 IsDocumentFor (Check name scene) input = ⊤
-IsDocumentFor (Perform manner) input = IsOk (scene_of_bytes input)
+IsDocumentFor (Perform manner) input = IsSceneFor manner input
 IsDocumentFor (Generate ors order) input = ⊥
 IsDocumentFor request input = IsOk (read_step input)
 

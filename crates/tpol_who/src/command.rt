@@ -1,9 +1,8 @@
 //! The command `who`.
 
-ghost use Rattle.std.specs.Prelude.{◌≡◌, ◌≤◌, true, All, IfOk, IfSome, IsOk, length};
+ghost use Rattle.std.specs.Prelude.{◌≡◌, ◌≤◌, true, All, IfOk, IfSome, length};
 ghost use Rattle.tpol_name.specs.Setups.{IsSetup};
-ghost use Rattle.tpol_prepare.specs.Scenario.{CanHappen, IsScenarioOf};
-ghost use Rattle.tpol_steps.specs.SceneStep.{scene_of_bytes};
+ghost use Rattle.tpol_prepare.specs.Scenario.{CanHappen, IsScenarioOf, IsSceneFor};
 ghost use Rattle.tpol_steps.specs.Steps.{Answers, AsksShelf};
 ghost use Rattle.tpol_who.specs.Who.{who_answer, who_step};
 
@@ -24,8 +23,8 @@ pub fn who<H: Shelf>(alloc: Global, input: &[u8], shelf: &mut H) -> Result<Answe
     ensures answer { IfSome (H.documents shelf.old) (λ all.
         Answers (λ answer. answer) (who_step input.now all) result) }
     ensures keeps { H.documents shelf.new ≡ H.documents shelf.old }
-    ensures asks { AsksShelf true (IsOk (scene_of_bytes input.now)) shelf.old shelf.new
-        (H.faults shelf.old) (H.faults shelf.new) result }
+    ensures asks { AsksShelf true (IsSceneFor (Manner.Run Way.Sighted) input.now) shelf.old
+        shelf.new (H.faults shelf.old) (H.faults shelf.new) result }
 {
     let staged = stage(alloc, Manner::Run(Way::Sighted), input, shelf)?;
     Ok(who_answer(alloc, staged)?)

@@ -1,4 +1,4 @@
-use Rattle.std.proofs.Common.{◌≡◌, ◌∙◌, ◌++◌, ◌∷◌, [], ap, sym, subst}
+use Rattle.std.proofs.Common.{◌∙◌, ◌++◌, ◌∷◌, [], ap, sym, subst}
 use Rattle.tpol_digest.specs.Digest.{policy_digest}
 use Rattle.tpol_name.specs.Setups.{IsSetup}
 use Rattle.tpol_prepare.specs.declared.entities.CompiledEntity.{CompiledEntity}
