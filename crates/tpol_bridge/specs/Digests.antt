@@ -9,7 +9,7 @@ use Rattle.tpol_marks.specs.Marks.{marks_of}
 use Rattle.tpol_digest.specs.Digest.{policy_digest}
 use Rattle.tpol_lines.specs.Lines.{line_of}
 use Rattle.tpol_name.specs.declared.sight.Sight.{Sight}
-use Rattle.tpol_prepare.specs.Prepared.{sight_step}
+use Rattle.tpol_prepare.specs.Shelved.{sight_step}
 use Rattle.tpol_steps.specs.declared.answer.Answer.{Answer}
 use Rattle.tpol_steps.specs.declared.answer.Verdict.TheVariants.{Done}
 use Rattle.tpol_steps.specs.Filled.{filled_step}

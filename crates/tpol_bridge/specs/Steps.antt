@@ -7,22 +7,13 @@ use Rattle.tpol_digest.specs.Paths.{paths_of}
 use Rattle.tpol_lines.specs.Lines.{line_of}
 use Rattle.tpol_lines.specs.PathLine.{path_line}
 use Rattle.tpol_moves.specs.Steps.{step_lines}
-use Rattle.tpol_prepare.specs.Prepared.{opening_step}
-use Rattle.tpol_name.specs.declared.sight.Sight.{Sight}
-use Rattle.tpol_scene.specs.declared.scene.Scene.{Scene}
+use Rattle.tpol_prepare.specs.Shelved.{closed_source}
 use Rattle.tpol_steps.specs.declared.answer.Answer.{Answer}
 use Rattle.tpol_steps.specs.declared.answer.Verdict.TheVariants.{Done, Usage}
 use Rattle.tpol_steps.specs.Answer.{one_line}
-use Rattle.tpol_steps.specs.Filled.{filled_step}
-use Rattle.tpol_steps.specs.Limits.{limit_step}
 use Rattle.tpol_steps.specs.Lines.{digest_line}
-use Rattle.tpol_steps.specs.SceneStep.{named_scene_step}
 use Rattle.tpol_steps.specs.Steps.{Step, ◌>>=◌}
-use Rattle.tpol_steps.specs.StoreStep.{store_step}
-use Rattle.tpol_store.specs.Approvals.{approved_documents}
-use Rattle.tpol_store.specs.Stores.{NamedPolicy}
 use Rattle.tpol_tree.specs.declared.closed.Closed.{Closed}
-use Rattle.tpol_tree.specs.declared.path.ApprovedDoc.{ApprovedDoc}
 use Rattle.tpol_tree.specs.declared.path.Path.{Path}
 use Rattle.tpol_tree.specs.declared.policy.Policy.{Policy}
 
@@ -47,27 +38,10 @@ found_step closed position (Some path) = Ok (path_answer closed position path)
 
 -- ---- the steps to it
 
--- of a policy, where these documents are approved
-unfoldable pub stepped : ℕ → Closed → List ApprovedDoc → Step Answer
-stepped position closed approvals =
-    limit_step None closed approvals >>= λ within. found_step closed position (path_at (paths_of closed approvals) position)
-
--- the same of a policy that is filled with what a machine shows, and whose approvals are those of the store
-unfoldable pub stepped_at : ℕ → List NamedPolicy → Policy → Option Sight → Step Answer
-stepped_at position store policy sight =
-    filled_step None policy sight >>= λ closed. stepped position closed (approved_documents store sight)
-
--- the same with what the machine of a scene shows
-unfoldable pub stepped_in : ℕ → List NamedPolicy → Option Scene → Policy → Step Answer
-stepped_in position store scene policy = opening_step store scene >>= λ sight. stepped_at position store policy sight
-
--- the same over the documents of the shelf
-unfoldable pub stepped_over : ℕ → Policy → List Document → Option Scene → Step Answer
-stepped_over position policy all scene = store_step all >>= λ store. stepped_in position store scene policy
-
--- the same with the scene of the shelf, if one is named
+-- of a policy that is filled with the scene of the shelf, if one is named
 unfoldable pub stepped_with : ℕ → Option (List ℕ) → Policy → List Document → Step Answer
-stepped_with position name policy all = named_scene_step name all >>= stepped_over position policy all
+stepped_with position name policy all =
+    closed_source name policy all >>= λ found. found_step found.closed position (path_at (paths_of found.closed found.approvals) position)
 
 -- the same of the export in the source
 unfoldable pub steps_step : ℕ → Option (List ℕ) → List ℕ → List Document → Step Answer

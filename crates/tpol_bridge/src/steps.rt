@@ -1,15 +1,12 @@
 // The command `steps`.
 
-ghost use Rattle.std.specs.Option.{option_copied};
 ghost use Rattle.std.specs.Prelude.{◌≡◌, true, codes, IfOk, IfSome, IsOk, map, ⊤};
 ghost use Rattle.tpol_bridge.specs.Exports.{export_step};
-ghost use Rattle.tpol_bridge.specs.Steps.{found_step, path_answer, path_at, stepped, stepped_at, stepped_in, stepped_over, stepped_with, steps_step};
+ghost use Rattle.tpol_bridge.specs.Steps.{found_step, path_answer, path_at, stepped_with, steps_step};
 ghost use Rattle.tpol_digest.specs.Limits.{AreWithinLimits};
 ghost use Rattle.tpol_digest.specs.Paths.{paths_of};
 ghost use Rattle.tpol_steps.specs.Answer.{one_line};
 ghost use Rattle.tpol_steps.specs.Steps.{Answers, AsksShelf, IsInside};
-ghost use Rattle.tpol_store.specs.Approvals.{approved_documents};
-ghost use Rattle.tpol_store.specs.Stores.{policies_of};
 ghost use Rattle.tpol_tree.specs.ClosedErased.{erased, erased_document};
 ghost use Rattle.tpol_tree.specs.Erased.{erased_policy};
 
@@ -19,13 +16,8 @@ use tpol_base::{NoMemory, Shelf, Text};
 use tpol_digest::{count_paths, digest_of, path_at};
 use tpol_lines::Lines;
 use tpol_moves::{path_line, push_steps};
-use tpol_name::Sight;
-use tpol_prepare::opening_of;
-use tpol_scene::Scene;
-use tpol_steps::{
-    Answer, Halt, Verdict, check_limits, digest_line, fill_document, load_store, named_scene,
-};
-use tpol_store::Store;
+use tpol_prepare::closed_source;
+use tpol_steps::{Answer, Halt, Verdict, digest_line};
 use tpol_tree::{Approvals, Closed, Path, Policy};
 
 /// The command `steps`: the line of the path at a position of the export in the source, from 1, as `paths` counts them,
@@ -70,106 +62,13 @@ fn tell_policy<H: Shelf>(
     ensures asks { AsksShelf true ⊤ shelf.old shelf.new (H.faults shelf.old)
         (H.faults shelf.new) result }
 {
-    let scene = named_scene(alloc, scene, shelf)?;
-    let answer = tell_over(alloc, position, &scene, policy, shelf);
-    drop(scene);
+    let found = closed_source(alloc, scene, policy, shelf)?;
+    let answer = tell_position(alloc, position, &found.closed, &found.approvals);
+    drop(found);
     answer
 }
 
-// The same with a scene.
-#[tactic(auto, unfolding(crate::specs::Steps::stepped_over))]
-fn tell_over<H: Shelf>(
-    alloc: Global,
-    position: u32,
-    scene: &Option<Scene>,
-    policy: &Policy,
-    shelf: &mut H,
-) -> Result<Answer, Halt>
-    ensures answer { IfSome (H.documents shelf.old) (λ all. Answers (λ answer. answer)
-        (stepped_over position (erased_policy policy.now) all scene.now) result) }
-    ensures keeps { H.documents shelf.new ≡ H.documents shelf.old }
-    ensures asks { AsksShelf true ⊤ shelf.old shelf.new (H.faults shelf.old)
-        (H.faults shelf.new) result }
-{
-    let store = load_store(alloc, shelf)?;
-    let answer = tell_stored(alloc, position, &store, scene, policy);
-    drop(store);
-    answer
-}
-
-// The same over a store and a scene.
-#[tactic(auto, unfolding(crate::specs::Steps::stepped_in))]
-fn tell_stored(
-    alloc: Global,
-    position: u32,
-    store: &Store,
-    scene: &Option<Scene>,
-    policy: &Policy,
-) -> Result<Answer, Halt>
-    ensures answer { Answers (λ answer. answer)
-        (stepped_in position (policies_of store.now) scene.now (erased_policy policy.now)) result }
-    ensures inside { IsInside result }
-{
-    let sight = opening_of(alloc, store, scene)?;
-    let answer = tell_at(alloc, position, store, policy, sight.as_ref());
-    drop(sight);
-    answer
-}
-
-// The same with what a machine shows.
-#[tactic(auto, unfolding(crate::specs::Steps::stepped_at))]
-fn tell_at(
-    alloc: Global,
-    position: u32,
-    store: &Store,
-    policy: &Policy,
-    sight: Option<&Sight>,
-) -> Result<Answer, Halt>
-    ensures answer { Answers (λ answer. answer) (stepped_at position (policies_of store.now)
-        (erased_policy policy.now) (option_copied sight.entry)) result }
-    ensures inside { IsInside result }
-{
-    let closed = fill_document(alloc, None, policy, sight)?;
-    let answer = tell_closed(alloc, position, store, &closed, sight);
-    drop(closed);
-    answer
-}
-
-// The same of a policy that is filled.
-fn tell_closed(
-    alloc: Global,
-    position: u32,
-    store: &Store,
-    closed: &Closed,
-    sight: Option<&Sight>,
-) -> Result<Answer, Halt>
-    ensures answer { Answers (λ answer. answer) (stepped position (erased closed.now)
-        (approved_documents (policies_of store.now) (option_copied sight.entry))) result }
-    ensures inside { IsInside result }
-{
-    let approvals = store.approvals(alloc, sight)?;
-    let answer = tell_filled(alloc, position, closed, &approvals);
-    drop(approvals);
-    answer
-}
-
-// The same with its approvals.
-#[tactic(auto, unfolding(crate::specs::Steps::stepped))]
-fn tell_filled(
-    alloc: Global,
-    position: u32,
-    closed: &Closed,
-    approvals: &Approvals,
-) -> Result<Answer, Halt>
-    ensures answer { Answers (λ answer. answer)
-        (stepped position (erased closed.now) (map erased_document approvals.now)) result }
-    ensures inside { IsInside result }
-{
-    check_limits(alloc, None, closed, approvals)?;
-    tell_position(alloc, position, closed, approvals)
-}
-
-// The same of a policy whose paths are within the limits.
+// What is told of the path at a position.
 #[tactic(auto, using(crate::proofs::Positions::found_step_erased, crate::proofs::Positions::no_path, crate::proofs::Positions::one_path))]
 fn tell_position(
     alloc: Global,

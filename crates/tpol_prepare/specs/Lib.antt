@@ -5,4 +5,5 @@ pub mod Manner
 pub mod Prepared
 pub mod References
 pub mod Scenario
+pub mod Shelved
 pub mod Staged

@@ -1,6 +1,5 @@
 -- Scenes whose policies are filled.
-use Rattle.std.specs.Prelude.{ℕ, List, [], map, Option, Some, None, Ok}
-use Rattle.tpol_base.specs.declared.document.Document.{Document}
+use Rattle.std.specs.Prelude.{List, [], map, Option, Some, None, Ok}
 use Rattle.tpol_name.specs.declared.sight.Sight.{Sight}
 use Rattle.tpol_name.specs.Setups.{first_sight}
 use Rattle.tpol_scene.specs.declared.scene.Scene.{Scene}
@@ -13,9 +12,7 @@ use Rattle.tpol_prepare.specs.FilledDocuments.{documents_from}
 use Rattle.tpol_prepare.specs.References.{entity_references, references_step, script_references}
 use Rattle.tpol_steps.specs.declared.filled.FilledDocument.{FilledDocument}
 use Rattle.tpol_steps.specs.Filled.{erased_filled}
-use Rattle.tpol_steps.specs.SceneStep.{scene_step}
 use Rattle.tpol_steps.specs.Steps.{Step, ◌>>=◌}
-use Rattle.tpol_steps.specs.StoreStep.{store_step}
 
 -- the policies of the entities, and then those that the script begins, each filled with what the machine shows
 -- when it starts
@@ -49,15 +46,6 @@ prepared_step store scene = do
 unfoldable pub opening_step : List NamedPolicy → Option Scene → Step (Option Sight)
 opening_step store None = Ok None
 opening_step store (Some scene) = prepared_step store scene >>= λ prepared. Ok (Some prepared.sight)
-
--- what the machine of a scene of the shelf shows when it starts, if one is named; the policies that the scene
--- names are documents of the shelf
-unfoldable pub sight_step : Option (List ℕ) → List Document → Step (Option Sight)
-sight_step None all = Ok None
-sight_step (Some name) all = do
-  scene ← scene_step name all
-  store ← store_step all
-  opening_step store (Some scene)
 
 -- ---- whichever memory the policies lie in
 

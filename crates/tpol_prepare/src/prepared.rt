@@ -1,19 +1,19 @@
-ghost use Rattle.std.specs.Prelude.{◌≡◌, true, is_some, All, IfSome, IfOk, ⊤};
+ghost use Rattle.std.specs.Prelude.{◌≡◌, All, IfOk};
 ghost use Rattle.tpol_name.specs.Setups.{IsSetup};
 ghost use Rattle.tpol_store.specs.Stores.{IsReadable, policies_of, stored};
 ghost use Rattle.tpol_prepare.specs.Entities.{IsReadyEntity, erased_compiled};
-ghost use Rattle.tpol_prepare.specs.Prepared.{begun_step, erased_prepared, filled_scene_step, opening_step, prepared_step, sight_step};
+ghost use Rattle.tpol_prepare.specs.Prepared.{begun_step, erased_prepared, filled_scene_step, opening_step, prepared_step};
 ghost use Rattle.tpol_steps.specs.Filled.{IsReadyDocument};
-ghost use Rattle.tpol_steps.specs.Steps.{Answers, AsksShelf, IsInside};
+ghost use Rattle.tpol_steps.specs.Steps.{Answers, IsInside};
 
 use crate::documents::fill_references;
 use crate::entities::{CompiledEntity, CompiledSetup, compile_entities};
 use crate::references::{Reference, check_entities, check_references, script_references};
 use std::alloc::Global;
-use tpol_base::{NoMemory, Sequence, Shelf, Text};
+use tpol_base::{NoMemory, Sequence};
 use tpol_name::{Setup, Sight, opening_sight};
 use tpol_scene::Scene;
-use tpol_steps::{CompiledDocument, Halt, load_store, scene_of_shelf};
+use tpol_steps::{CompiledDocument, Halt};
 use tpol_store::Store;
 
 /// A scene whose policies are filled: what its machine starts from, what the machine shows then, the entities
@@ -134,53 +134,6 @@ pub fn opening_of(
             let PreparedScene { setup, sight, .. } = prepared;
             drop(setup);
             Ok(Some(sight))
-        }
-    }
-}
-
-/// What the machine of a scene of the shelf shows when it starts, if one is named; the policies that the scene
-/// names are documents of the shelf.
-///
-/// `Refused` tells the first refusal: of the scene, of the shelf's documents, of a name without a policy, or of a
-/// policy that is not filled. `ShelfFailed` comes only where the shelf failed, and `NoMemory` where memory ran
-/// out. Where no scene is named, the shelf is left alone.
-#[tactic(auto, unfolding(crate::specs::Prepared::sight_step))]
-pub fn sight_of_scene<H: Shelf>(
-    alloc: Global,
-    name: &Option<Text>,
-    shelf: &mut H,
-) -> Result<Option<Sight>, Halt>
-    ensures answer { IfSome (H.documents shelf.old)
-        (λ all. Answers (λ sight. sight) (sight_step name.now all) result) }
-    ensures keeps { H.documents shelf.new ≡ H.documents shelf.old }
-    ensures asks { AsksShelf (is_some name.now) ⊤ shelf.old shelf.new (H.faults shelf.old)
-        (H.faults shelf.new) result }
-{
-    match name {
-        None => Ok(None),
-        Some(name) => sight_of_name(alloc, name, shelf),
-    }
-}
-
-#[tactic(auto, unfolding(crate::specs::Prepared::sight_step))]
-fn sight_of_name<H: Shelf>(alloc: Global, name: &Text, shelf: &mut H) -> Result<Option<Sight>, Halt>
-    ensures answer { IfSome (H.documents shelf.old)
-        (λ all. Answers (λ sight. sight) (sight_step (Some name.now) all) result) }
-    ensures keeps { H.documents shelf.new ≡ H.documents shelf.old }
-    ensures asks { AsksShelf true ⊤ shelf.old shelf.new (H.faults shelf.old)
-        (H.faults shelf.new) result }
-{
-    let scene = scene_of_shelf(alloc, name, shelf)?;
-    match load_store(alloc, shelf) {
-        Ok(store) => {
-            let scene = Some(scene);
-            let sight = opening_of(alloc, &store, &scene);
-            drop(scene);
-            sight
-        }
-        Err(halt) => {
-            drop(scene);
-            Err(halt)
         }
     }
 }

@@ -12,21 +12,14 @@ use Rattle.tpol_digest.specs.Paths.{paths_of}
 use Rattle.tpol_lines.specs.CertLine.{certified_line}
 use Rattle.tpol_lines.specs.Lines.{line_of, spaced}
 use Rattle.tpol_lines.specs.OpeningLine.{steps_of}
-use Rattle.tpol_prepare.specs.Prepared.{opening_step}
+use Rattle.tpol_prepare.specs.declared.shelved.PolicyWithApprovals.{PolicyWithApprovals}
 use Rattle.tpol_prepare.specs.References.{policy_called}
-use Rattle.tpol_name.specs.declared.sight.Sight.{Sight}
-use Rattle.tpol_scene.specs.declared.scene.Scene.{Scene}
-use Rattle.tpol_store.specs.Approvals.{approved_documents}
-use Rattle.tpol_store.specs.Stores.{NamedPolicy}
+use Rattle.tpol_prepare.specs.Shelved.{Shelved, closed_step, shelved_step}
 use Rattle.tpol_steps.specs.declared.answer.Answer.{Answer}
 use Rattle.tpol_steps.specs.declared.answer.Verdict.TheVariants.{Done}
-use Rattle.tpol_steps.specs.Filled.{filled_step}
-use Rattle.tpol_steps.specs.Limits.{limit_step}
 use Rattle.tpol_steps.specs.Lines.{digest_line}
 use Rattle.tpol_steps.specs.Refusals.{bad_certificate, no_such_policy}
-use Rattle.tpol_steps.specs.SceneStep.{named_scene_step}
 use Rattle.tpol_steps.specs.Steps.{Step, ◌>>=◌}
-use Rattle.tpol_steps.specs.StoreStep.{store_step}
 use Rattle.tpol_tree.specs.declared.closed.Closed.{Closed}
 use Rattle.tpol_tree.specs.declared.path.ApprovedDoc.{ApprovedDoc}
 use Rattle.tpol_tree.specs.declared.path.PathStep.{PathStep}
@@ -71,32 +64,19 @@ unfoldable pub certificate_step : Closed → List ApprovedDoc → Option (List �
 certificate_step closed approvals None = Err (bad_certificate (codes "Malformed"))
 certificate_step closed approvals (Some bytes) = certificate_answer closed approvals (judgement_of closed approvals bytes)
 
--- of a policy of this name, where these documents are approved
-unfoldable pub checked_against : List ℕ → Closed → List ApprovedDoc → Option (List ℕ) → Step Answer
-checked_against name closed approvals bytes =
-    limit_step (Some name) closed approvals >>= λ within. certificate_step closed approvals bytes
-
 -- the policy of this name, unless the shelf has none
 abbrev pub named_policy_step : List ℕ → Option Policy → Step Policy
 named_policy_step name None = Err (no_such_policy name)
 named_policy_step name (Some policy) = Ok policy
 
--- of a policy of a store, filled with what a machine shows
-unfoldable pub checked_at : List NamedPolicy → List ℕ → Option (List ℕ) → Policy → Option Sight → Step Answer
-checked_at store name bytes policy sight =
-    filled_step (Some name) policy sight >>= λ closed. checked_against name closed (approved_documents store sight) bytes
+-- the same filled with the scene, with the documents that are approved
+unfoldable pub document_step : Shelved → List ℕ → Step PolicyWithApprovals
+document_step shelved name =
+    named_policy_step name (policy_called name shelved.store) >>= λ policy. closed_step shelved (Some name) policy
 
--- of the policy of this name of a store, filled with what the machine of a scene shows
-unfoldable pub checked_in : List NamedPolicy → Option Scene → List ℕ → Option (List ℕ) → Step Answer
-checked_in store scene name bytes = do
-  policy ← named_policy_step name (policy_called name store)
-  sight ← opening_step store scene
-  checked_at store name bytes policy sight
-
--- the same over the documents of the shelf
-unfoldable pub checked_over : List ℕ → List ℕ → List Document → Option Scene → Step Answer
-checked_over name input all scene = store_step all >>= λ store. checked_in store scene name (bytes_in input)
-
--- the same with the scene of the shelf, if one is named
+-- of the policy of this name, with the scene of the shelf, if one is named
 unfoldable pub check_step : List ℕ → Option (List ℕ) → List ℕ → List Document → Step Answer
-check_step name scene input all = named_scene_step scene all >>= checked_over name input all
+check_step name scene input all = do
+  shelved ← shelved_step scene all
+  found ← document_step shelved name
+  certificate_step found.closed found.approvals (bytes_in input)

@@ -9,7 +9,7 @@ use Rattle.tpol_steps.specs.declared.answer.Answer.{Answer}
 use Rattle.tpol_steps.specs.declared.answer.Verdict.TheVariants.{Done}
 use Rattle.tpol_steps.specs.Filled.{filled_step}
 use Rattle.tpol_steps.specs.Lines.{digest_line, note_line}
-use Rattle.tpol_prepare.specs.Prepared.{sight_step}
+use Rattle.tpol_prepare.specs.Shelved.{sight_step}
 use Rattle.tpol_steps.specs.ReadStep.{read_step}
 use Rattle.tpol_steps.specs.Steps.{Step, ◌>>=◌}
 use Rattle.tpol_tree.specs.declared.closed.Closed.{Closed}

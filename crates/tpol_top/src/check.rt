@@ -1,6 +1,5 @@
 // The command `check`.
 
-ghost use Rattle.std.specs.Option.{option_copied};
 ghost use Rattle.std.specs.Prelude.{◌≡◌, ◌∷◌, ◌-◌, ◌≤◌, [], true, IfSome, IfOk, decimal, length, map, slice_get, ⊤};
 ghost use Rattle.tpol_cert.specs.Judgement.{judgement_of};
 ghost use Rattle.tpol_digest.specs.Limits.{AreWithinLimits};
@@ -8,11 +7,11 @@ ghost use Rattle.tpol_digest.specs.Paths.{paths_of};
 ghost use Rattle.tpol_lines.specs.Lines.{spaced};
 ghost use Rattle.tpol_lines.specs.OpeningLine.{steps_of};
 ghost use Rattle.tpol_prepare.specs.References.{policy_called};
+ghost use Rattle.tpol_prepare.specs.Shelved.{erased_with_approvals, shelved_of};
 ghost use Rattle.tpol_steps.specs.Refusals as refusals;
 ghost use Rattle.tpol_steps.specs.Steps.{Answers, AsksShelf, IsInside};
-ghost use Rattle.tpol_store.specs.Approvals.{approved_documents};
 ghost use Rattle.tpol_store.specs.Stores.{policies_of};
-ghost use Rattle.tpol_top.specs.Check.{accepted, bytes_in, certificate_answer, certificate_step, check_step, checked_against, checked_at, checked_in, checked_over, named_policy_step, without_line_feed};
+ghost use Rattle.tpol_top.specs.Check.{accepted, bytes_in, certificate_answer, certificate_step, check_step, document_step, named_policy_step, without_line_feed};
 ghost use Rattle.tpol_tree.specs.ClosedErased.{erased, erased_document};
 ghost use Rattle.tpol_tree.specs.Erased.{erased_policy};
 
@@ -22,13 +21,8 @@ use tpol_base::{NoMemory, Shelf, Text};
 use tpol_cert::{CertFault, check};
 use tpol_digest::{digest_of, path_at};
 use tpol_lines::{Lines, certified_line};
-use tpol_name::Sight;
-use tpol_prepare::opening_of;
-use tpol_scene::Scene;
-use tpol_steps::{
-    Answer, Halt, Verdict, bad_certificate, check_limits, digest_line, fill_document, load_store,
-    named_scene, no_such_policy,
-};
+use tpol_prepare::{PolicyWithApprovals, StoreWithScene};
+use tpol_steps::{Answer, Halt, Verdict, bad_certificate, digest_line, no_such_policy};
 use tpol_store::Store;
 use tpol_tree::{Approvals, Closed, Policy};
 
@@ -53,91 +47,30 @@ pub fn check_source<H: Shelf>(
     ensures asks { AsksShelf true ⊤ shelf.old shelf.new (H.faults shelf.old)
         (H.faults shelf.new) result }
 {
-    let scene = named_scene(alloc, scene, shelf)?;
-    let answer = check_over(alloc, name, &scene, input, shelf);
-    drop(scene);
+    let shelved = StoreWithScene::load(alloc, scene, shelf)?;
+    let found = closed_document(alloc, &shelved, name);
+    drop(shelved);
+    let found = found?;
+    let answer = check_text(alloc, &found.closed, &found.approvals, input);
+    drop(found);
     answer
 }
 
-// The same with a scene.
-#[tactic(auto, unfolding(crate::specs::Check::checked_over))]
-fn check_over<H: Shelf>(
+// The policy of this name, filled with the scene, with the documents that are approved.
+#[tactic(auto, unfolding(crate::specs::Check::document_step))]
+fn closed_document(
     alloc: Global,
+    shelved: &StoreWithScene,
     name: &Text,
-    scene: &Option<Scene>,
-    input: &[u8],
-    shelf: &mut H,
-) -> Result<Answer, Halt>
-    ensures answer { IfSome (H.documents shelf.old) (λ all.
-        Answers (λ answer. answer) (checked_over name.now input.now all scene.now) result) }
-    ensures keeps { H.documents shelf.new ≡ H.documents shelf.old }
-    ensures asks { AsksShelf true ⊤ shelf.old shelf.new (H.faults shelf.old)
-        (H.faults shelf.new) result }
-{
-    let store = load_store(alloc, shelf)?;
-    let answer = check_stored(alloc, &store, scene, name, input);
-    drop(store);
-    answer
-}
-
-// The same over a store and a scene.
-#[tactic(auto, unfolding(crate::specs::Check::checked_in))]
-fn check_stored(
-    alloc: Global,
-    store: &Store,
-    scene: &Option<Scene>,
-    name: &Text,
-    input: &[u8],
-) -> Result<Answer, Halt>
-    ensures answer { Answers (λ answer. answer)
-        (checked_in (policies_of store.now) scene.now name.now (bytes_in input.now)) result }
+) -> Result<PolicyWithApprovals, Halt>
+    ensures answer { Answers erased_with_approvals
+        (document_step (shelved_of shelved.now) name.now) result }
     ensures inside { IsInside result }
+    ensures within { IfOk result
+        (λ found. AreWithinLimits (paths_of found.closed found.approvals)) }
 {
-    let policy = named_policy(alloc, store, name)?;
-    let sight = opening_of(alloc, store, scene)?;
-    let answer = check_at(alloc, store, name, input, policy, sight.as_ref());
-    drop(sight);
-    answer
-}
-
-// The same of a policy, with what a machine shows.
-#[tactic(auto, unfolding(crate::specs::Check::checked_at))]
-fn check_at(
-    alloc: Global,
-    store: &Store,
-    name: &Text,
-    input: &[u8],
-    policy: &Policy,
-    sight: Option<&Sight>,
-) -> Result<Answer, Halt>
-    ensures answer { Answers (λ answer. answer) (checked_at (policies_of store.now) name.now
-        (bytes_in input.now) (erased_policy policy.now) (option_copied sight.entry)) result }
-    ensures inside { IsInside result }
-{
-    let closed = fill_document(alloc, Some(name), policy, sight)?;
-    let answer = check_closed(alloc, store, name, input, &closed, sight);
-    drop(closed);
-    answer
-}
-
-// The same of a policy that is filled.
-fn check_closed(
-    alloc: Global,
-    store: &Store,
-    name: &Text,
-    input: &[u8],
-    closed: &Closed,
-    sight: Option<&Sight>,
-) -> Result<Answer, Halt>
-    ensures answer { Answers (λ answer. answer) (checked_against name.now (erased closed.now)
-        (approved_documents (policies_of store.now) (option_copied sight.entry))
-        (bytes_in input.now)) result }
-    ensures inside { IsInside result }
-{
-    let approvals = store.approvals(alloc, sight)?;
-    let answer = check_filled(alloc, name, closed, &approvals, input);
-    drop(approvals);
-    answer
+    let policy = named_policy(alloc, &shelved.store, name)?;
+    shelved.closed(alloc, Some(name), policy)
 }
 
 // The policy of this name, or the end of the run where the store has none.
@@ -153,24 +86,7 @@ fn named_policy<'a>(alloc: Global, store: &'a Store, name: &Text) -> Result<&'a 
     }
 }
 
-// The same with its approvals.
-#[tactic(auto, unfolding(crate::specs::Check::checked_against))]
-fn check_filled(
-    alloc: Global,
-    name: &Text,
-    closed: &Closed,
-    approvals: &Approvals,
-    input: &[u8],
-) -> Result<Answer, Halt>
-    ensures answer { Answers (λ answer. answer) (checked_against name.now (erased closed.now)
-        (map erased_document approvals.now) (bytes_in input.now)) result }
-    ensures inside { IsInside result }
-{
-    check_limits(alloc, Some(name), closed, approvals)?;
-    check_text(alloc, closed, approvals, input)
-}
-
-// The same of a policy whose paths are within the limits.
+// What is told of the certificate in a text.
 #[tactic(auto, using(crate::proofs::Checking::certificate_step_erased), unfolding(crate::specs::Check::bytes_in, crate::specs::Check::certificate_step))]
 fn check_text(
     alloc: Global,

@@ -1,16 +1,13 @@
 // The commands `paths` and `lint`.
 
-ghost use Rattle.std.specs.Option.{option_copied};
 ghost use Rattle.std.specs.Prelude.{◌≡◌, ◌∷◌, ◌++◌, [], true, All, IfSome, IfOk, IsOk, OnOk, map, ⊤};
 ghost use Rattle.tpol_digest.specs.Limits.{AreWithinLimits};
 ghost use Rattle.tpol_digest.specs.Paths.{paths_of};
 ghost use Rattle.tpol_lines.specs.LintLine.{dead_lines};
 ghost use Rattle.tpol_lint.specs.Dead.{IsDead};
 ghost use Rattle.tpol_steps.specs.ReadStep.{read_step};
-ghost use Rattle.tpol_steps.specs.Steps.{Answers, AsksShelf, IsInside};
-ghost use Rattle.tpol_store.specs.Approvals.{approved_documents};
-ghost use Rattle.tpol_store.specs.Stores.{policies_of};
-ghost use Rattle.tpol_top.specs.Paths.{dead_answer, listed, listed_at, listed_in, listed_over, listed_with, path_answer, paths_step};
+ghost use Rattle.tpol_steps.specs.Steps.{Answers, AsksShelf};
+ghost use Rattle.tpol_top.specs.Paths.{dead_answer, listed_with, path_answer, paths_step, view_answer};
 ghost use Rattle.tpol_tree.specs.ClosedErased.{erased, erased_document};
 ghost use Rattle.tpol_tree.specs.Erased.{erased_policy};
 
@@ -19,14 +16,8 @@ use tpol_base::{NoMemory, Shelf, Text};
 use tpol_digest::{count_paths, digest_of};
 use tpol_lines::{Lines, dead_line_at, lint_line, write_paths};
 use tpol_lint::{Dead, lint};
-use tpol_name::Sight;
-use tpol_prepare::opening_of;
-use tpol_scene::Scene;
-use tpol_steps::{
-    Answer, Halt, Verdict, check_limits, digest_line, fill_document, load_store, named_scene,
-    read_document,
-};
-use tpol_store::Store;
+use tpol_prepare::closed_source;
+use tpol_steps::{Answer, Halt, Verdict, digest_line, read_document};
 use tpol_tree::{Approvals, Closed, Policy};
 
 /// What is told of a policy's paths.
@@ -79,105 +70,27 @@ fn list_read<H: Shelf>(
     ensures asks { AsksShelf true ⊤ shelf.old shelf.new (H.faults shelf.old)
         (H.faults shelf.new) result }
 {
-    let scene = named_scene(alloc, scene, shelf)?;
-    let answer = list_over(alloc, view, &scene, policy, shelf);
-    drop(scene);
-    answer
+    let found = closed_source(alloc, scene, policy, shelf)?;
+    let answer = view_answer(alloc, view, &found.closed, &found.approvals);
+    drop(found);
+    answer.map_err(Halt::from)
 }
 
-// The same with a scene.
-#[tactic(auto, unfolding(crate::specs::Paths::listed_over))]
-fn list_over<H: Shelf>(
-    alloc: Global,
-    view: PathView,
-    scene: &Option<Scene>,
-    policy: &Policy,
-    shelf: &mut H,
-) -> Result<Answer, Halt>
-    ensures answer { IfSome (H.documents shelf.old) (λ all. Answers (λ answer. answer)
-        (listed_over view (erased_policy policy.now) all scene.now) result) }
-    ensures keeps { H.documents shelf.new ≡ H.documents shelf.old }
-    ensures asks { AsksShelf true ⊤ shelf.old shelf.new (H.faults shelf.old)
-        (H.faults shelf.new) result }
-{
-    let store = load_store(alloc, shelf)?;
-    let answer = list_policy(alloc, view, &store, scene, policy);
-    drop(store);
-    answer
-}
-
-// What is printed of the document, over a store and a scene.
-#[tactic(auto, unfolding(crate::specs::Paths::listed_in))]
-fn list_policy(
-    alloc: Global,
-    view: PathView,
-    store: &Store,
-    scene: &Option<Scene>,
-    policy: &Policy,
-) -> Result<Answer, Halt>
-    ensures answer { Answers (λ answer. answer)
-        (listed_in view (policies_of store.now) scene.now (erased_policy policy.now)) result }
-    ensures inside { IsInside result }
-{
-    let sight = opening_of(alloc, store, scene)?;
-    let answer = list_at(alloc, view, store, policy, sight.as_ref());
-    drop(sight);
-    answer
-}
-
-// The same with what a machine shows.
-#[tactic(auto, unfolding(crate::specs::Paths::listed_at))]
-fn list_at(
-    alloc: Global,
-    view: PathView,
-    store: &Store,
-    policy: &Policy,
-    sight: Option<&Sight>,
-) -> Result<Answer, Halt>
-    ensures answer { Answers (λ answer. answer) (listed_at view (policies_of store.now)
-        (erased_policy policy.now) (option_copied sight.entry)) result }
-    ensures inside { IsInside result }
-{
-    let closed = fill_document(alloc, None, policy, sight)?;
-    let answer = list_filled(alloc, view, store, &closed, sight);
-    drop(closed);
-    answer
-}
-
-// The same of a document that is filled.
-fn list_filled(
-    alloc: Global,
-    view: PathView,
-    store: &Store,
-    closed: &Closed,
-    sight: Option<&Sight>,
-) -> Result<Answer, Halt>
-    ensures answer { Answers (λ answer. answer) (listed view (erased closed.now)
-        (approved_documents (policies_of store.now) (option_copied sight.entry))) result }
-    ensures inside { IsInside result }
-{
-    let approvals = store.approvals(alloc, sight)?;
-    let answer = list(alloc, view, closed, &approvals);
-    drop(approvals);
-    answer
-}
-
-// What is told of the policy's paths, or why they are not listed.
-#[tactic(auto, unfolding(crate::specs::Paths::listed))]
-fn list(
+// What is told of a policy's paths.
+fn view_answer(
     alloc: Global,
     view: PathView,
     closed: &Closed,
     approvals: &Approvals,
-) -> Result<Answer, Halt>
-    ensures answer { Answers (λ answer. answer)
-        (listed view (erased closed.now) (map erased_document approvals.now)) result }
-    ensures inside { IsInside result }
+) -> Result<Answer, NoMemory>
+    requires within { AreWithinLimits (paths_of closed.now approvals.now) }
+    ensures { IfOk result (λ answer. answer
+        ≡ view_answer view (erased closed.now)
+        (paths_of (erased closed.now) (map erased_document approvals.now))) }
 {
-    check_limits(alloc, None, closed, approvals)?;
     match view {
-        PathView::All => Ok(path_answer(alloc, closed, approvals)?),
-        PathView::Dead => Ok(dead_answer(alloc, closed, approvals)?),
+        PathView::All => path_answer(alloc, closed, approvals),
+        PathView::Dead => dead_answer(alloc, closed, approvals),
     }
 }
 
