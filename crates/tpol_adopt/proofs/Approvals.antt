@@ -15,7 +15,7 @@ use Rattle.tpol_members.specs.Members.{first_from, none_of, object_in, read_need
 use Rattle.tpol_members.specs.Values.{digest_in}
 use Rattle.tpol_members.specs.declared.fault.PolicyKind.TheVariants as kinds
 use Rattle.tpol_members.specs.declared.walk.Walk.{Walk}
-use Rattle.tpol_adopt.proofs.Through.{depth-get, through-none, through-some}
+use Rattle.tpol_elements.proofs.Wrappers.{depth-get, through-none, through-some}
 use Rattle.tpol_elements.specs.Publics.{key_type_member, object_public, object_public_in, through}
 use Rattle.tpol_elements.specs.Rows.{without_pem}
 use Rattle.tpol_elements.specs.Wishes.{index_in, key_at, key_in}

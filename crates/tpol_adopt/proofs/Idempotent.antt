@@ -30,7 +30,7 @@ use Rattle.tpol_adopt.proofs.Elements.{element-plain}
 use Rattle.tpol_adopt.proofs.Gets.{same_name}
 use Rattle.tpol_adopt.proofs.Publics.{index_inner_by, key_inner_by, key_rows, key_rule, wrapper}
 use Rattle.tpol_adopt.proofs.Ruled.{get-inner, get-same, other-same}
-use Rattle.tpol_adopt.proofs.Through.{depth-get}
+use Rattle.tpol_elements.proofs.Wrappers.{depth-get}
 use Rattle.tpol_adopt.proofs.Wrappers.{innermost-none, innermost-some}
 
 -- ---- single values

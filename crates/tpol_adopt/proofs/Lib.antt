@@ -15,7 +15,6 @@ pub mod Publics
 pub mod Ruled
 pub mod Singles
 pub mod Sublists
-pub mod Through
 pub mod Walks
 pub mod Wishes
 pub mod Wrappers

@@ -10,7 +10,7 @@ use Rattle.tpol_members.specs.Walks.{Reading}
 use Rattle.tpol_members.specs.declared.walk.Walk.{Walk}
 use Rattle.tpol_members.specs.Values.{u32_in}
 use Rattle.tpol_elements.specs.Publics.{through, then_noted, object_public, index_public, object_public_in, index_public_in, key_type_member, name_hash_member, attributes_member, auth_policy_member, scheme_member, unique_member, nv_index_member, data_size_member}
-use Rattle.tpol_adopt.proofs.Through.{depth-get, through-some, through-none}
+use Rattle.tpol_elements.proofs.Wrappers.{depth-get, through-some, through-none}
 use Rattle.tpol_adopt.specs.Edits.{edited, inner_scheme, scheme_in}
 use Rattle.tpol_adopt.specs.Laws.{IsSublist}
 use Rattle.tpol_adopt.specs.Normal.{normal_as}

@@ -1,2 +1,2 @@
-mod Wrappers
+pub mod Wrappers
 pub mod Limits

@@ -1,6 +1,6 @@
 use Rattle.std.proofs.Common.{codes, sym, arith, ◌∙◌}
 use Rattle.serde_json.specs.View.{view}
-use Rattle.tpol_adopt.proofs.Through.{depth-get}
+use Rattle.tpol_elements.proofs.Wrappers.{depth-get}
 use Rattle.tpol_adopt.proofs.Wrappers.{innermost-some, innermost-none}
 use Rattle.tpol_adopt.proofs.asymmetric.+innermost.Goals as goal
 
