@@ -1,6 +1,7 @@
 -- Driving: the next command of a run, or its end, as a function of its plan and of the replies so far.
-use Rattle.std.specs.Prelude.{ℕ, ◌+◌, Bool, true, false, List, [], ◌∷◌, ◌++◌, Option, Some, None, slice_get, if◌then◌else◌}
+use Rattle.std.specs.Prelude.{ℕ, ◌+◌, Bool, true, false, ◌&&◌, List, [], ◌∷◌, ◌++◌, length, nat_lt, Option, Some, None, slice_get, if◌then◌else◌}
 use Rattle.std.specs.List.{fold}
+use Rattle.std.specs.Option.{option_map_or}
 use Rattle.tpol_base.specs.CommandCode.{number_of_code}
 use Rattle.tpol_driver.specs.declared.answer.Answer.{Answer}
 use Rattle.tpol_driver.specs.declared.answer.Answer.TheVariants.{Done, Denied, Malformed}
@@ -17,6 +18,7 @@ use Rattle.tpol_driver.specs.Answers.{answer_of}
 use Rattle.tpol_driver.specs.Commands.{start_command}
 use Rattle.tpol_driver.specs.GoalUse.{bytes_of_reply, goal_command, is_right_area}
 use Rattle.tpol_driver.specs.Tickets.{command_on_path, earned_in}
+use Rattle.tpol_driver.specs.Underway.{is_done, is_plain}
 use Rattle.tpol_tree.specs.declared.path.Move.{Move}
 use Rattle.tpol_tree.specs.declared.path.Move.TheVariants.{Approve}
 use Rattle.tpol_wire.specs.declared.auth_area.ReplyAuth.{ReplyAuth}
@@ -148,6 +150,13 @@ earned_after plan _ answer = []
 abbrev pub earned_by : Plan → Standing → List ℕ → List HeldTicket
 earned_by plan standing reply =
     earned_after plan standing (answer_of (reply_reading (code_sent (sends plan standing)) reply))
+
+-- whether a reply does no more than accept a plain move with another behind it
+unfoldable pub accepts_plainly : Plan → Standing → List ℕ → Bool
+accepts_plainly plan (Moving session sent ticket done) reply =
+    nat_lt (done + 1) (length plan.path.moves) && option_map_or is_plain (slice_get plan.path.moves done) false
+    && is_done (answer_of (reply_reading (code_sent (sends plan (Moving session sent ticket done))) reply))
+accepts_plainly plan _ reply = false
 
 -- ---- the whole run
 

@@ -2,7 +2,7 @@
 
 ghost use Rattle.std.specs.Prelude.{◌≡◌, ◌<◌, ◌≤◌, ◌+◌, ◌*◌, ◌++◌, [], Some, true, false, length, slice_get, IfOk, IfErr, OnErr};
 ghost use Rattle.tpol_driver.specs.Answers.{HasWholeTicket, answer_of};
-ghost use Rattle.tpol_driver.specs.Driving.{Moving, code_sent, earned_after, earned_by, goes_on, heard, hears, sends};
+ghost use Rattle.tpol_driver.specs.Driving.{Moving, accepts_plainly, code_sent, earned_after, earned_by, goes_on, heard, hears, sends};
 ghost use Rattle.tpol_driver.specs.States.{IsNext, IsSent};
 ghost use Rattle.tpol_driver.specs.Underway.{is_done, is_plain, most_before};
 ghost use Rattle.tpol_driver.specs.declared.next.Next.TheVariants as states;
@@ -101,9 +101,12 @@ impl Asserting {
         }
     }
 
-    /// Goes on with the reply in place, where it does no more than accept a plain move with another behind it: one that
-    /// is not verified first and earns no ticket. Answers whether it did; else nothing changes, and `take` goes on.
+    /// Goes on with the reply in place, exactly where it does no more than accept a plain move with another behind it: one
+    /// that is not verified first and earns no ticket. Answers whether it did; else nothing changes, and `take` goes on.
+    #[tactic(auto, unfolding(crate::specs::Driving::accepts_plainly))]
     pub fn step(&mut self, alloc: Global, reply: &[u8]) -> Result<bool, NoMemory>
+        ensures when { IfOk result (λ stepped. stepped
+            ≡ accepts_plainly self.old.plan self.old.standing reply.now) }
         ensures next { IfOk result (λ stepped. stepped ≡ true
             → IsNext self.old.plan self.old.earned
             (hears self.old.plan self.old.standing reply.now) (states.Asserting self.new)) }
@@ -112,16 +115,15 @@ impl Asserting {
         ensures same { IfOk result (λ stepped. stepped ≡ false → self.new ≡ self.old) }
         ensures err { OnErr result (self.new ≡ self.old) }
     {
-        if self.done + 1 == self.plan.path.moves.len()
-            || !is_plain(move_at(&self.plan, self.done))
-            || !is_done(self.answer(alloc, reply)?)
-        {
-            return Ok(false);
+        let steps = self.done + 1 < self.plan.path.moves.len()
+            && is_plain(move_at(&self.plan, self.done))
+            && is_done(self.answer(alloc, reply)?);
+        if steps {
+            self.sent += 1;
+            self.ticket = None;
+            self.done += 1;
         }
-        self.sent += 1;
-        self.ticket = None;
-        self.done += 1;
-        Ok(true)
+        Ok(steps)
     }
 
     // What these bytes answer.

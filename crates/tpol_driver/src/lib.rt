@@ -2,8 +2,8 @@
 //! of each move, uses the session on its goal, and ends the session where the use did not. A blind run carries out
 //! one path after another, with the same session, until one is served.
 //!
-//! The driver trusts nothing but the replies. Each state is a type that its reply consumes, so no command is
-//! sent twice or out of order. Contracts see a state as its plan and where it stands, and each call as `sends`
+//! The driver trusts nothing but the replies. Each state is a type of its own: its `next` is the command that it waits
+//! with, and its `take` consumes it with the reply, or `step` goes on in place. Contracts see a state as its plan and where it stands, and each call as `sends`
 //! and `hears` of that: `drive` folds them over the replies, and `blind_drive` does those of a blind run.
 #![tactic(auto)]
 
