@@ -1,4 +1,4 @@
-ghost use Rattle.std.specs.Prelude.{◌≡◌, ◌≤◌, ◌⊎◌, Some, false, IsTrue, IfSome, map, take, drop};
+ghost use Rattle.std.specs.Prelude.{◌≡◌, ◌≤◌, ◌⊎◌, [], Some, false, IsTrue, IfSome, map, take, drop};
 ghost use Rattle.std.specs.String.{string_bytes};
 ghost use Rattle.tpol_base.specs.Causes.{Rose, Grows, GrowsInPart};
 ghost use Rattle.tpol_front.specs.Outside.{LosesAtMost};
@@ -45,6 +45,11 @@ pub fn bridge_main<S: Source, K: Sink, H: Shelf>(
         (λ report.
         GrowsInPart (K.contents out.old) (K.contents out.new) (text_of report.answer.lines)
         × (H.documents shelf.new ≡ Some report.documents)) }
+
+    // A report without a line calls no sink.
+    ensures uncalled { OfReport (map string_bytes words.now.items) (S.left source.old)
+        (H.documents shelf.old)
+        (λ report. report.answer.lines ≡ [] → out.new ≡ out.old) }
 
     // Where the source or the shelf failed or memory ran out, the sink was not called, and the shelf is as before.
     ensures silent { IsSilent result → out.new ≡ out.old }

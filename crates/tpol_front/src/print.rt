@@ -1,4 +1,4 @@
-ghost use Rattle.std.specs.Prelude.{◌≡◌, ◌++◌, ◌≤◌, ◌⊎◌, IfSome, MatchResult, OnOk};
+ghost use Rattle.std.specs.Prelude.{◌≡◌, ◌++◌, ◌≤◌, ◌⊎◌, [], IfSome, MatchResult, OnOk};
 ghost use Rattle.tpol_base.specs.Causes.{HasCause, Grows, GrowsInPart, Rose};
 ghost use Rattle.tpol_steps.specs.Answer.{text_of};
 ghost use Rattle.tpol_front.specs.Status.{status_of};
@@ -15,6 +15,7 @@ pub fn print_answer<K: Sink>(out: &mut K, answer: &Answer) -> Status
         → Grows (K.contents out.old) (K.contents out.new) (text_of answer.now.lines) }
     ensures prefix { result ≡ Status.WriteFault
         → GrowsInPart (K.contents out.old) (K.contents out.new) (text_of answer.now.lines) }
+    ensures uncalled { answer.now.lines ≡ [] → out.new ≡ out.old }
     ensures write_fault { result ≡ Status.WriteFault → Rose (K.faults out.old) (K.faults out.new) }
     ensures write_told { (result ≡ Status.WriteFault) ⊎ (K.faults out.new ≡ K.faults out.old) }
     ensures sink_count { K.faults out.old ≤ K.faults out.new }
@@ -33,6 +34,7 @@ fn print_lines<K: Sink>(out: &mut K, lines: &Lines) -> Result<(), Failed>
     ensures written { MatchResult result
         (λ _. Grows (K.contents out.old) (K.contents out.new) (text_of lines.now))
         (λ _. GrowsInPart (K.contents out.old) (K.contents out.new) (text_of lines.now)) }
+    ensures uncalled { lines.now ≡ [] → out.new ≡ out.old }
     ensures cause { HasCause (K.faults out.old) (K.faults out.new) result }
     ensures quiet { OnOk result (K.faults out.new ≡ K.faults out.old) }
 {

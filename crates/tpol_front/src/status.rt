@@ -8,7 +8,7 @@ use tpol_steps::Verdict;
 pub enum Status {
     /// 0: the whole report is written.
     Done,
-    /// 1: the words are no command.
+    /// 1: the words are no command, or ask for a way that is not there.
     Usage,
     /// 2: the source failed; nothing was written.
     ReadFault,
@@ -18,7 +18,7 @@ pub enum Status {
     ShelfFault,
     /// 5: a document is too large, or the shelf has too many.
     TooLarge,
-    /// 6: a policy document was refused.
+    /// 6: a policy document was refused, or a policy that a command names is not there.
     BadPolicy,
     /// 7: a scene was refused.
     BadScene,

@@ -1,11 +1,9 @@
 -- What is told of a certificate, whichever memory the policy lies in, and of a path that is certified.
-use Rattle.std.proofs.Common.{◌≡◌, ◌∙◌, ℕ, ◌-◌, ◌≤◌, List, map, length, ap, refl, sym, inl, inr, arith, Option, Some, None, Result, Ok, Err}
+use Rattle.std.proofs.Common.{◌≡◌, ◌∙◌, ℕ, ◌-◌, ◌≤◌, List, map, length, ap, refl, arith, Option, Some, None, Result, Ok, Err}
 use Rattle.std.proofs.lemmas.Option.{slice_get_within}
 use Rattle.tpol_cert.proofs.ChoicesErased.{judgement_erased}
 use Rattle.tpol_cert.specs.Certificates.{Certifies}
 use Rattle.tpol_cert.specs.declared.fault.CertFault.{CertFault}
-use Rattle.tpol_cert.specs.declared.fault.CertFault.TheVariants as faults
-use Rattle.tpol_cert.specs.Judging.{AnswersUnlessNoMemory}
 use Rattle.tpol_cert.specs.Judgement.{judgement_of}
 use Rattle.tpol_digest.specs.Paths.{paths_of}
 use Rattle.tpol_digest.proofs.Erasures.{paths_ignore_boxes}
@@ -29,8 +27,3 @@ pub is_position : (closed : Closed) (approvals : List ApprovedDoc) (bytes : List
 is_position closed approvals bytes position is =
     let within = slice_get_within (paths_of closed approvals) (position - 1) is.path is.is_there in
     (is.counted, omega (arith, within, is.counted))
-
--- what is answered, where memory did not run out
-pub told_as : (result judgement : Result ℕ CertFault) → (result ≡ Err faults.NoMemory → ⊥) → AnswersUnlessNoMemory result judgement → judgement ≡ result
-told_as result judgement not (inl e) = absurd (not e)
-told_as result judgement not (inr e) = sym e

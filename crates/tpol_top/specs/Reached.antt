@@ -8,7 +8,8 @@ use Rattle.tpol_top.specs.declared.request.Request.TheVariants.{Check, Perform, 
 use Rattle.tpol_top.specs.Commands.{policy_commands}
 use Rattle.tpol_top.specs.Words.{request_of}
 
--- the bytes are the document that a command reads: a scene, or a policy; a certificate is looked at last
+-- the bytes are the document that a command reads: a scene that begins no more runs than may be driven so, or a
+-- policy; a certificate is looked at last
 abbrev pub IsDocumentFor : Request → List ℕ → Type 0
 IsDocumentFor (Check name scene) input = ⊤
 IsDocumentFor (Perform manner) input = IsSceneFor manner input

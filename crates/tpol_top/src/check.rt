@@ -32,7 +32,7 @@ use tpol_tree::{Approvals, Closed, Policy};
 /// `Refused` tells the first refusal: of the scene, of the shelf's documents, of the policy's name, of a policy that
 /// the scene names and that is not there or not filled, of a place of the policy that has no value, of paths that are
 /// not within the limits, or else of the certificate. `ShelfFailed` comes only where the shelf failed, and `NoMemory`
-/// where memory ran out.
+/// where memory ran out. The certificate is looked at last.
 #[tactic(auto, unfolding(crate::specs::Check::check_step))]
 pub fn check_source<H: Shelf>(
     alloc: Global,

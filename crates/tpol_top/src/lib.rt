@@ -3,8 +3,8 @@
 //! `policy_main` is `run_program` of tpol_front for the commands of this program, which read the words, then the
 //! source, make the command's answer (its lines and its verdict), and print it. What a run prints, answers and leaves
 //! on the shelf is `report_of`, a definition over the definitions of the crates below. A command is a file of its own,
-//! but for `run` and `explain`, which tpol_perform carries out, and `gen`, which is tpol_generate's; it goes through
-//! steps, each of which gives a value or ends the run with an answer.
+//! but for `lint`, which stands beside `paths`, `run` and `explain`, which tpol_perform carries out, and `gen`, which is
+//! tpol_generate's; it goes through steps, each of which gives a value or ends the run with an answer.
 #![tactic(auto)]
 
 mod canon;

@@ -1,4 +1,4 @@
-ghost use Rattle.std.specs.Prelude.{◌≡◌, ◌≤◌, ◌⊎◌, Some, false, IsTrue, IfSome, map, take, drop};
+ghost use Rattle.std.specs.Prelude.{◌≡◌, ◌≤◌, ◌⊎◌, [], Some, false, IsTrue, IfSome, map, take, drop};
 ghost use Rattle.std.specs.String.{string_bytes};
 ghost use Rattle.tpol_base.specs.Causes.{Rose, Grows, GrowsInPart};
 ghost use Rattle.tpol_front.specs.Outside.{LosesAtMost};
@@ -46,6 +46,11 @@ pub fn policy_main<S: Source, K: Sink, H: Shelf>(
         GrowsInPart (K.contents out.old) (K.contents out.new) (text_of report.answer.lines)
         × (H.documents shelf.new ≡ Some report.documents)) }
 
+    // A report without a line calls no sink.
+    ensures uncalled { OfReport (map string_bytes words.now.items) (S.left source.old)
+        (H.documents shelf.old)
+        (λ report. report.answer.lines ≡ [] → out.new ≡ out.old) }
+
     // Where the source or the shelf failed or memory ran out, the sink was not called, and the shelf is as before.
     ensures silent { IsSilent result → out.new ≡ out.old }
     ensures unchanged { IsSilent result → H.documents shelf.new ≡ H.documents shelf.old }
@@ -59,7 +64,8 @@ pub fn policy_main<S: Source, K: Sink, H: Shelf>(
 
     // Words that are no command leave the source alone, and so does a command that reads nothing; a command that
     // uses no document of the shelf leaves the shelf alone. The shelf is asked only once what was read is the
-    // document that the command wants.
+    // document that the command wants: a scene, which begins no ninth blind run, or a policy. `check` looks at its
+    // certificate behind the shelf.
     ensures unread { reads_source (map string_bytes words.now.items) ≡ false
         → source.new ≡ source.old }
     ensures untouched { uses_shelf (map string_bytes words.now.items) ≡ false
@@ -114,10 +120,9 @@ pub fn policy_main<S: Source, K: Sink, H: Shelf>(
     // The report of a scene that `run` or `explain` carries out tells it, also where the sink failed and a first part of
     // the report was written. Every command of its journal that asks for a policy session was authorized exactly where
     // the clause above says, and served exactly where it says. A run that is not blind begins on the first path that
-    // nothing blocks, and
-    // where only its own turns follow, one for each command of the path, it is served exactly where it begins on one,
-    // with what its goal gives; else it is printed what blocks each path. Where openings are told, the report explains the
-    // scene, as the clause above says of what was printed.
+    // nothing blocks, and where only its own turns follow, one for each command of the path, it is served exactly where
+    // it begins on one, with what its goal gives; else it is printed what blocks each path. Where openings are told, the
+    // report explains the scene, as the clause above says of what was printed.
     ensures scene_told { IfPerform (request_of (map string_bytes words.now.items)) (λ manner.
         OfHeld (S.left source.old) (H.documents shelf.old) (λ input all.
         IfDone (report_of (map string_bytes words.now.items) input all).answer
