@@ -1,6 +1,6 @@
 //! What a TPM has beside its policy sessions, and all that a command asks of that alone: the entities that
-//! handles stand for and their Names, the hashes of commands and replies, and the commands on entities and
-//! PCRs, a file a command under its standard name.
+//! handles stand for and their Names, the hashes of commands, and the commands on entities and PCRs, a file a
+//! command under its standard name.
 //!
 //! The machine keeps a `World` beside its sessions. It changes by `carry_out` and with its surroundings, by
 //! `advance`, `set_presence` and `reset`, and no change takes memory.

@@ -17,7 +17,7 @@ use Rattle.tpol_tree.specs.declared.path.Move.{Move}
 use Rattle.tpol_tree.specs.declared.path.Move.TheVariants.{Assert, Or, Approve, ApproveNv}
 use Rattle.tpm_rules.specs.PolicyAuthorize.{approval_hash}
 
--- ---- values as text; `-` is empty
+-- ---- values as text; `-` stands for no bytes and for no PCRs
 
 abbrev pub digest_text : Digest32 → List ℕ
 digest_text digest = encode_lower digest.bytes

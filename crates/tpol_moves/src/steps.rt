@@ -16,7 +16,7 @@ use tpol_tree::Move;
 
 /// Adds a line for each policy command of a path, in their order: its number from 1, its kind, its arguments (TPM 2.0
 /// Part 3, the policy commands), and the digest that a policy session has after it, where it was new before the first.
-/// It fails only where memory ran out.
+/// It fails only where memory ran out; then some of the lines may have been added.
 pub fn push_steps(alloc: Global, lines: &mut Lines, moves: &[Move]) -> Result<(), NoMemory>
     ensures added { OnOk result (lines.new ≡ lines.old ++ step_lines [] moves.now) }
 {

@@ -1,4 +1,4 @@
-// Values as text; `-` is empty.
+// Values as text; `-` stands for no bytes and for no PCRs.
 
 ghost use Rattle.std.specs.Prelude.{◌≡◌, IfOk};
 ghost use Rattle.std.specs.String.{string_bytes};

@@ -53,12 +53,13 @@ policy_opened manner approvals event facts None p = p
 policy_opened manner approvals event facts (Some closed) p =
     with_opening_of (certifies manner) closed approvals event (opening_of closed approvals facts) p
 
--- the same of what a policy session opened, where openings are asked for
+-- the same of what a policy session opened
 abbrev pub entity_opened : Scenario → ℕ → Option Opened → PerformanceState → PerformanceState
 entity_opened scenario event None p = p
 entity_opened scenario event (Some opened) p =
     policy_opened scenario.manner scenario.approvals event opened.facts (policy_of_entity scenario.entities opened.entity) p
 
+-- the same where openings are asked for, and else nothing
 abbrev pub opening_told : Bool → Scenario → ℕ → Option Opened → PerformanceState → PerformanceState
 opening_told false scenario event opened p = p
 opening_told true scenario event opened p = entity_opened scenario event opened p

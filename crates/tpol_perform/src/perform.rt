@@ -19,7 +19,8 @@ use tpol_steps::{Answer, Halt, Verdict};
 /// what else the manner says.
 ///
 /// `Refused` tells the first refusal of the scene or of what it names, as `stage` does; `ShelfFailed` comes only where
-/// the shelf failed, and `NoMemory` where memory ran out.
+/// the shelf failed, and `NoMemory` where memory ran out. The shelf is asked only once the scene was read and begins
+/// no ninth blind run.
 #[tactic(auto, using(crate::proofs::PerformanceErased::answer_erased, crate::proofs::ExplainedErased::halted_explained), unfolding(crate::specs::Script::perform_step))]
 pub fn perform_scene<H: Shelf>(
     alloc: Global,

@@ -89,7 +89,7 @@ pub on_shelf : {A : Type 0} (manner : Manner) (scene : Scene) (view : A → Stag
 on_shelf manner scene view None store result loads answers = tt
 on_shelf manner scene view (Some documents) store result loads answers = rw loads answers
 
--- of a scene that begins no more runs than may be driven so
+-- the same of the manner's own way and the scene's own script
 few_begin : (manner : Manner) (scene : Scene) (way : Way) (script : List ScriptEvent) → way ≡ way_of manner → script ≡ scene.script → begins_step way script ≡ Ok tt
     → begins_step (way_of manner) scene.script ≡ Ok tt
 few_begin manner scene way script driven same few =
@@ -99,6 +99,7 @@ pub scene_for : (manner : Manner) (input : List ℕ) (scene : Scene) (way : Way)
     → scene_of_bytes input ≡ Ok scene → way ≡ way_of manner → script ≡ scene.script → begins_step way script ≡ Ok tt → IsSceneFor manner input
 scene_for manner input scene way script reads driven same few = rw (reads, few_begin manner scene way script driven same few) refl
 
+-- a scene that begins no more runs than may be driven so is staged by what comes behind
 pub staged_few : {A : Type 0} (manner : Manner) (input : List ℕ) (scene : Scene) (way : Way) (script : List ScriptEvent) (view : A → StagedScene) (all : Option (List Document)) (result : Result A Halt)
     → scene_of_bytes input ≡ Ok scene → way ≡ way_of manner → script ≡ scene.script → begins_step way script ≡ Ok tt
     → IfSome all (λ documents. Answers view (staged_from manner scene documents) result)

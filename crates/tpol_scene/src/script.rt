@@ -27,9 +27,8 @@ pub enum ScriptEvent {
         locality: u8,
         buffer: Blob,
     },
-    /// A client begins a run with this number (from 1) at this locality (0 to 4): for this goal, on the first
-    /// path that it can go of the policy of this name, without `/policy/` in front. `place` is where the
-    /// policy's name stands.
+    /// A client begins a run with this number (from 1) at this locality (0 to 4): for this goal, by the policy of
+    /// this name, without `/policy/` in front. `place` is where the policy's name stands.
     Begin {
         run: u16,
         client: u32,

@@ -12,12 +12,9 @@ use std::alloc::Global;
 use tpol_base::{Blob, NoMemory, Shelf, Text, most_handed_out};
 use tpol_scene::{Scene, SceneFault, read_scene};
 
-/// Reads the scene of this name on the shelf, or ends the run at its first fault.
-///
-/// `Refused` tells that the shelf has no such scene, that it has more than 1,048,576 bytes or is no JSON text, or
-/// that fault; `ShelfFailed` comes only where the shelf failed, and `NoMemory` where memory ran out.
+// Reads the scene of this name on the shelf, or ends the run at its first fault.
 #[tactic(auto, unfolding(crate::specs::SceneStep::scene_step))]
-pub fn scene_of_shelf<H: Shelf>(alloc: Global, name: &Text, shelf: &mut H) -> Result<Scene, Halt>
+fn scene_of_shelf<H: Shelf>(alloc: Global, name: &Text, shelf: &mut H) -> Result<Scene, Halt>
     ensures answer { IfSome (H.documents shelf.old)
         (λ all. Answers (λ scene. scene) (scene_step name.now all) result) }
     ensures keeps { H.documents shelf.new ≡ H.documents shelf.old }

@@ -185,7 +185,7 @@ static WHOLE_RUNS: [Run<'static>; 5] = [
 ];
 
 #[test]
-fn failures_are_told_and_nothing_is_called_again(rt: HostRuntime) {
+fn failures_are_told(rt: HostRuntime) {
     for run in &RUNS {
         assert!(rt; ends_as_told(rt.alloc(), run), "{}", run.words);
     }

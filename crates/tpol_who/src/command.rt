@@ -17,7 +17,7 @@ use tpol_steps::{Answer, Halt, Verdict};
 /// be gone, and else what stands in its way, with what the machine shows right before the run begins.
 ///
 /// `Refused` tells the first refusal of the scene or of what it names, as of `run`; `ShelfFailed` comes only where the
-/// shelf failed, and `NoMemory` where memory ran out.
+/// shelf failed, and `NoMemory` where memory ran out. The shelf is asked only once the scene was read.
 #[tactic(auto, using(crate::proofs::WhoErased::answer_erased), unfolding(crate::specs::Who::who_step))]
 pub fn who<H: Shelf>(alloc: Global, input: &[u8], shelf: &mut H) -> Result<Answer, Halt>
     ensures answer { IfSome (H.documents shelf.old) (λ all.
