@@ -167,7 +167,8 @@ impl Tables {
     // need no hashing, stand for it.
     fn asked_name_hash(&self, command: &Command, session: &Session) -> Digest32
         ensures alike { every_name_hash session.now.state.facts result
-            ≡ every_name_hash session.now.state.facts (hashes.name_hash self.now.world command.now) }
+            ≡ every_name_hash session.now.state.facts
+            (hashes.name_hash self.now.world command.now) }
     {
         if !session.bindings().sets_name_hash() {
             return Digest32::ZERO;

@@ -123,7 +123,8 @@ impl Sessions {
     pub fn change<F: FnOnce(&mut Session)>(&mut self, handle: u32, change: F)
         requires takes { (session : MutBor SessionView)
             → spec.session_at self.old handle ≡ Some session.now → F.pre change session }
-        requires stays { (before after : SessionView) → spec.session_at self.old handle ≡ Some before
+        requires stays { (before after : SessionView)
+            → spec.session_at self.old handle ≡ Some before
             → FnOnceReturnsAtMut F.FnOnce change before tt after → after.handle ≡ before.handle }
         ensures slots { MatchOption (spec.session_at self.old handle) (self.new ≡ self.old)
             (λ before. (after : SessionView) × FnOnceReturnsAtMut F.FnOnce change before tt after

@@ -264,7 +264,8 @@ fn push_elements(
 ) -> Result<(), NoMemory>
     requires knows { Knows before.now elements.now }
     requires counted { count ≡ length
-        (at.element_list_ways walk.now.approvals.now walk.now.levels elements.now before.now.digest) }
+        (at.element_list_ways walk.now.approvals.now walk.now.levels elements.now
+        before.now.digest) }
     requires few { count ≤ 65536 }
     requires inside { index < count }
     ensures { OnOk result

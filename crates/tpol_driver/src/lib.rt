@@ -3,8 +3,9 @@
 //! one path after another, with the same session, until one is served.
 //!
 //! The driver trusts nothing but the replies. Each state is a type of its own: its `next` is the command that it waits
-//! with, and its `take` consumes it with the reply, or `step` goes on in place. Contracts see a state as its plan and where it stands, and each call as `sends`
-//! and `hears` of that: `drive` folds them over the replies, and `blind_drive` does those of a blind run.
+//! with, and its `take` consumes it with the reply, or `step` goes on in place. Contracts see a state as its plan and
+//! where it stands, and each call as `sends` and `hears` of that: `drive` folds them over the replies, and
+//! `blind_drive` does those of a blind run.
 #![tactic(auto)]
 
 mod answer;

@@ -56,7 +56,8 @@ pub fn optional_entities(
     value: &Value,
     place: &PlaceRef<'_>,
 ) -> Result<Entities, PartFault>
-    ensures { Gives result (optional entities_in no_entities (codes "entities") (view value.now) place.now) }
+    ensures { Gives result
+        (optional entities_in no_entities (codes "entities") (view value.now) place.now) }
 {
     let start = no_entities(alloc);
     optional_list(alloc, &EntityReader, start, value, "entities", place)

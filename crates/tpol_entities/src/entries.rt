@@ -198,7 +198,8 @@ fn index_rest(alloc: Global, item: &Value, place: &PlaceRef<'_>) -> Result<Index
 }
 
 fn needed_attributes(alloc: Global, item: &Value, place: &PlaceRef<'_>) -> Result<u32, PartFault>
-    ensures { Gives result (needed index_attributes_in (codes "attributes") (view item.now) place.now) }
+    ensures { Gives result
+        (needed index_attributes_in (codes "attributes") (view item.now) place.now) }
 {
     let (attributes, place) = needed(alloc, item, "attributes", place)?;
     index_attributes(alloc, attributes, &place)
@@ -223,7 +224,8 @@ fn needed_size(
     item: &Value,
     place: &PlaceRef<'_>,
 ) -> Result<u16, PartFault>
-    ensures { Gives result (needed (index_size_in attributes) (codes "size") (view item.now) place.now) }
+    ensures { Gives result
+        (needed (index_size_in attributes) (codes "size") (view item.now) place.now) }
 {
     let (size, place) = needed(alloc, item, "size", place)?;
     index_size(alloc, attributes, size, &place)
@@ -253,7 +255,8 @@ fn optional_content(
     item: &Value,
     place: &PlaceRef<'_>,
 ) -> Result<Option<Blob>, PartFault>
-    ensures { Gives result (optional (content_in size) None (codes "content") (view item.now) place.now) }
+    ensures { Gives result
+        (optional (content_in size) None (codes "content") (view item.now) place.now) }
 {
     let Some(content) = member(item, "content") else {
         return Ok(None);

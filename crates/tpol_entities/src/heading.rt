@@ -85,7 +85,8 @@ fn needed_path(
     item: &Value,
     place: &PlaceRef<'_>,
 ) -> Result<Text, PartFault>
-    ensures { Gives result (needed (new_path_in entities.now) (codes "path") (view item.now) place.now) }
+    ensures { Gives result
+        (needed (new_path_in entities.now) (codes "path") (view item.now) place.now) }
 {
     let (path, place) = needed(alloc, item, "path", place)?;
     new_path(alloc, entities, path, &place)
@@ -124,7 +125,8 @@ fn needed_handle(
     item: &Value,
     place: &PlaceRef<'_>,
 ) -> Result<u32, PartFault>
-    ensures { Gives result (needed (new_handle_in entities.now kind) (codes "handle") (view item.now) place.now) }
+    ensures { Gives result
+        (needed (new_handle_in entities.now kind) (codes "handle") (view item.now) place.now) }
 {
     let (handle, place) = needed(alloc, item, "handle", place)?;
     new_handle(alloc, entities, kind, handle, &place)
@@ -192,7 +194,8 @@ fn optional_auth_policy(
     item: &Value,
     place: &PlaceRef<'_>,
 ) -> Result<Option<Blob>, PartFault>
-    ensures { Gives result (optional some_policy_in None (codes "authPolicy") (view item.now) place.now) }
+    ensures { Gives result
+        (optional some_policy_in None (codes "authPolicy") (view item.now) place.now) }
 {
     match member(item, "authPolicy") {
         Some(bytes) => Ok(Some(empty_or_32(alloc, bytes, &place.member("authPolicy"))?)),

@@ -81,7 +81,8 @@ fn needed_pcr(
     item: &Value,
     place: &PlaceRef<'_>,
 ) -> Result<u8, PartFault>
-    ensures value { Gives result (needed (new_pcr_in bank.now) (codes "pcr") (view item.now) place.now) }
+    ensures value { Gives result
+        (needed (new_pcr_in bank.now) (codes "pcr") (view item.now) place.now) }
     ensures limit { IfOk result (λ pcr. pcr < 24) }
 {
     let (pcr, place) = needed(alloc, item, "pcr", place)?;

@@ -243,7 +243,8 @@ fn performance_from(
 fn perform_on(alloc: Global, setup: Setup, scenario: &Scenario) -> Result<Performance, NoMemory>
     requires setup { IsSetup setup }
     requires scenario { IsScenarioOf setup scenario.now }
-    ensures told { IfOk result (λ performance. performance ≡ performed_run scenario.now (codes "gen") generated_run (start_of setup)) }
+    ensures told { IfOk result (λ performance. performance ≡ performed_run scenario.now
+        (codes "gen") generated_run (start_of setup)) }
     ensures few { IfOk result (λ performance. length performance.past ≤ 65700) }
 {
     match generated_run(alloc) {

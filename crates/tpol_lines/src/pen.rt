@@ -56,7 +56,8 @@ impl Pen {
 
     // Adds the choice of an approval of a policy that no listed document has.
     pub fn push_outside(&mut self) -> Result<(), NoMemory>
-        ensures choices { OnOk result (self.new.choices.items ≡ self.old.choices.items ++ codes "/@*") }
+        ensures choices { OnOk result
+            (self.new.choices.items ≡ self.old.choices.items ++ codes "/@*") }
         ensures lines { self.new.lines ≡ self.old.lines }
         ensures kinds { self.new.kinds ≡ self.old.kinds }
     {
@@ -126,7 +127,8 @@ fn push_path<'a>(
     choices: &'a [u8],
     kinds: &'a [u8],
 ) -> Result<(), NoMemory>
-    ensures { OnOk result (lines.new ≡ lines.old ++ line_of (codes "path " ++ position.now ++ codes " "
+    ensures { OnOk result
+        (lines.new ≡ lines.old ++ line_of (codes "path " ++ position.now ++ codes " "
         ++ choices.now ++ codes " " ++ kinds.now) ∷ []) }
 {
     lines.push_pieces(&[b"path ", position, b" ", choices, b" ", kinds, b"\n"])

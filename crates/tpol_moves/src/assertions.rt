@@ -83,7 +83,8 @@ fn nv_arguments(
     operation: Compare,
 ) -> Result<String, NoMemory>
     ensures { IfOk result (λ text. string_bytes text
-        ≡ behind_spaces (codes "index" ∷ name_text index.now ∷ comparison_words operand.now offset operation)) }
+        ≡ behind_spaces
+        (codes "index" ∷ name_text index.now ∷ comparison_words operand.now offset operation)) }
 {
     let index = name_text(alloc, index)?;
     let comparison = comparison_arguments(alloc, operand, offset, operation)?;
@@ -112,7 +113,8 @@ fn secret_arguments(
     expiration: i32,
 ) -> Result<String, NoMemory>
     ensures { IfOk result (λ text. string_bytes text ≡ behind_spaces
-        (codes "entity" ∷ name_text entity.now ∷ authorization_words policy_ref.now cp_hash.now expiration)) }
+        (codes "entity" ∷ name_text entity.now ∷ authorization_words policy_ref.now cp_hash.now
+        expiration)) }
 {
     let entity = name_text(alloc, entity)?;
     let authorization = authorization_arguments(alloc, policy_ref, cp_hash, expiration)?;
@@ -127,7 +129,8 @@ fn signed_arguments(
     expiration: i32,
 ) -> Result<String, NoMemory>
     ensures { IfOk result (λ text. string_bytes text ≡ behind_spaces
-        (codes "key" ∷ name_text key.now ∷ authorization_words policy_ref.now cp_hash.now expiration)) }
+        (codes "key" ∷ name_text key.now ∷ authorization_words policy_ref.now cp_hash.now
+        expiration)) }
 {
     let key = name_text(alloc, key)?;
     let authorization = authorization_arguments(alloc, policy_ref, cp_hash, expiration)?;
@@ -183,7 +186,8 @@ fn duplication_arguments(
     parent: &Name,
     include: bool,
 ) -> Result<String, NoMemory>
-    ensures { IfOk result (λ text. string_bytes text ≡ behind_spaces (codes "parent" ∷ name_text parent.now
+    ensures { IfOk result
+        (λ text. string_bytes text ≡ behind_spaces (codes "parent" ∷ name_text parent.now
         ∷ codes "object" ∷ name_text object.now ∷ codes "include" ∷ yes_no_text include ∷ [])) }
 {
     let object = name_text(alloc, object)?;

@@ -183,7 +183,8 @@ pub fn compile_document(
 // The first entity's policy of this name.
 fn document_called<'a>(entities: &'a [CompiledEntity], name: &str) -> Option<&'a CompiledDocument>
     ensures { option_copied result
-        ≡ option_map entity_document (find (λ entity. is_document name.now entity.document) entities.now) }
+        ≡ option_map entity_document
+        (find (λ entity. is_document name.now entity.document) entities.now) }
 {
     let entity = entities
         .iter()

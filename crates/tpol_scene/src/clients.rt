@@ -30,7 +30,8 @@ pub fn optional_clients(
     value: &Value,
     place: &PlaceRef<'_>,
 ) -> Result<Clients, PartFault>
-    ensures { Gives result (optional (clients_in entities.now) [] (codes "clients") (view value.now) place.now) }
+    ensures { Gives result
+        (optional (clients_in entities.now) [] (codes "clients") (view value.now) place.now) }
 {
     let reader = ClientReader { entities };
     optional_list(
@@ -89,7 +90,8 @@ fn needed_new_client(
     item: &Value,
     place: &PlaceRef<'_>,
 ) -> Result<u32, PartFault>
-    ensures { Gives result (needed (new_client_in clients.now) (codes "client") (view item.now) place.now) }
+    ensures { Gives result
+        (needed (new_client_in clients.now) (codes "client") (view item.now) place.now) }
 {
     let client = needed_u32(alloc, item, "client", place)?;
     if has_number(clients, client) {
@@ -107,7 +109,8 @@ pub fn needed_listed_client(
     item: &Value,
     place: &PlaceRef<'_>,
 ) -> Result<u32, PartFault>
-    ensures { Gives result (needed (listed_client_in clients.now) (codes "client") (view item.now) place.now) }
+    ensures { Gives result
+        (needed (listed_client_in clients.now) (codes "client") (view item.now) place.now) }
 {
     let client = needed_u32(alloc, item, "client", place)?;
     if has_number(clients, client) {

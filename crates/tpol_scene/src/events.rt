@@ -227,7 +227,8 @@ fn needed_begun_run(
     item: &Value,
     place: &PlaceRef<'_>,
 ) -> Result<u16, PartFault>
-    ensures { Gives result (needed (begun_run_in runs.now) (codes "run") (view item.now) place.now) }
+    ensures { Gives result
+        (needed (begun_run_in runs.now) (codes "run") (view item.now) place.now) }
 {
     let (run, place) = needed(alloc, item, "run", place)?;
     let run = run_of(alloc, run, &place)?;

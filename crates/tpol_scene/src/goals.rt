@@ -44,7 +44,8 @@ pub fn needed_goal(
     item: &Value,
     place: &PlaceRef<'_>,
 ) -> Result<Goal, PartFault>
-    ensures { Gives result (needed (goal_in entities.now) (codes "goal") (view item.now) place.now) }
+    ensures { Gives result
+        (needed (goal_in entities.now) (codes "goal") (view item.now) place.now) }
 {
     let (goal, place) = needed(alloc, item, "goal", place)?;
     goal_of(alloc, entities, goal, &place)
@@ -196,7 +197,8 @@ fn optional_parent(
     value: &Value,
     place: &PlaceRef<'_>,
 ) -> Result<u32, PartFault>
-    ensures { Gives result (optional (target_in entities.now targets.Object) rh_null (codes "parent") (view value.now) place.now) }
+    ensures { Gives result (optional (target_in entities.now targets.Object) rh_null
+        (codes "parent") (view value.now) place.now) }
 {
     match member(value, "parent") {
         Some(parent) => {

@@ -112,7 +112,8 @@ fn needed_new_target(
     item: &Value,
     place: &PlaceRef<'_>,
 ) -> Result<u32, PartFault>
-    ensures { Gives result (needed (new_target_in entities.now target values.now) (codes "path") (view item.now) place.now) }
+    ensures { Gives result (needed (new_target_in entities.now target values.now) (codes "path")
+        (view item.now) place.now) }
 {
     let handle = needed_target(alloc, entities, target, item, "path", place)?;
     if has_number(values, handle) {

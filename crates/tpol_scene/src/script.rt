@@ -67,7 +67,8 @@ pub fn optional_script(
     value: &Value,
     place: &PlaceRef<'_>,
 ) -> Result<ScriptFront, PartFault>
-    ensures { Gives result (optional (script_in cast.now) no_events (codes "script") (view value.now) place.now) }
+    ensures { Gives result
+        (optional (script_in cast.now) no_events (codes "script") (view value.now) place.now) }
 {
     let reader = EventReader { cast };
     optional_list(alloc, &reader, no_events(alloc), value, "script", place)

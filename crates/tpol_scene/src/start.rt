@@ -151,7 +151,8 @@ fn authorities_of(
 
 // The seed, without it 32 zero bytes.
 fn optional_seed(alloc: Global, value: &Value, place: &PlaceRef<'_>) -> Result<Digest32, PartFault>
-    ensures { Gives result (optional digest_in zero_digest (codes "seed") (view value.now) place.now) }
+    ensures { Gives result
+        (optional digest_in zero_digest (codes "seed") (view value.now) place.now) }
 {
     match member(value, "seed") {
         Some(seed) => digest(alloc, seed, &place.member("seed")).map_err(PartFault::from),

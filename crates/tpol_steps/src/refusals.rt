@@ -108,7 +108,8 @@ fn at_place(alloc: Global, what: &str, kind: &str, place: &Place) -> Result<Text
 }
 
 fn push_words(line: &mut Text, what: &str, kind: &str) -> Result<(), NoMemory>
-    ensures { OnOk result (line.new ≡ line.old ++ (what.now ++ (codes " " ++ (kind.now ++ codes " at ")))) }
+    ensures { OnOk result
+        (line.new ≡ line.old ++ (what.now ++ (codes " " ++ (kind.now ++ codes " at ")))) }
 {
     line.push_str(what)?;
     line.push_str(" ")?;

@@ -95,7 +95,8 @@ impl Texts {
     pub fn keep(&mut self, text: &[u8]) -> Result<usize, NoMemory>
         ensures kept { IfOk result (λ index. slice_get self.new index ≡ Some text.now) }
         ensures last { IfOk result (λ index. index + 1 ≡ length self.new) }
-        ensures texts { OnOk result ((self.new ≡ self.old) ⊎ (self.new ≡ self.old ++ text.now ∷ [])) }
+        ensures texts { OnOk result
+            ((self.new ≡ self.old) ⊎ (self.new ≡ self.old ++ text.now ∷ [])) }
         ensures same { slice_get self.old (length self.old - 1) ≡ Some text.now
             → self.new ≡ self.old }
         ensures err { OnErr result (self.new ≡ self.old) }
