@@ -68,7 +68,7 @@ build() {
     exec {clock}<> <(:)
     mapfile -t crates < <(crates_of_program)
     touch "$room/began"
-    say "proving ${#crates[@]} crates, lowest first; where nothing is proved yet it takes half an hour to an hour"
+    say "proving ${#crates[@]} crates, lowest first; where nothing is proved yet it takes an hour or two"
     for crate in "${crates[@]}"; do
         at=$((at + 1))
         if [ "$crate" = "$name" ]; then

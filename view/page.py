@@ -14,7 +14,7 @@ from words import plural
 STYLE = pathlib.Path(__file__).resolve().parent / "style.css"
 
 PROVED = """<section class="proved"><h2>What is proved here, and what is layout</h2>
-<p><b>Proved</b> are the lines that <code>fapipol</code> printed: each event’s answer, each way and digest, what blocks a
+<p><b>Proved</b> are the lines that <code>fapipol</code>, once it is built, printed: each event’s answer, each way and digest, what blocks a
 way, and by which written way an entity was opened. Each statement on this page carries the line that it says: rest the
 pointer on it, or read its <code>data-line</code> (<code>data-way</code> for <code>paths</code>, <code>data-lint</code>
 for <code>lint</code>). Their contracts are about the machine that the scene describes; whether your machine is that one,
