@@ -1,4 +1,4 @@
--- What the machine answers to a command, over its tables (TPM 2.0 Part 1, "Command Processing"): the code of
+-- What the machine answers to a command, over its tables (TPM 2.0 Part 3, "Command Processing"): the code of
 -- the first rule that is broken, or the fields of the reply.
 use Rattle.std.specs.Prelude.{ℕ, List, Option, Some, None, Result, Ok, Err, is_some, option_map, if◌then◌else◌}
 use Rattle.tpol_wire.specs.declared.command.Command.{Command}

@@ -200,7 +200,7 @@ fn pcrs(rt: HostRuntime) -> Result<(), Fail> {
     Ok(())
 }
 
-// An index without content, and one with.
+// An index that was never written, and one that was.
 fn indices_answer(alloc: Global, session: &mut Session) -> bool {
     index_answers(alloc, session, 0x0002_0002, 0x14a)
         && index_answers(alloc, session, 0x2002_0002, 0)

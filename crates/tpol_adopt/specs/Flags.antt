@@ -51,7 +51,7 @@ bits_of_flag flag (Some n) = if n == 0 then Some 0 else if n == 1 then Some flag
 abbrev pub bits_of_row : List (List ℕ × ℕ) → List ℕ → Data → Option ℕ
 bits_of_row flags name d = option_and_then (λ flag. bits_of_flag flag (count_in d)) (meaning_of_word flags name)
 
--- the extended localities, 0 to 7, in bits 5 to 7
+-- what `Extended` says, 0 to 7, in bits 5 to 7 (TPM 2.0 Part 2, TPMA_LOCALITY)
 abbrev pub bits_of_extended : Option ℕ → Option ℕ
 bits_of_extended None = None
 bits_of_extended (Some n) = if nat_le n 7 then Some (n * 2 ^ 5) else None
@@ -65,7 +65,7 @@ bits_of_member OfObject name d = bits_of_row object_flags name d
 bits_of_member OfLocality name d =
     if bytes_eq name (codes "Extended") then bits_of_extended (count_in d) else bits_of_row locality_flags name d
 
--- these bits with those that the members set, if each member sets any
+-- these bits with those that the members set; none where a member is unknown, or its value is none that it may have
 unfoldable pub bits_from : Flags → ℕ → Members → Option ℕ
 bits_from flags bits no_members = Some bits
 bits_from flags bits (member name d ms) =

@@ -39,7 +39,7 @@ IsIdempotent = (d : Data) → normal (normal d) ≡ normal d
 abbrev pub has_row : List ℕ → Rows → Bool
 has_row name rows = list_any (λ row. bytes_eq name row.0) rows
 
--- A member that no row names is the same afterwards; only `scheme` may be a new one.
+-- A member that no row names is the same afterwards, `scheme` aside, which alone may be a new one.
 abbrev pub LeavesOthers : Type 0
 LeavesOthers =
     (part : Part) (d : Data) (name : List ℕ) → has_row name (rows_of part d) ≡ false → name ≢ codes "scheme"
@@ -106,7 +106,7 @@ ObjectNumbers =
     (n : ℕ) → SameElsewhere object_bits n 0
     → edited (Number OfObject) (object (spelled object_bits n no_members)) ≡ number (unsigned n)
 
--- the same of localities, of which 5 to 7 are `Extended`
+-- the same of localities, where `Extended` has the bits 5 to 7
 abbrev pub LocalityNumbers : Type 0
 LocalityNumbers =
     (n extended : ℕ) → extended ≤ 7 → SameElsewhere locality_bits n (extended * 2 ^ 5)

@@ -54,7 +54,7 @@ has_bytes (Some text) = not (bytes_eq (unwrap_or (after_0x text) text) [])
 abbrev pub has_object : List ℕ → Data → Bool
 has_object name d = is_some (option_and_then as_object (get name d))
 
--- what SECRET and SIGNED have of the run, which FAPI writes even where it is empty
+-- the two members of SECRET and SIGNED that FAPI writes even where they are empty, and then these rows
 abbrev pub run_rows : Data → Rows → Rows
 run_rows d rows =
     (codes "cpHashA", left_out_where (is_empty (codes "cpHashA") d))

@@ -121,7 +121,7 @@ fn bits_of_row(flags: &[(&str, u32)], name: &str, value: &Value) -> Option<u32>
     bits_of_flag(meaning_of_word(flags, name)?, count_of(value))
 }
 
-// The extended localities, 0 to 7, in bits 5 to 7.
+// What `Extended` says, 0 to 7, in bits 5 to 7 (TPM 2.0 Part 2, TPMA_LOCALITY).
 fn bits_of_extended(count: Option<u64>) -> Option<u32>
     ensures { result ≡ bits_of_extended count }
 {
@@ -152,7 +152,8 @@ fn bits_of_member(flags: Flags, name: &str, value: &Value) -> Option<u32>
     }
 }
 
-/// The bits that the members of an object set together, if each member sets any.
+/// The bits that the members of an object set together; None where one of them is unknown, or its value is none that
+/// it may have.
 #[tactic(auto, unfolding(crate::specs::Flags::bits_from))]
 pub fn bits_of(flags: Flags, members: &Map<String, Value>) -> Option<u32>
     ensures { result ≡ bits_from flags 0 (members_view members.now.entries) }

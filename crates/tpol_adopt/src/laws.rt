@@ -12,7 +12,7 @@ pub fn spelling_lasts()
     ensures { IsIdempotent }
 {}
 
-/// A member that no row of its part names is the same afterwards. Only a key's `scheme` may be a new member.
+/// A member that no row of its part names is the same afterwards, `scheme` aside, which alone may be a new member.
 pub fn others_stay()
     ensures { LeavesOthers }
 {}

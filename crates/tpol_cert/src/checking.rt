@@ -24,12 +24,13 @@ use tpol_digest::{MAX_LEVELS, count_ways, digest_after_move, path_at, zero_diges
 use tpol_tree::{Approvals, Closed, Move};
 
 /// The position, from 1, of the path that these bytes certify. It follows the choices, counts the ways that they pass
-/// over, and lists none. The path gives the policy's digest, which is its certificate's last.
+/// over, and lists none. The path gives the policy's digest, which is its certificate's last where it has a move.
 ///
-/// `Malformed` comes exactly where the bytes are no certificate. `NoStep` comes where the choices are those of no
-/// path, and has the number, from 1, of the first that names none where the earlier ones lead, that is one too
-/// many, or that is missing. `Differs` comes where they are a path's, and has the number of the first digest that
-/// is not the one after that move, that is one too many, or that is missing.
+/// `NoMemory` comes where memory ran out, in place of any other answer; what follows is of the others. `Malformed`
+/// comes exactly where the bytes are no certificate. `NoStep` comes where the choices are those of no path, and has the
+/// number, from 1, of the first that names none where the earlier ones lead, that is one too many, or that is missing.
+/// `Differs` comes where the choices are a path's, and has the number, from 1, of the first digest that is not the one
+/// after its move, that is one too many, or that is missing.
 pub fn check(
     alloc: Global,
     policy: &Closed,

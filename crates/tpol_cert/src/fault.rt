@@ -5,7 +5,8 @@ ghost use Rattle.tpol_cert.specs.declared.fault.CertFault.TheVariants as faults;
 
 use tpol_base::NoMemory;
 
-/// Why bytes do not certify a path of a policy. Where there are several causes, the first in this order is told.
+/// Why bytes do not certify a path of a policy, or that memory ran out, which may be told in place of any cause. Where
+/// there are several causes, the first in this order is told.
 #[derive(Clone, Copy, Debug, PartialEq, Eq)]
 pub enum CertFault {
     /// The bytes are no certificate.

@@ -18,7 +18,8 @@ pub enum Why {
     Outside,
     /// No session is free.
     NoSession,
-    /// A Name that the move needs belongs to no entity.
+    /// A Name that the move needs belongs to no entity of the kind that its command takes; at 0: the goal's handle
+    /// belongs to none.
     NoEntity,
     /// The key that the move signs with is not granted.
     NoKey,
@@ -26,6 +27,7 @@ pub enum Why {
     Answer(Rc),
     /// The first deferred check that the goal's command breaks.
     Deferred(Check),
-    /// The response code of the first rule of its own that the goal's command breaks.
+    /// A response code for the goal's command: that no policy session may authorize it, or else that of the first rule
+    /// of its own that it breaks.
     GoalRule(Rc),
 }

@@ -21,8 +21,8 @@ use tpm_rules::{Standing, Use, check_use};
 use tpol_base::response_code::AUTH_UNAVAILABLE;
 use tpol_base::{Check, CommandCode, Digest32, Rc};
 
-// A goal whose entity is not there, a policy session that may not authorize it, by the first deferred check that it
-// breaks, or the first rule of its own.
+// That the goal's entity is not there, that no policy session may authorize the goal, the first deferred check that
+// this session breaks on it, or the first rule of the goal's own.
 pub fn check_goal(client: &Client<'_>, session: &Standing) -> Result<(), Why>
     requires sight { IsSight client.now.sight.now }
     ensures { (state : SessionState) → session.now ≡ standing_of state

@@ -38,7 +38,7 @@ struct Walk<'a> {
 /// of its choices is such a way.
 ///
 /// The way gives the policy's digest. Where the policy with its approvals is well formed, each OR and each
-/// approval on it meets the digest before it. An outside path begins with its approval of the zero digest.
+/// approval on it meets the digest before it, and an outside path begins with its approval of the zero digest.
 pub fn path_at(
     alloc: Global,
     policy: &Closed,

@@ -2,7 +2,7 @@ ghost use Rattle.std.specs.Prelude.{◌≡◌, ◌+◌, ◌*◌, min, max};
 ghost use Rattle.tpol_digest.specs.Extent.{where_paths};
 
 /// How many paths there are, and how many moves the longest has, each counted no further than one past
-/// its limit. No path has no moves.
+/// its limit. Where there is no path, there are 0 moves; where there are too many, the moves may be of some only.
 #[derive(Clone, Copy)]
 pub struct Extent {
     pub paths: u64,

@@ -19,13 +19,14 @@ pub fn all_paths_meet()
     ensures sound { PathsAreSound }
 {}
 
-/// Each PCR assertion on a path of a well formed policy has the hash of its values joined.
+/// Where a policy with its approved documents is well formed, each PCR assertion on its paths has the hash of its
+/// values joined.
 pub fn paths_have_pcr_digests()
     ensures { PathsHavePcrDigests }
 {}
 
-/// Where the fields of a policy and of its approved documents are within the bounds of the wire, those of
-/// each policy command on its paths are.
+/// Where each OR of a policy and of its approved documents has 2 to 8 branches, and their fields are within the bounds
+/// of the wire, each policy command on the policy's paths is within these bounds, and each PolicyOR has 2 to 8 digests.
 pub fn paths_have_bounds()
     ensures { PathsHaveBounds }
 {}

@@ -3,7 +3,8 @@
 //!
 //! The layers above cite the definitions of `specs/`: `Update`, what a move hashes, as data, from which the
 //! digest, the strings and a `Term`, what is hashed as a tree, follow; `policy_digest` and `digest_of_moves`;
-//! `paths_of`; `IsSound` and `IsWellFormed`. The theorem that all branches meet stands on `path_at`.
+//! `paths_of`; `IsSound` and `IsWellFormed`. That all branches meet is the law `all_paths_meet`, of every path of a
+//! policy; `path_at` says it of the one that it makes.
 #![tactic(auto)]
 
 mod approval;

@@ -16,8 +16,9 @@ use tpol_tree::{Assertion, Move};
 const DIGEST_SIZE: usize = 32;
 
 /// What a policy command hashes (TPM 2.0 Part 3, the policy commands). The new digest is
-/// H(H(start || code || H(inner) || rest) || policy_ref), where the parts that are None are left out, and the
-/// start is 32 zero bytes where `fresh` holds and else the digest before.
+/// H(H(start || code || H(inner) || rest) || policy_ref), where a part that is None is left out with the hash that it
+/// stands in: without an inner string H(inner), without a policy_ref the outer hash. The start is 32 zero bytes where
+/// `fresh` holds and else the digest before; `rest` is the end of the first string.
 #[derive(Drop)]
 pub struct UpdateBytes {
     /// Whether the start is 32 zero bytes.

@@ -1,5 +1,5 @@
--- Blind driving: the complete paths are tried in order, each as driving says of its path alone. Only the numbers of
--- the commands go on from try to try.
+-- Blind driving: the complete paths are tried in order, each as driving says of its path alone, but all in one session
+-- (PolicyRestart stands between two), and with numbers of commands that go on from try to try.
 use Rattle.std.specs.Prelude.{ℕ, ◌+◌, ◌*◌, Bool, false, List, [], drop, filter, length, position, replicate, slice_get, slice_set, Option, Some, None, option_map, unwrap_or}
 use Rattle.std.specs.List.{fold, sum_by}
 use Rattle.tpol_base.specs.CommandCode.{number_of_code}

@@ -30,7 +30,7 @@ abbrev pub most_before : Heard → ℕ
 most_before (Verified ticket) = 1
 most_before heard = 2
 
--- a move that is neither verified first nor answered with a ticket
+-- a move of a kind that is never verified first nor answered with a ticket
 abbrev pub is_plain : Move → Bool
 is_plain (Assert (Secret entity policy_ref cp_hash expiration)) = false
 is_plain (Assert (Signed key policy_ref cp_hash expiration)) = false

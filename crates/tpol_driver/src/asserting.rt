@@ -101,8 +101,9 @@ impl Asserting {
         }
     }
 
-    /// Goes on with the reply in place, exactly where it does no more than accept a plain move with another behind it: one
-    /// that is not verified first and earns no ticket. Answers whether it did; else nothing changes, and `take` goes on.
+    /// Goes on with the reply in place, exactly where it accepts a move that is no PolicySecret, no PolicySigned and no
+    /// approval by a key, and another move is behind it. Answers whether it did; where not, and after `NoMemory`, nothing
+    /// has changed, and `take` goes on.
     #[tactic(auto, unfolding(crate::specs::Driving::accepts_plainly))]
     pub fn step(&mut self, alloc: Global, reply: &[u8]) -> Result<bool, NoMemory>
         ensures when { IfOk result (λ stepped. stepped

@@ -46,7 +46,8 @@ impl BlindClosing {
         sent_bytes(alloc, command)
     }
 
-    /// Ends the run with the end that is known, whatever is answered.
+    /// Ends the run with the end that is known, whatever is answered. With `NoMemory` the state comes back unchanged;
+    /// but no memory is taken here.
     pub fn take(self, _alloc: Global, reply: &[u8]) -> Result<BlindNext, (BlindClosing, NoMemory)>
         ensures next { IfOk result
             (IsBlindNext self.plan (blind_hears self.plan self.standing reply.now)) }

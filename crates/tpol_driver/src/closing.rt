@@ -61,7 +61,8 @@ impl Closing {
         sent_bytes(alloc, command)
     }
 
-    /// Ends the run with the end that is known, whatever is answered.
+    /// Ends the run with the end that is known, whatever is answered. With `NoMemory` the state comes back unchanged;
+    /// but no memory is taken here.
     pub fn take(self, _alloc: Global, reply: &[u8]) -> Result<Next, (Closing, NoMemory)>
         ensures next { IfOk result
             (IsNext self.plan (self.earned ++ earned_by self.plan self.standing reply.now)

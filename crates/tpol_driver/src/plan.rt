@@ -26,9 +26,9 @@ pub struct Plan {
 }
 
 impl Plan {
-    /// Whether a run can make each command of its path: no step is an approval by a policy that is not listed,
-    /// each Name stands for an entity of the kind that its command takes, and each key that signs is granted. It looks
-    /// at no ticket, so it is `false` too where one stands for a signature whose key is not granted.
+    /// Whether a run can make each command of its path: the path is not outside, each Name stands for an entity of the
+    /// kind that its command takes, and each key that signs is granted. It looks at no ticket, so it is `false` too
+    /// where one stands for a signature whose key is not granted.
     pub fn complete(&self) -> bool
         ensures complete { result ≡ is_complete self.now }
     {

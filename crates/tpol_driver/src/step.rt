@@ -27,7 +27,7 @@ pub(crate) enum Heard {
     Verified(Ticket),
     /// The move is done.
     Accepted,
-    /// The run ends so, once its session is ended.
+    /// A run on one path ends so once its session is ended; the try of a blind run ends so.
     Failed(End),
 }
 

@@ -82,7 +82,7 @@ abbrev pub index_entries : Option Data → List Entry
 index_entries None = []
 index_entries (Some d) = (codes "nvIndex", d) ∷ []
 
--- FAPI wants the index's handle beside its public area
+-- in a POLICYNV, FAPI wants the index's handle beside its public area
 unfoldable pub more_entries : Part → Data → List Entry
 more_entries Element d =
     if says (codes "type") (codes "POLICYNV") d

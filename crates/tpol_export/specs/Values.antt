@@ -84,9 +84,9 @@ abbrev pub handle_or : Option ℕ → Data → Data
 handle_or None d = d
 handle_or (Some handle) d = string (encode_lower (to_be_bytes w32 handle))
 
--- A value in FAPI's spelling: a number as the object of its flags, where such an object says all of it; a truth value as
--- a word; a scheme within `parameters`; a digest as an HMAC's signature; the path of a hierarchy as its handle. What is
--- none of these stays.
+-- A value in FAPI's spelling: a number as the object of its flags, where such an object says all of it; a truth value
+-- as a word; the path of a hierarchy as its handle; another value stays. A scheme goes within `parameters`,
+-- and a digest becomes an HMAC's signature, whatever the value is.
 unfoldable pub edited : Edit → Data → Data
 edited (Number flags) d = flagged_number flags (count_in d) d
 edited Truth d = truth_text d

@@ -177,7 +177,7 @@ pub fn wrapper_of(part: Part) -> &'static str
     }
 }
 
-/// Sets what FAPI wants besides: an index's handle beside its public area.
+/// Sets what FAPI wants besides: in a POLICYNV, the index's handle beside its public area.
 #[tactic(auto, unfolding(crate::specs::Rules::more_entries))]
 pub fn put_more(
     alloc: Global,

@@ -31,7 +31,8 @@ pub enum Edit {
     Hierarchy,
 }
 
-/// A value in FAPI's spelling; one that the edit does not speak of stays.
+/// A value in FAPI's spelling. A number that no object of flags says, what is no truth value, and what is no path of a
+/// hierarchy stay; `Scheme` and `Signature` change any value.
 #[tactic(auto, unfolding(crate::specs::Values::edited))]
 pub fn edited(alloc: Global, edit: Edit, value: &Value) -> Result<Value, NoMemory>
     ensures { IfOk result (λ v. view v ≡ edited edit (view value.now)) }

@@ -4,10 +4,10 @@ ghost use Rattle.tpol_fields.specs.declared.fault.WireFault.TheVariants.{NoMemor
 use std::alloc::{AllocError, AllocFailed};
 use tpol_base::{NoMemory, Rc};
 
-/// Why bytes were not read as a command.
+/// Why bytes were not read as a command, or as a field of a command or of a reply.
 #[derive(Clone, Copy, Debug, PartialEq, Eq)]
 pub enum WireFault {
-    /// The TPM's answer to these bytes: the code of the first rule that they break.
+    /// The code of the first rule that the bytes break; to those of a command it is the TPM's answer.
     Refused(Rc),
     /// Memory ran out.
     NoMemory,

@@ -3,9 +3,10 @@
 //!
 //! `n` is the position: the number of the handle for `handle`, and of the parameter for all others, from 1. The parts
 //! of a field are read in order, and the first that is wrong gives the code: TPM_RC_INSUFFICIENT where the bytes end
-//! too early; TPM_RC_SIZE for a length or a count that the field may not have, and for the bytes of no Name;
-//! TPM_RC_HASH for an algorithm that is not taken for a hash; TPM_RC_VALUE for any other number out of its range, and
-//! for a ticket that does not go with its deadline. Bytes behind a field are left to the next one. A reader that
+//! too early; TPM_RC_SIZE for the length of a 2B or the count of a list that the field may not have, and for the bytes
+//! of no Name; TPM_RC_HASH for an algorithm that is not taken for a hash; TPM_RC_VALUE for any other number out of its
+//! range, as `size` and the size of a selection's mask, and for a ticket that does not go with its deadline. Numbers
+//! are big-endian. Bytes behind a field are left to the next one. A reader that
 //! copies answers `NoMemory` too, where memory ran out; one that answers `Rc` copies nothing.
 #![tactic(auto, unfolding(crate::specs::Kinds::read, crate::specs::Kinds::sized_at, crate::specs::Kinds::listed_digest, crate::specs::Kinds::ticket_at, crate::specs::Kinds::timeout_at))]
 

@@ -50,7 +50,7 @@ IsSilent ShelfFault = ⊤
 IsSilent NoMemory = ⊤
 IsSilent _ = ⊥
 
--- the source was read to its end, where the command reads it
+-- such a status comes only where the source was read to its end, or to byte `most_read`, if the command reads it
 abbrev pub IsPastReading : Status → Type 0
 IsPastReading ReadFault = ⊥
 IsPastReading NoMemory = ⊥

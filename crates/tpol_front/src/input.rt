@@ -11,9 +11,9 @@ const ROOM: usize = 262_144;
 
 /// Reads a source to its end, or to its byte `limit`.
 ///
-/// `Failed` comes only where the source's count of faults rose in this call, and the count rises in no call that
-/// is answered otherwise. `NoMemory` comes where memory ran out. After either the source may have lost bytes, its
-/// first `limit` at most.
+/// `Failed` comes only where the source's count of faults rose in this call, or stands at its last value, and the
+/// count rises in no call that is answered otherwise. `NoMemory` comes where memory ran out. After either the source
+/// may have lost bytes, its first `limit` at most.
 pub fn read_input<S: Source>(alloc: Global, source: &mut S, limit: usize) -> Result<Blob, Lapse>
     ensures whole { IfSome (S.left source.old) (λ held. IfOk result (λ bytes.
         (bytes ≡ take limit held) × (S.left source.new ≡ Some (drop limit held)))) }

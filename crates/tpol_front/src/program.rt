@@ -22,7 +22,7 @@ use tpol_steps::Halt;
 /// is very long, and answers the status. Documents that a command names are on the shelf.
 ///
 /// `left`, `contents` and `documents` are what source, sink and shelf tell that they hold. Each count of faults is
-/// that object's own, and rises at each of its faults.
+/// that object's own, and rises at each of its faults, unless it stands at its last value, 2^64 - 1.
 pub fn run_program<C: Command, S: Source, K: Sink, H: Shelf>(
     alloc: Global,
     words: &Vec<String>,
@@ -49,7 +49,8 @@ pub fn run_program<C: Command, S: Source, K: Sink, H: Shelf>(
         (H.documents shelf.old)
         (λ report. report.answer.lines ≡ [] → out.new ≡ out.old) }
 
-    // Where the source or the shelf failed or memory ran out, the sink was not called, and the shelf is as before.
+    // Where the source or the shelf failed or memory ran out, the sink was not called, and the shelf's documents are as
+    // before.
     ensures silent { IsSilent result → out.new ≡ out.old }
     ensures unchanged { IsSilent result → H.documents shelf.new ≡ H.documents shelf.old }
 
@@ -66,7 +67,8 @@ pub fn run_program<C: Command, S: Source, K: Sink, H: Shelf>(
         ⊎ IsReadableOf C.commands C.IsDocument
         (C.commands.command_of (map string_bytes words.now.items)) (take most_read held)) }
 
-    // Each fault comes only where its object failed in this call, and only of commands that use the object.
+    // Each fault comes only where its object's count of faults rose in this call, or stands at its last value, and
+    // those of the source and of the shelf only of commands that use the object.
     ensures read_fault { result ≡ Status.ReadFault
         → Rose (S.faults source.old) (S.faults source.new) }
     ensures write_fault { result ≡ Status.WriteFault → Rose (K.faults out.old) (K.faults out.new) }

@@ -61,7 +61,7 @@ abbrev pub generated_or : Bool → ℕ → Element
 generated_or swapped pcr =
     Or (if swapped then two_branches (codes "b") (branch_b pcr) (codes "a") branch_a else two_branches (codes "a") branch_a (codes "b") (branch_b pcr))
 
--- so many ORs from a PCR on, in the order of the bits, and PolicyAuthValue behind them
+-- so many ORs from a PCR on, whose branches stand in an order by the bits, and PolicyAuthValue behind them
 unfoldable pub generated_ors : ℕ → ℕ → ℕ → Elements
 generated_ors zero pcr bits = before AuthValue End
 generated_ors (suc n) pcr bits = before (generated_or (bits % 2 == 1) pcr) (generated_ors n (pcr + 1) (bits / 2))

@@ -33,8 +33,8 @@ use tpol_steps::{
 use tpol_store::CompiledApprovals;
 use tpol_tree::{Approvals, Closed};
 
-/// The command `gen`: a policy of so many ORs, in an order by the bits of a number, its paths and its digest, and a
-/// run of it on a machine of its own.
+/// The command `gen`: a policy of so many ORs, whose branches stand in an order by the bits of a number, how many paths
+/// it has and its digest, and a run of it on a machine of its own.
 ///
 /// `Refused` tells that the policy is not filled or not within the limits; `NoMemory` comes where memory ran out, and
 /// nothing else comes.

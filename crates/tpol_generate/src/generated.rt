@@ -20,8 +20,8 @@ use tpol_tree::{ApprovalWishes, Branch, Branches, Element, Elements, PcrValues, 
 /// The handle of the sealed object.
 const HANDLE: u32 = 0x8000_0000;
 
-/// The policy: so many ORs, in the order of the bits of a number, and PolicyAuthValue behind them. It fails only
-/// where memory ran out.
+/// The policy: so many ORs, whose branches stand in an order by the bits of a number, and PolicyAuthValue behind them.
+/// It fails only where memory ran out.
 pub fn generated_policy(alloc: Global, ors: u8, order: u32) -> Result<Policy, NoMemory>
     ensures policy { IfOk result (λ policy. erased_policy policy ≡ generated_policy ors order) }
     ensures branches { IfOk result (λ policy. HasBranchCounts policy.elements) }

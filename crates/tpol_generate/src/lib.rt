@@ -1,5 +1,5 @@
-//! The command `gen`: a policy, a machine and a client that are made here by two numbers, and the run of the one on
-//! the other.
+//! The command `gen`: a policy, a machine and a client that are made here by two numbers, and the client's run of the
+//! policy on the machine.
 //!
 //! The first number says how many ORs the policy has: each has two branches, so that the policy has two to the power
 //! of that many paths. The bits of the second number say in which order the branches of each stand.

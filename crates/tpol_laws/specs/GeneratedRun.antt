@@ -42,7 +42,7 @@ paths_before_b (suc n) bits = (if bits % 2 == 1 then 0 else 2 ^ n) + paths_befor
 
 -- ---- what is printed
 
--- how many commands are executed: the start, two for each OR and PolicyAuthValue, and the goal's
+-- how many commands are executed: the start, two for each OR, PolicyAuthValue, and the goal's
 abbrev pub commands_of_b : ℕ → ℕ
 commands_of_b ors = 2 * ors + 3
 

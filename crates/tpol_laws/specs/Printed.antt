@@ -30,9 +30,9 @@ pub record IsRunTold (staged : StagedScene) (run : RunOf staged.script) (lines :
   pub served_with : IsAlone staged.scenario run.number run.own (behind_begin staged run) → HasTurns staged run
       → (position : ℕ) → BeginsOn staged run position → Contains lines (line_of (end_line run.number (Served (bytes_for staged run))))
 
--- Lines tell a scene: its journal, each command of which is decided and each event of which has its line, and each run;
--- and where openings are told, they explain it: behind the line of each command that was served on an entity whose policy
--- the scene names stands the line of what opened it.
+-- Lines tell a scene: its journal, each event of which has its line, and each command of which that asks for a policy
+-- session is decided; and each run. Where openings are told, they explain it: behind the line of each command that was
+-- served through a policy session, on an entity whose policy the scene names, stands the line of what opened it.
 pub record IsTold (staged : StagedScene) (lines : List (List ℕ)) : Type 0 where
   pub journal : IsJournal staged.setup (performed staged).past lines
   pub runs : (run : RunOf staged.script) → IsRunTold staged run lines

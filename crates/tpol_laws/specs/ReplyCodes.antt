@@ -1,4 +1,4 @@
--- The response code of a reply (TPM 2.0 Part 1, "Response Header").
+-- The response code of a reply (TPM 2.0 Part 1, "Command/Response Structure").
 use Rattle.std.specs.Prelude.{◌≡◌, ℕ, List, drop, replicate, take}
 
 -- it stands in four bytes behind the tag and the size

@@ -160,7 +160,7 @@ pub fn a_run_goes_on()
 /// session, no Reset comes, and each index on which one of its PolicySecret commands is executed is written at
 /// that moment, the facts of its session hash one by one what the moves hash that are done, so they have the
 /// digest of these. Before the goal that is the digest of the path, which is the compiled digest of a policy that
-/// has this path. Where a command of the run does not succeed, the run does not stand on its path any more.
+/// has this path. No clause asks that its commands succeed: each speaks of a run that stands on its path (`place_of`).
 pub fn session_digest_is_compiled()
     ensures hashes { (run : Run) (past : List EventOf) (acts : List Act) (session done : ℕ)
         → IsRun run → AreOthersApart run acts (begun past)
@@ -349,8 +349,8 @@ pub fn journals_are_told()
         (generated_performance order closed).past (generated_performance order closed).lines }
 {}
 
-/// No step of the command `gen` refuses the policy that it makes up, which has two paths for each of its ORs; so the
-/// command prints that many (`generated_answer`). The number of ORs is what `gen` takes, at most 12.
+/// No step of the command `gen` refuses the policy that it makes up, which has as many paths as 2 to the number of its
+/// ORs; so the command prints that many (`generated_answer`). The number of ORs is what `gen` takes, at most 12.
 pub fn gen_has_all_ways()
     ensures answered { (ors order : ℕ) → ors ≤ 12
         → generate_step ors order

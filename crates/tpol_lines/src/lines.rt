@@ -11,9 +11,9 @@ use tpol_texts::Texts;
 
 /// Lines that are printed. Contracts see the list of the lines, each a list of bytes with its line end.
 ///
-/// The line of a command differs from the one before by its number alone where the same command had the same
-/// reply. So what stands behind the number is kept once for such lines: each line is a head, and a tail that
-/// others may share.
+/// The line of a command differs from the one before by its number alone where client, locality, command code, reply
+/// and what became of it are the same. So what stands behind the number is kept once for such lines: each line is a
+/// head, and a tail that others may share.
 #[derive(Drop)]
 pub struct Lines {
     heads: Texts,
@@ -48,7 +48,8 @@ impl Lines {
         }
     }
 
-    /// The one line of these bytes, with its line end; the bytes are not copied.
+    /// The one line of these bytes, with its line end, in their own memory where that has room for it. It fails only
+    /// where memory ran out.
     pub fn of_line(alloc: Global, line: Blob) -> Result<Lines, NoMemory>
         ensures { IfOk result (λ lines. lines ≡ line_of line ∷ []) }
     {

@@ -1,5 +1,6 @@
-//! The lines that no scene brings about, written by hand after the rules of lines: a reply that is none, a code of a
-//! VerifySignature that was judged before, checks that nothing can break between two looks, and digests that break.
+//! Lines that are written by hand after the rules of lines: those of blind runs, and those that no scene brings about:
+//! a reply that is none, a code of a VerifySignature that was judged before, checks that nothing can break between two
+//! looks, and digests that break.
 
 ghost use Rattle.std.specs.Prelude.{IfOk, List};
 ghost use Rattle.tpol_lines.specs.OpeningLine.{IsListed};

@@ -35,8 +35,9 @@ struct Next<'a> {
     before: Digest32,
 }
 
-/// The marks of a policy's elements, where `closed` is the policy with every wish given: those of an OR's branches,
-/// each from the digest before the OR, stand before that of the OR. It fails only where memory ran out.
+/// The marks of a policy's elements, where `closed` is that policy as it is filled, with its large ORs in groups: those
+/// of an OR's branches, each from the digest before the OR, stand before that of the OR. It fails only where memory
+/// ran out. Of another `closed` nothing is promised.
 pub fn marks_of(alloc: Global, policy: &Policy, closed: &Closed) -> Result<Marks, NoMemory>
     ensures { (sight : Option Sight) → erased closed.now ≡ filled policy.now sight
         → IfOk result (λ marks. marks ≡ marks_of sight (erased_policy policy.now)) }

@@ -11,7 +11,7 @@ use tpol_tree::{ClosedBranches, ClosedElement, ClosedElements};
 /// The most branches of one PolicyOR (TPM 2.0 Part 3, PolicyOR).
 const MOST_BRANCHES: usize = 8;
 
-/// The elements of each branch of an OR that was filled, in the order of the document, which has `count` of them.
+/// The elements of each branch of an OR that was filled, in the order of the document, whose OR has `count` branches.
 pub fn ungrouped<'a>(
     alloc: Global,
     branches: &'a ClosedBranches,

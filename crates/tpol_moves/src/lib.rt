@@ -1,8 +1,8 @@
 //! The policy commands of a path, for whoever sends them to a TPM: each on a line with its arguments and with the digest
 //! that a policy session has after it.
 //!
-//! `path_line` is the path's own line, as `paths` prints it, and `push_steps` adds the lines of its commands. The program
-//! above prints both. Each line is a definition over the path, `step_line` of `specs/`.
+//! `path_line` is the path's own line, as `paths` prints it, a definition of tpol_lines, and `push_steps` adds the
+//! lines of its commands, `step_lines` of `specs/`, a definition over its moves. The program above prints both.
 #![tactic(auto)]
 
 mod arguments;

@@ -221,7 +221,7 @@ impl Performance {
         self.tickets_given(alloc, scenario.manner.way(), run.client, sight)
     }
 
-    // The line of the path at this position, on which the run goes.
+    /// Prints the line of the path at this position, on which the run goes. The call fails only where memory ran out.
     pub fn print_chosen(
         &mut self,
         alloc: Global,

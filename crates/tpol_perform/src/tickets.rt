@@ -20,8 +20,8 @@ pub struct Kept {
 }
 
 impl Performance {
-    /// Keeps the tickets that a run of this client has earned, behind those kept before, but those of a PolicySecret
-    /// on an index. The call fails only where memory ran out.
+    /// Keeps the tickets that a run of this client has earned, but none of a PolicySecret on an index, behind those
+    /// kept before. The call fails only where memory ran out.
     pub fn keep(
         &mut self,
         directory: &[DirEntry],

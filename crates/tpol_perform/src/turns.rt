@@ -41,7 +41,8 @@ impl Performance {
         Ok(())
     }
 
-    /// A run has turns to its end, or none where it is over. The call fails only where memory ran out.
+    /// A run has turns to its end; where it is over it has none, and a line tells that. The call fails only where
+    /// memory ran out.
     #[tactic(auto, unfolding(crate::specs::Turns::turned_to_end))]
     pub fn turn_to_end(
         &mut self,

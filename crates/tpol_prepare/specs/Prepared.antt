@@ -14,8 +14,8 @@ use Rattle.tpol_steps.specs.declared.filled.FilledDocument.{FilledDocument}
 use Rattle.tpol_steps.specs.Filled.{erased_filled}
 use Rattle.tpol_steps.specs.Steps.{Step, ◌>>=◌}
 
--- the policies of the entities, and then those that the script begins, each filled with what the machine shows
--- when it starts
+-- the entities with their policies, each filled with what the entities before it show, and the documents that the
+-- script begins, filled with what the machine shows when it starts
 abbrev pub prepared_with : CompiledSetup → List FilledDocument → PreparedScene
 prepared_with compiled begun = record {
   setup = compiled.setup;

@@ -14,7 +14,7 @@ use tpol_steps::{Halt, bad_scene};
 /// The most blind runs that a script begins.
 const MOST_BLIND_RUNS: usize = 8;
 
-/// Ends the run where a script begins more runs than may be driven so: more than eight that are blind.
+/// Ends the command where a script begins more runs than may be driven so: more than eight that are blind.
 ///
 /// `Refused` tells where the event stands that begins the ninth one; `NoMemory` comes where memory for that line ran
 /// out, and nothing else comes.

@@ -13,8 +13,8 @@ use tpol_name::Sight;
 use tpol_steps::{CompiledDocument, FilledDocument, Halt, fill_document};
 use tpol_store::Store;
 
-/// Fills the documents that are named, each once, in the order of their first references. The digests of one that is
-/// the policy of an entity are not computed again.
+/// Fills the documents that are named, each once, in the order of their first references. The digests of one are not
+/// computed again where the policy of the first entity with a policy of its name is seen to be filled the same.
 ///
 /// `Refused` tells what is wrong with the first one that is not filled: the store does not have it, or a place in
 /// it has no value. `NoMemory` comes where memory ran out, and nothing else comes.

@@ -6,9 +6,8 @@
 //! the source and goes through the steps of tpol_steps for all policies that it names: it gives a scene that can be
 //! carried out. For a scene of the shelf they take `sight_of_scene`, which gives what its machine shows when it starts;
 //! `closed_source`, which gives a policy of the source that is filled with that and within limits, with the documents
-//! that are approved;
-//! and `StoreWithScene`, for the same of a policy of the shelf. What is given is a definition in `specs/`, a `Step`; a
-//! refusal is the first fault in the order of these definitions.
+//! that are approved; and `StoreWithScene`, for the same of a policy of the shelf. What is given is a definition in
+//! `specs/`, a `Step`; a refusal is the first fault in the order of these definitions.
 #![tactic(auto)]
 
 mod begins;

@@ -19,9 +19,9 @@ pub enum Way {
 pub enum Manner {
     /// `run`: its events are told.
     Run(Way),
-    /// `explain`: so is by which path of its policy an entity was opened.
+    /// `explain`: its events are told, and by which path of its policy an entity was opened.
     Explain(Way),
-    /// `explain --cert`: so is the certificate of that path. Its runs see the machine.
+    /// `explain --cert`: what `explain` tells, and the certificate of that path. Its runs see the machine.
     Certify,
 }
 

@@ -39,7 +39,7 @@ document_in d place walk = do
 unfoldable pub policy_of : Data → Found (Policy × List Place)
 policy_of d = document_in d root start >>= λ found. Ok (found.0, found.1.notes)
 
--- how many elements the elements of a list are, each counted so
+-- the counts of a list's items together, each counted so
 abbrev pub list_count : (Data → ℕ) → Items → ℕ
 list_count count no_items = 0
 list_count count (item d ds) = count d + list_count count ds
@@ -123,7 +123,7 @@ abbrev pub faults_unless : Found ⊤ → List Fault → List Fault
 faults_unless (Ok is_object) faults = faults
 faults_unless (Err fault) faults = fault ∷ []
 
--- all faults of a document, in reading order
+-- the faults of a document in reading order: of each element of its list and of each authorization the first
 unfoldable pub policy_faults : Data → List Fault
 policy_faults d = faults_unless (object_in d root) (member_faults d root start).0
 

@@ -30,9 +30,9 @@ pub const MAX_ELEMENTS: u32 = 1024;
 /// the members of its row. An element past the 1,024th and an authorization past the eighth are `TooMany`, an
 /// OR inside sixteen others is `TooDeep`, each before anything of it but an OR's type is read.
 ///
-/// Each OR of a policy that is read has 2 to 64 branches, each field is within the bounds of the wire, and each
-/// list of PCR values stands in strictly rising order of the PCRs, whatever the order in which the document has
-/// them.
+/// Each OR of a policy that is read has 2 to 64 branches, each field of its elements is within the bounds of the
+/// wire, and each list of PCR values stands in strictly rising order of the PCRs, whatever the order in which the
+/// document has them.
 pub fn read_policy(alloc: Global, bytes: &[u8]) -> Result<(Policy, Notes), PolicyFault>
     ensures stands { IfOk result
         (λ found. ReadsAsPolicy bytes.now (erased_policy found.0) found.1) }

@@ -69,8 +69,8 @@ impl DriverState {
         }
     }
 
-    // Goes on with the reply in place, where the driver is on one path and the reply does no more than accept a plain
-    // move. Answers whether it did; else nothing changes, and `take` goes on.
+    // Goes on with the reply in place, where the driver is on one path and `Asserting::step` does so. Answers whether
+    // it did; where not, and after `NoMemory`, nothing has changed, and `take` goes on.
     pub fn step(&mut self, alloc: Global, reply: &[u8]) -> Result<bool, NoMemory>
         ensures goes { IfOk result (λ stepped. stepped ≡ true → (reset_count : ℕ)
             → IsBehind (heard_of (driver_of self.old) reset_count reply.now) (Goes self.new)) }

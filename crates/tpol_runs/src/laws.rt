@@ -41,8 +41,10 @@ pub fn runs_are_driven()
         (blind_command_in (blind_drive plan (bytes_of replies))) }
 {}
 
-/// A run is over after as many replies as it has commands at most, whatever they are; on one path those are two for
-/// each move, the start, the goal and the end, and a blind run that has a path to try has so many for each of these.
+/// A run on one path, or a blind one that has a path to try, is over after as many replies as it has commands at most,
+/// whatever they are. On one path those are two for each move, the start, the goal and the end of the session; of a
+/// blind run the start, and for each path that is tried two for each move, the goal, and the PolicyRestart or the end
+/// of the session behind it.
 pub fn runs_end()
     ensures on_path { (client locality : ℕ) (plan : Plan) (replies : List (ℕ × List ℕ))
         → 2 * length plan.path.moves + 3 ≤ length replies

@@ -43,7 +43,7 @@ authorities_in d place = do
 abbrev pub time_in : Data → Place → Found ℕ
 time_in = unsigned_in 0 (2 ^ 62)
 
--- the time and the counts, and whether somebody is at the machine
+-- the time, the counts with the `safe` flag, and whether somebody is at the machine
 unfoldable pub times_in : Data → Place → Found Times
 times_in d place = do
   time ← optional time_in 0 (codes "time") d place
@@ -149,7 +149,7 @@ start_faults d place =
     ++ (faults_of (optional u32_in 0 (codes "pcrCounter") d place)
     ++ times_faults d place))
 
--- the entities, the clients and the events that have no fault; clients and events are read beside those before
+-- the entities and the clients that have no fault, beside which the clients and the events are read
 abbrev pub entities_kept : Data → Place → Entities
 entities_kept d place = optional_kept entity_in no_entities (codes "entities") d place
 
@@ -167,7 +167,7 @@ cast_faults d place =
 abbrev pub script_faults : Data → Place → List Fault
 script_faults d place = optional_faults (list_faults (event_in (cast_kept d place)) no_events) (codes "script") d place
 
--- all faults of a scene, in reading order
+-- the faults of a scene in reading order: of each member, or of each item where it is a list, the first
 unfoldable pub scene_faults : Data → List Fault
 scene_faults d =
     faults_of (object_in d root) ++ (start_faults d root ++ (cast_faults d root ++ script_faults d root))

@@ -107,7 +107,7 @@ begin_in cast runs d place = do
   goal ← needed (goal_in cast.entities) (codes "goal") d place
   Ok (Begin run client locality policy.name policy.place goal)
 
--- so many turns
+-- so many commands
 abbrev pub some_times_in : Data → Place → Found (Option ℕ)
 some_times_in d place = unsigned_in 1 2000 d place >>= λ times. Ok (Some times)
 

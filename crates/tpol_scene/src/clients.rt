@@ -23,7 +23,8 @@ const CLIENTS: usize = 64;
 /// The clients by their numbers, in the order of the scene, with what each may use.
 pub type Clients = Sequence<(u32, Grants)>;
 
-/// The member `clients`: a list of clients, without it none. Their grants are for these entities.
+/// The member `clients`: a list of clients, without it none. Their grants are for these entities. `WrongKind` for what
+/// is no list, and else the first fault of its items: a 65th is `TooMany`, a number that was listed before is `Twice`.
 pub fn optional_clients(
     alloc: Global,
     entities: &Entities,

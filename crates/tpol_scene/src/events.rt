@@ -38,7 +38,8 @@ pub enum EventKind {
     Reset,
 }
 
-/// The member `event`: the kind of an event.
+/// The member `event`: the kind of an event. `Missing` without it, `WrongKind` for what is no text, and `UnknownKind`
+/// for a text that is none of the six words, in these letters.
 pub fn needed_event_kind(
     alloc: Global,
     item: &Value,

@@ -37,7 +37,9 @@ pub enum GoalCommand {
     Duplicate,
 }
 
-/// The member `goal`: the command that a client wants, on one of these entities.
+/// The member `goal`: the command that a client wants, on one of these entities. `Missing` without it, `WrongKind` for
+/// what is no object, and else the first fault of `command` (`UnknownKind` for one that no goal has), of `path`
+/// (`NoSuchPath` for one of no entity that the command takes), and of the command's own members.
 pub fn needed_goal(
     alloc: Global,
     entities: &Entities,

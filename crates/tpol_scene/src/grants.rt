@@ -27,7 +27,9 @@ pub enum GrantKind {
     Key,
 }
 
-/// A member that lists grants of a kind, for these entities. Without it there are none.
+/// A member that lists grants of a kind, for these entities. Without it there are none. `WrongKind` for what is no
+/// list, and else the first fault of its items: a path of no such entity is `NoSuchPath`, one that has its grant
+/// already is `Twice`.
 pub fn optional_grants(
     alloc: Global,
     entities: &Entities,

@@ -60,7 +60,8 @@ pub struct ScriptFront {
     pub runs: Sequence<u16>,
 }
 
-/// The member `script`: a list of events, without it none. They name entities and clients of this cast.
+/// The member `script`: a list of events, without it none. They name entities and clients of this cast. `WrongKind`
+/// for what is no list, and else the first fault of its items, of which one past the 4,096th is `TooMany`.
 pub fn optional_script(
     alloc: Global,
     cast: &Cast,

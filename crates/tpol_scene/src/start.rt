@@ -46,7 +46,8 @@ pub struct StartRest {
     pub times: Times,
 }
 
-/// The time in milliseconds, the counts of resets and restarts, and whether somebody is at the machine.
+/// The time in milliseconds, the counts of resets and restarts with the `safe` flag (TPM 2.0 Part 2,
+/// TPMS_CLOCK_INFO), and whether somebody is at the machine (physical presence).
 #[derive(Clone, Copy)]
 pub struct Times {
     pub time: u64,

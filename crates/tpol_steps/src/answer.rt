@@ -5,7 +5,8 @@ use std::alloc::Global;
 use tpol_base::NoMemory;
 use tpol_lines::Lines;
 
-/// The whole ends of a run: neither the outside nor memory failed.
+/// How a command ends where neither the outside nor memory failed. What each end is says `Status` of tpol_front, which
+/// has the same names.
 #[derive(Clone, Copy)]
 pub enum Verdict {
     Done,

@@ -1,7 +1,7 @@
 use crate::answer::Answer;
 use tpol_base::{Lapse, NoMemory};
 
-/// Why a run ends before the last step of its command.
+/// Why a command ends before its last step.
 #[derive(Drop)]
 pub enum Halt {
     /// The run ends with this answer.

@@ -70,7 +70,7 @@ pub fn check_documents(
     Ok(())
 }
 
-/// The same of documents whose paths a blind run tries: it also ends the run at one that has more than 64.
+/// The same of documents whose paths a blind run tries: the command also ends at one that has more than 64 paths.
 ///
 /// `Refused` tells its name and what is wrong with it, the number first; `NoMemory` comes where memory for that line
 /// ran out, and nothing else comes.

@@ -30,8 +30,8 @@ pub data Refusal : Type 0 where
 abbrev pub Loading : Type 0 → Type 0
 Loading A = Result A Refusal
 
--- a call that gave nothing tells why, unless the shelf failed or memory ran out; it tells of no document that
--- memory ran out for it
+-- a call that gave nothing tells why, unless the shelf failed or memory ran out; want of memory is never told as the
+-- fault of a document
 abbrev pub Tells : {A : Type 0} → StoreFault → Loading A → Type 0
 Tells faults.Failed loading = ⊤
 Tells faults.NoMemory loading = ⊤

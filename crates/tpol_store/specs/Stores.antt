@@ -31,7 +31,7 @@ is_stored_as name document = bytes_eq document.name name
 abbrev pub policy_named : List ℕ → List StoredPolicy → Option Policy
 policy_named name documents = option_map (λ document. document.policy) (find (is_stored_as name) documents)
 
--- each OR of a document has 2 to 64 branches, and each field is within the bounds of the wire
+-- each OR of a document has 2 to 64 branches, and each field of its elements is within the bounds of the wire
 pub record IsReadable (document : StoredPolicy) : Type 0 where
   pub branches : HasBranchCounts document.policy.elements
   pub bounded : HasBounds document.policy

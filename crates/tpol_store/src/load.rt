@@ -21,10 +21,12 @@ impl Store {
     /// Reads all documents of a shelf whose name is a policy's name followed by `.json`, in ascending byte
     /// order of the names without `.json`. A document that is listed and not handed out is passed over.
     ///
-    /// - `Failed`: only where the shelf's count of faults rose.
-    /// - `TooMany`: exactly where more than 1,024 documents are listed; none is fetched then.
+    /// - `Failed`: only where the shelf's count of faults rose, or stands at its last value.
+    /// - `TooMany`: more than 1,024 names of such documents are listed, each counted once.
     /// - `TooLarge`: the first document that is refused has more than 1,048,576 bytes.
-    /// - `Bad`: the first document that is refused is none of a policy.
+    /// - `Bad`: the first document that is refused stands for no policy; its first fault is told.
+    ///
+    /// Where the shelf tells its documents, the last three come exactly there, a lapse aside.
     #[tactic(auto, using(crate::proofs::ListedNames::read_is_loaded))]
     pub fn load<H: Shelf>(alloc: Global, shelf: &mut H) -> Result<Store, StoreFault>
         ensures loaded { IfSome (H.documents shelf.old)

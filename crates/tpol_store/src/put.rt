@@ -13,8 +13,9 @@ use tpol_base::{Lapse, Shelf};
 use tpol_tree::Policy;
 use tpol_write::write_policy;
 
-/// Puts the canonical text of a policy on the shelf, as the document of this name and `.json`. After a lapse
-/// the documents are as before; `Failed` comes only where the shelf's count of faults rose.
+/// Puts the canonical text of a policy on the shelf, as the document of this name followed by `.json`, which it
+/// replaces or adds. After a lapse the documents are as before; `Failed` comes only where the shelf's count of
+/// faults rose, or stands at its last value.
 pub fn put_policy<H: Shelf>(
     alloc: Global,
     shelf: &mut H,

@@ -15,8 +15,8 @@ approved_of (ApproveNv index approved) = Some approved
 
 -- The two hash the same, and an approval approves the same digest. The command code is among what is
 -- hashed, so they are of one kind, where PolicyAuthValue and PolicyPassword count as one. What is not
--- hashed is free: expiration, cpHashA, an approval's signature, and the object of a PolicyDuplicationSelect
--- without includeObject.
+-- hashed is free: expiration, cpHashA, the values of PCRs beside their digest (a fact has none), an approval's
+-- signature, and the object of a PolicyDuplicationSelect without includeObject.
 pub record IsSameMove (act fact : Move) : Type 0 where
   pub hashed : update_of act ≡ update_of fact
   pub approved : approved_of act ≡ approved_of fact

@@ -19,11 +19,8 @@ use crate::ways::Ways;
 use crate::{Events, Opening};
 use std::alloc::Global;
 use tpol_base::NoMemory;
-use tpol_digest::{Memo, memo_of};
+use tpol_digest::{MAX_LEVELS, Memo, memo_of};
 use tpol_tree::{Approvals, Closed, Fact, Facts};
-
-// How many approvals may lie inside one another.
-const MAX_LEVELS: u8 = 4;
 
 /// By which written path the facts of a session lead to the digest of a policy: the first path that they
 /// went, with the event numbers of all facts. Where no path matches, it is the first pair of different

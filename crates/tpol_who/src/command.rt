@@ -13,8 +13,9 @@ use tpol_prepare::{Manner, StagedScene, Way, stage};
 use tpol_steps::{Answer, Halt, Verdict};
 
 /// The command `who`: the scene in the source, with the policies of the shelf, is carried out as `run` does it. Of each
-/// run that its script begins a line tells its number, and behind that a line for each path of its policy whether it can
-/// be gone, and else what stands in its way, with what the machine shows right before the run begins.
+/// run that its script begins a line tells its number, its client, the locality and its policy's name, and behind that
+/// a line for each path of the policy whether it can be gone, and else what stands in its way, with what the machine
+/// shows right before the run begins.
 ///
 /// `Refused` tells the first refusal of the scene or of what it names, as of `run`; `ShelfFailed` comes only where the
 /// shelf failed, and `NoMemory` where memory ran out. The shelf is asked only once the scene was read.

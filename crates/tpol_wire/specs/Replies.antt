@@ -136,7 +136,8 @@ abbrev pub PartsAnswer : ℕ → Parts → Type 0
 PartsAnswer number (Served code values) = number_of_code code ≡ number
 PartsAnswer number (Refusal rc) = Unit {0}
 
--- each field is within its row's bounds, and a refusal has a code and no authorization
+-- each field is within its row's bounds, and an authorization is there exactly where the row has one, within its
+-- bounds; a refusal has a code that is not 0, and no authorization
 abbrev pub FitsReply : Reply → Option ReplyAuth → Type 0
 FitsReply reply auth = PartsFit (parts_of reply) auth
 

@@ -1,4 +1,4 @@
--- The rules that a buffer has to obey to be a command, in their order (TPM 2.0 Part 1, "Command Processing"). Each
+-- The rules that a buffer has to obey to be a command, in their order (TPM 2.0 Part 3, "Command Processing"). Each
 -- is said of the whole buffer, by places; what a reader does is not asked.
 use Rattle.std.specs.Prelude.{◌+◌, ◌==◌, ◌&&◌, ◌||◌, not, ℕ, Bool, true, false, List, [], ◌∷◌, ◌++◌, length, nat_lt, nat_le, Option}
 use Rattle.std.specs.Int.{w8, w16, w32}

@@ -186,7 +186,7 @@ pub enum Command {
         key: Name,
         ticket: Ticket,
     },
-    /// Puts an approved policy in place of a signing key's approval. Table "TPM2_PolicyAuthorize Command".
+    /// Puts a signing key's approval in place of the policy that it approves. Table "TPM2_PolicyAuthorize Command".
     PolicyAuthorize {
         session: u32,
         approved: Digest32,
@@ -194,12 +194,12 @@ pub enum Command {
         key: Name,
         ticket: Ticket,
     },
-    /// Leaves one of several branches. Table "TPM2_PolicyOR Command".
+    /// Goes from the digest of one of several branches to that of the OR. Table "TPM2_PolicyOR Command".
     PolicyOr {
         session: u32,
         digests: Digests,
     },
-    /// Puts an approved policy in place of the digest that an index has. Table "TPM2_PolicyAuthorizeNV Command".
+    /// Puts an index in place of the policy whose digest it has. Table "TPM2_PolicyAuthorizeNV Command".
     PolicyAuthorizeNv {
         authority: u32,
         index: u32,

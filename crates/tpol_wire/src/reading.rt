@@ -129,7 +129,7 @@ fn whole(alloc: Global, bytes: &[u8]) -> Result<Command, WireFault>
     }
 }
 
-/// The command that the bytes spell, or the code of the first rule that they break (TPM 2.0 Part 1,
+/// The command that the bytes spell, or the code of the first rule that they break (TPM 2.0 Part 3,
 /// "Command Processing"). The rules in order:
 ///
 /// 1. the buffer has 10 to 4,096 bytes, and its size field says how many;

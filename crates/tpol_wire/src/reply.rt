@@ -30,7 +30,7 @@ pub enum Reply {
     },
     /// Table "TPM2_PCR_Extend Response".
     PcrExtend,
-    /// The PCRs that are read, and the count of changes of PCRs. Table "TPM2_PCR_Read Response".
+    /// The count of changes of PCRs, the PCRs that are read, and their values. Table "TPM2_PCR_Read Response".
     PcrRead {
         counter: u32,
         mask: u32,

@@ -141,7 +141,7 @@ fn authorized(
 }
 
 /// The tag of a refusal with this code: that of TPM 1.2, TPM_ST_RSP_COMMAND (0x00c4), where the command's tag was
-/// refused, else TPM_ST_NO_SESSIONS (0x8001) (TPM 2.0 Part 1, "Response Structure").
+/// refused, else TPM_ST_NO_SESSIONS (0x8001) (TPM 2.0 Part 2, TPM_ST).
 pub fn refusal_tag(code: u32) -> u16
     ensures tag { result ≡ refusal_tag code }
 {

@@ -128,9 +128,9 @@ fn authorized(out: &mut Blob, fields: &Blob, auth: &ReplyAuth) -> Result<(), NoM
     authorization::write_tail(out, &auth.nonce, auth.attributes, &auth.hmac)
 }
 
-/// The one spelling of a reply with its authorization, where there is one (TPM 2.0 Part 1, "Response
-/// Structure"); a reply whose fields are within their bounds is read again as a reply to its command, and a
-/// refusal as a reply to any.
+/// The one spelling of a reply with its authorization, where there is one (TPM 2.0 Part 1, "Response Structure").
+/// A reply whose fields are within their bounds, with an authorization exactly where its command has one, is read
+/// again as a reply to that command; a refusal without one, whose code is not 0, as a reply to any.
 pub fn write_reply(alloc: Global, reply: &Reply, auth: Option<&ReplyAuth>) -> Result<Blob, NoMemory>
     ensures spelling { IfOk result (λ bytes. bytes
         ≡ spell_reply reply.now (option_copied auth.entry)) }

@@ -20,9 +20,11 @@ use tpol_base::{Blob, Digest32, NoMemory};
 use tpol_tree::{ApprovalWish, IndexWish, KeyWish, Policy};
 
 /// The canonical text of a policy: the text without spaces of its JSON value, with members in ascending byte
-/// order of their names. Every member is written but an absent `cpHashA` and an empty list of authorizations;
-/// types are in upper case with `POLICY` and bytes are lower-case hexadecimal text. PCRs with values stand in the
-/// policy's own order, which rises in a policy that was read, and current PCRs in rising order.
+/// order of their names. Every member that the policy keeps is written but an absent `cpHashA` and an empty list of
+/// authorizations: no `policyDigests` and no `approvedPolicy`. The types of elements are in upper case with `POLICY`,
+/// that of a key's public area is `KEYEDHASH`, those of authorizations are `tpm` and `nv`; bytes are lower-case
+/// hexadecimal text. PCRs with values stand in the policy's own order, which rises in a policy that was read, and
+/// current PCRs in rising order.
 pub fn write_policy(alloc: Global, policy: &Policy) -> Result<Blob, NoMemory>
     ensures text { IfOk result (λ text. text ≡ canonical_text policy.now) }
     // With sixteen ORs inside one another at most it is a document of just that value.

@@ -1,5 +1,5 @@
 //! The handles that commands take for the Names of moves. A complete plan has a handle for each; a Name that
-//! has none gives the null hierarchy, which no command takes.
+//! has none gives the null hierarchy, which none of these commands takes.
 
 ghost use Rattle.std.specs.Prelude.{◌≡◌};
 ghost use Rattle.tpol_driver.specs.Commands.{entity_handle, index_authority, index_handle, key_handle};

@@ -1,4 +1,4 @@
-//! The front of a policy command that takes no authorization: the policy session alone (TPM 2.0 Part 3).
+//! The front of a command that takes no authorization and has one handle, a policy session (TPM 2.0 Part 3).
 
 ghost use Rattle.std.specs.Prelude.{[], ◌∷◌, false};
 ghost use Rattle.tpol_fields.specs.Answers.{ReadsAs};

@@ -1,5 +1,5 @@
-//! The last parameters of TPM2_PolicyTicket and TPM2_PolicyAuthorize: policyRef, the Name of the key or the
-//! entity that gave the ticket, and the ticket (TPM 2.0 Part 3).
+//! The last parameters of TPM2_PolicyTicket and TPM2_PolicyAuthorize: policyRef, the Name of the key that signed or of
+//! the entity that authorized, and the ticket (TPM 2.0 Part 3).
 
 ghost use Rattle.std.specs.Prelude.{◌≤◌};
 ghost use Rattle.tpol_base.specs.ResponseCode.{of_parameter};
