@@ -1,4 +1,5 @@
--- Moves that agree: one command can meet what all of them bind.
+-- Moves that agree, as those of a session's facts do. This says less than that one command can meet what all of them
+-- bind: the Names of a PolicyDuplicationSelect that leaves out the object are not compared.
 use Rattle.std.specs.Prelude.{◌≡◌, ◌==◌, ◌&&◌, ◌||◌, not, List, Option, Some, None, nat_eq, if◌then◌else◌}
 use Rattle.std.specs.Bool.{beq}
 use Rattle.tpol_tree.specs.declared.path.Move.{Move}

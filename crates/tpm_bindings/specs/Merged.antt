@@ -31,6 +31,6 @@ merged facts =
       pcr = has_pcr facts;
     }
 
--- a fact without its event
+-- the fact of this event and this move, with its cpHashA and its deadline in milliseconds
 abbrev pub fact_of : ℕ → Move → Option Digest32 → Option ℕ → Fact
 fact_of event act cp_hash deadline = record { event = event; act = act; cp_hash = cp_hash; deadline = deadline }

@@ -120,7 +120,7 @@ impl Bindings {
         self.localities == u8::MAX || locality < 8 && self.localities >> locality & 1 == 1
     }
 
-    /// Whether a cpHash is set, by PolicyCpHash or by the cpHashA of PolicySecret or PolicySigned.
+    /// Whether a cpHash is set, by PolicyCpHash or by the cpHashA of PolicySecret, PolicySigned or PolicyTicket.
     pub fn sets_cp_hash(&self) -> bool
         ensures { (facts : List OneFact) → self.now ≡ merged facts
             → result ≡ spec.sets_cp_hash facts }
@@ -198,8 +198,8 @@ impl Bindings {
         self.pcr
     }
 
-    /// Why no command can meet what the facts bind: the first rule that they break, and `None` exactly
-    /// where they agree. Of cpHashA and deadlines no rule says anything.
+    /// Why a session can never hold these facts together: the first rule that their moves break, and `None` exactly
+    /// where these agree. Of cpHashA and deadlines no rule says anything.
     pub fn disagreement(&self) -> Option<Disagreement>
         ensures { (facts : List OneFact) → self.now ≡ merged facts
             → result ≡ disagreement (spec.moves_of facts) }

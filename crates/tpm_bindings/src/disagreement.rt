@@ -1,4 +1,4 @@
-/// Why no command can meet what all policy commands of a list bind, in the order of the rules.
+/// Why a session can never hold all policy commands of a list: the rules by which they agree, in their order.
 #[derive(Clone, Copy, PartialEq, Eq)]
 pub enum Disagreement {
     /// Two command codes, where PolicyDuplicationSelect counts as that of Duplicate.

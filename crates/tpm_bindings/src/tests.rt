@@ -1,5 +1,5 @@
-//! Policies that no command can meet, and ones that some command meets: by hand after docs/machine-rules.md, What a
-//! session can never hold.
+//! Lists of assertions that a session can never hold, each of which agrees without its last one: by hand after
+//! docs/machine-rules.md, What a session can never hold.
 
 use crate::{Bindings, Disagreement};
 use std::process::Abort;

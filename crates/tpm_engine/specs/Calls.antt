@@ -1,4 +1,4 @@
--- Runs of a machine: lists of calls, and the journals that they make.
+-- Lists of calls of a machine, and the journals that they make.
 use Rattle.std.specs.Prelude.{ℕ, Bool, List, [], ◌∷◌}
 use Rattle.tpol_name.specs.declared.setup.Setup.{Setup}
 use Rattle.tpm_engine.specs.declared.event.Event.{Event}

@@ -14,8 +14,7 @@ pub record Answered : Type 0 where
 abbrev pub event_of : ℕ → ℕ → List ℕ → Answered → Event
 event_of client locality buffer answered = events.Command client locality buffer answered.reply answered.outcome
 
--- A command succeeds where its reply has the code 0: it is accepted without an authorization, or served with
--- one.
+-- whether a command with this outcome succeeded: it was accepted without an authorization, or served with one
 abbrev pub is_success : Outcome → Bool
 is_success Accepted = true
 is_success Served = true

@@ -111,7 +111,7 @@ policy_rule world session (commands.PolicyOr own digests) = policy_or_rule sessi
 policy_rule world session (commands.PolicyAuthorizeNv authority index own auth) = authorize_nv_rule world session authority index
 policy_rule world session _ = None
 
--- the same on the session that its handle names, which is live
+-- the same on the session that its handle names; TPM_RC_REFERENCE_H0 where that is not live
 abbrev pub policy_command_rule : TableState → Command → Option ℕ
 policy_command_rule tables command =
     option_and_then

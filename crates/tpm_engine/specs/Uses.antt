@@ -54,8 +54,8 @@ abbrev pub is_available : Setup → List Event → Command → Bool
 is_available setup past command =
     option_map_or (λ entity. is_policy_available entity (number_of_command command)) (authorized_entity (view_of setup past) command) false
 
--- the bytes spell a command that is to be authorized by this session: its handles and the session are live,
--- the session is not its own policy session, and a policy session is available
+-- the bytes spell a command that is to be authorized by this session: its handles are there, the session is live and
+-- is not the command's own policy session, and a policy session may authorize the command
 pub record AsksPolicySession (setup : Setup) (past : List Event) (buffer : List ℕ) (command : Command) (session : ℕ) : Type 0 where
   pub reads : reading buffer ≡ Ok command
   pub authorizing : authorizing_session command ≡ Some session

@@ -3,7 +3,7 @@
 use tpm_rules::Outcome;
 use tpol_base::Blob;
 
-/// What happens to a machine, one step each.
+/// What happens to a machine: one command buffer with its answer, or one change of the surroundings.
 #[derive(Drop)]
 pub enum Event {
     /// A client, at a locality from 0 to 4, sent the bytes of a command; the reply, and what became of the
@@ -19,7 +19,8 @@ pub enum Event {
     Time(u32),
     /// Physical presence was set or withdrawn.
     Presence(bool),
-    /// A TPM Reset: sessions end, PCRs and time begin anew, and the reset count rises.
+    /// A TPM Reset: sessions end, PCRs and time begin anew, and the reset count rises unless it stands at its last
+    /// value.
     Reset,
 }
 

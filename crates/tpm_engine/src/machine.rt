@@ -185,7 +185,8 @@ impl Machine {
     }
 
     /// A TPM Reset (TPM 2.0 Part 1, "TPM Reset"), of which it answers the event's number: all sessions end, the
-    /// PCRs are zero and so is their counter, time begins at 0, and the reset count rises. It takes no memory.
+    /// PCRs are zero and so is their counter, time begins at 0, the reset count rises by one unless it stands at its
+    /// last value, and the restart count is 0. It takes no memory.
     pub fn reset(&mut self) -> u32
         requires room { 1 ≤ self.old.spare }
         requires few { length self.old.events < 2 ^ 31 }
@@ -200,7 +201,8 @@ impl Machine {
         number
     }
 
-    /// Makes room for one more event. Nothing else changes.
+    /// Makes room for one more event that is no command, as `advance`, `set_presence` and `reset` ask it. Nothing else
+    /// changes.
     pub fn reserve(&mut self) -> Result<(), NoMemory>
         ensures setup { self.new.setup ≡ self.old.setup }
         ensures events { self.new.events ≡ self.old.events }

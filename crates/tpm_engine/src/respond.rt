@@ -26,8 +26,9 @@ use tpol_tree::Facts;
 use tpol_wire::{Command, Reply, WireFault, write_reply};
 
 impl Tables {
-    /// Prepares the response to what was read of the bytes that a client sends at a locality, as the event of this number;
-    /// nothing changes yet. The reply has the code of the first rule that is broken, in this order, or it succeeds:
+    /// Prepares the response to what was read of the bytes that a client sends at a locality, as the event of this
+    /// number; nothing changes yet. The reply has the code of the first rule that is broken, in this order, or that of
+    /// success:
     ///
     /// 1. the bytes spell a command;
     /// 2. its handles are there;
@@ -116,8 +117,9 @@ impl Tables {
         Ok((reply, closing, first_facts(alloc, command)?))
     }
 
-    /// Carries out the command that was read and prepared, if it succeeds, and closes the use of the policy session that
-    /// authorized it, which tells what that opened. It takes no memory.
+    /// Carries out the command that was read and prepared, if it succeeds, and closes the use of the policy session
+    /// that authorized it. Answers what that session opened; `None` where none authorized the command, or it does not
+    /// succeed. It takes no memory.
     pub fn finish(
         &mut self,
         alloc: Global,

@@ -5,8 +5,8 @@ ghost use Rattle.tpm_pcr.specs.Clock.{clock_info};
 
 use tpol_base::yes_no;
 
-/// A TPM's time and its counters of resets and restarts (TPM 2.0 Part 2, TPMS_TIME_INFO): the time is in
-/// milliseconds, and the clock follows it.
+/// A TPM's time in milliseconds, which its clock shows too, its counters of resets and restarts, and whether the
+/// clock is safe (TPM 2.0 Part 2, TPMS_TIME_INFO).
 #[derive(Clone, Copy, Debug, PartialEq, Eq)]
 pub struct Clock {
     pub time: u64,

@@ -21,7 +21,7 @@ is_approval_ticket proof approved policy_ref key ticket =
     is_verified_ticket proof (approval_hash approved policy_ref) key ticket
 
 -- whether a ticket for PolicyTicket is this machine's: its tag is that of PolicySecret or PolicySigned, its
--- hierarchy is the owner's, and its digest is that of these values since the last TPM Reset
+-- hierarchy is the owner's, and its digest is that of these values at this reset count
 abbrev pub is_auth_ticket : Digest32 → ℕ → ℕ → Option Digest32 → List ℕ → Name → ℕ → ℕ → List ℕ → Bool
 is_auth_ticket proof reset_count deadline cp_hash policy_ref key tag hierarchy ticket =
     (tag == st_auth_secret || tag == st_auth_signed) && hierarchy == rh_owner

@@ -59,7 +59,8 @@ pub struct AuthTicket<'a> {
     pub digest: &'a [u8],
 }
 
-/// Whether a ticket is the one that a machine with this proof made for its values, since its last TPM Reset.
+/// Whether a ticket is one of PolicySecret or PolicySigned in the owner hierarchy, and its digest is the one that a
+/// machine with this proof makes for its values at this reset count.
 pub fn is_auth_ticket(proof: &Digest32, reset_count: u32, ticket: &AuthTicket<'_>) -> bool
     ensures { result ≡ spec.is_auth_ticket proof.now reset_count ticket.now.deadline
         ticket.now.cp_hash ticket.now.policy_ref.now

@@ -11,10 +11,10 @@ use tpm_session::Session;
 use tpol_base::{Blob, Digest32, Name, Rc};
 use tpol_tree::{Assertion, Fact, Move};
 
-/// Ties the session to an entity that another session of the command has authorized, by its authorization value or
-/// by its policy, at a time in milliseconds; the expiration is in seconds. Answers TPM_RC_NONCE, parameter 1, where a nonce is given that is not the
-/// session's, TPM_RC_EXPIRED, parameter 4, where the deadline has passed, and TPM_RC_CPHASH where the slot does
-/// not take the cpHashA.
+/// Ties the session to an entity for which the command was authorized before the call, by the entity's authorization
+/// value or by its policy, at a time in milliseconds; the expiration is in seconds. Answers TPM_RC_NONCE,
+/// parameter 1, where a nonce is given that is not the session's, TPM_RC_EXPIRED, parameter 4, where the deadline
+/// has passed, and TPM_RC_CPHASH where the slot does not take the cpHashA.
 pub fn assert_secret(
     session: &mut Session,
     event: u32,

@@ -17,8 +17,8 @@ use tpol_tree::{Assertion, Fact, Move};
 /// Takes a ticket in the place of the PolicySecret (TPM_ST_AUTH_SECRET, 0x8023) or PolicySigned
 /// (TPM_ST_AUTH_SIGNED, 0x8025) that answered it; times are in milliseconds. Answers TPM_RC_EXPIRED, parameter 1,
 /// where the deadline has passed, TPM_RC_CPHASH where the slot does not take the cpHashA, and TPM_RC_TICKET,
-/// parameter 5, where the ticket is not the one that the machine made under its proof for these values since the
-/// last TPM Reset.
+/// parameter 5, where the tag is neither of the two, the hierarchy is not the owner's, or `ticket` is not the digest
+/// that the machine makes under its proof for these values at this reset count.
 pub fn assert_ticket(
     session: &mut Session,
     event: u32,

@@ -8,7 +8,7 @@ use Rattle.tpol_base.specs.declared.digest.Digest32.{Digest32}
 abbrev pub milliseconds : ℤ → ℕ
 milliseconds expiration = 1000 * unsigned_abs expiration
 
--- what an expiration counts from: with a nonce the session's start, without one the machine's
+-- what an expiration counts from: with a nonce the session's start, without one time 0
 abbrev pub counted_from : ℕ → List ℕ → ℕ
 counted_from start [] = 0
 counted_from start (byte ∷ nonce) = start

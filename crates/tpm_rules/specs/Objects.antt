@@ -30,7 +30,7 @@ hmac_rule public =
 abbrev pub duplicate_rule : ObjectPublic → Option ℕ
 duplicate_rule public = unless (not (has_attribute public.attributes object_fixed_parent)) (rc_attributes + of_handle 1)
 
--- that a key may verify what an HMAC key has signed
+-- of VerifySignature and PolicySigned: that the object is an HMAC key that may sign
 abbrev pub signing_key_rule : ObjectPublic → Option ℕ
 signing_key_rule public = unless (is_signing_key public) (rc_attributes + of_handle 1)
 

@@ -47,9 +47,9 @@ impl<'a> Entity<'a> {
         }
     }
 
-    /// Whether its authorization value may authorize the command of this code: that of an object with
-    /// userWithAuth for all but Duplicate, that of an index with AUTHWRITE for writing and with AUTHREAD for
-    /// the rest.
+    /// Whether its authorization value may authorize the command of this code: that of a hierarchy and of a PCR
+    /// always, that of an object with userWithAuth for all but Duplicate, that of an index with AUTHWRITE for
+    /// NV_Write and NV_Increment and with AUTHREAD for the rest.
     pub fn is_password_available(&self, code: u32) -> bool
         ensures available { result ≡ spec.is_password_available (entity_of self.now) code }
     {

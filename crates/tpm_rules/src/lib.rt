@@ -1,10 +1,11 @@
-//! What each policy command and each protected command of a TPM asks, once, in the order of the TPM library
-//! specification: the machine answers by these rules, and who chooses a way through a policy is judged by
-//! them.
+//! What each policy command, each command on objects, authority over an index and both kinds of authorization ask,
+//! once, in the order of the TPM library specification: the machine answers by these rules, and who chooses a way
+//! through a policy is judged by them. The rules of commands on indices and PCRs stand in `tpm_nv` and `tpm_world`.
 //!
-//! A file a command, under its standard name. In `specs/` a rule is a chain over the list of a session's
-//! facts; the code computes the same chain over the merged bindings, and takes no memory. How an HMAC is
-//! judged is the last parameter of a rule, since the machine compares bytes and the chooser compares keys.
+//! A file for each policy command that has a rule, under its standard name, and one for the commands on objects. In
+//! `specs/` a rule is a chain over the list of a session's facts; the code computes the same chain over the merged
+//! bindings, and takes no memory. How an HMAC is judged is the last parameter of a rule, since the machine compares
+//! bytes and the chooser compares keys.
 #![tactic(auto)]
 
 mod auth_value;

@@ -22,6 +22,6 @@ pub enum Outcome {
     Served,
     /// Its authorization failed.
     Denied(Denial),
-    /// It was refused with another code.
+    /// It did not succeed for any other reason: it was refused with this code.
     Refused(Rc),
 }

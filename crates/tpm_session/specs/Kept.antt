@@ -39,7 +39,7 @@ pub record IsKept (state : SessionState) (digest : Digest32) (bindings : Binding
   pub digests : digest ≡ policy_digest_of state
   pub binds : bindings ≡ merged state.facts
 
--- the counter, where the first PolicyPCR comes by this act
+-- the counter that is kept after this act, at the PCR counter `now`: the one that the first PolicyPCR found
 abbrev pub counter_after : Option ℕ → Move → ℕ → Option ℕ
 counter_after (Some first) act now = Some first
 counter_after None act now = if is_pcr act then Some now else None

@@ -15,8 +15,8 @@ use tpol_base::{Digest32, NoMemory};
 use tpol_digest::digest_after_move;
 use tpol_tree::{Assertion, Fact, Facts, Move};
 
-/// No facts, with the room that a session needs for its 512; the one call beside `Sessions::new` that takes
-/// memory.
+/// No facts, with the room that a session needs for its 512; the one call that takes memory beside those that make
+/// slots, `Sessions::new` and `Table::new`.
 pub fn fresh_facts(alloc: Global) -> Result<Facts, NoMemory>
     ensures { IfOk result (λ facts. facts ≡ []) }
 {

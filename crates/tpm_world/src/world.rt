@@ -159,7 +159,7 @@ impl World {
         }
     }
 
-    /// How often the machine was reset.
+    /// The reset count, which begins at the setup's and rises by one at each Reset up to 4,294,967,295.
     pub fn reset_count(&self) -> u32
         ensures count { result ≡ self.now.reset_count }
     {

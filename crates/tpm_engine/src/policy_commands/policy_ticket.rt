@@ -23,7 +23,8 @@ pub struct PolicyTicket<'a> {
 }
 
 // That the deadline has not passed (TPM_RC_EXPIRED, parameter 1), that the slot takes the cpHashA (TPM_RC_CPHASH),
-// and that the ticket is one of this machine (TPM_RC_TICKET, parameter 5).
+// and that the ticket is this machine's, for these values and the reset count as it is now (TPM_RC_TICKET,
+// parameter 5).
 pub fn rule(
     world: &World,
     session: &Session,

@@ -10,7 +10,8 @@ use tpm_rules::unseal_rule;
 use tpol_base::{NoMemory, Rc};
 use tpol_wire::Reply;
 
-/// That the object is sealed data (TPM_RC_ATTRIBUTES, handle 1).
+/// That the object is sealed data, and that none of restricted, decrypt and sign is set (TPM_RC_ATTRIBUTES,
+/// handle 1).
 pub fn rule(world: &World, handle: u32) -> Result<(), Rc>
     ensures rule { Obeys result (spec.rule world.now handle) }
 {
