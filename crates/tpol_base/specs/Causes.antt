@@ -8,7 +8,7 @@ use Rattle.tpol_base.specs.declared.outside.Lapse.TheVariants.{Failed, NoMemory}
 abbrev pub Rose : ℕ → ℕ → Type 0
 Rose before now = min (before + 1) (2 ^ 64 - 1) ≤ now
 
--- the count did not fall, and the call answered an error only where it rose
+-- the count did not fall, and the call answered an error only where it rose, or stands at its last value
 pub record HasCause {T E : Type 0} (before now : ℕ) (result : Result T E) : Type 0 where
   pub later : before ≤ now
   pub failed : OnErr result (Rose before now)

@@ -15,7 +15,7 @@ length-front zero bytes = refl
 length-front (suc n) [] = ap suc (length-front n [])
 length-front (suc n) (byte ∷ bytes) = ap suc (length-front n bytes)
 
--- the digest of the first 32 bytes
+-- the digest that the first 32 bytes are, with zero bytes where there are fewer; nothing is hashed
 unfoldable pub digest_of_bytes : List ℕ → Digest32
 digest_of_bytes bytes = record { bytes = front 32 bytes; whole = length-front 32 bytes }
 

@@ -1,4 +1,4 @@
--- Handles (TPM 2.0 Part 2, TPM_RH, TPM_RS and TPM_HT): those of the hierarchies, and the kinds of handles.
+-- Handles (TPM 2.0 Part 2, TPM_RH and TPM_HT): some that are always there, and the kinds of handles.
 use Rattle.std.specs.Prelude.{ℕ, Bool, ◌/◌, ◌^◌, ◌==◌, nat_lt, Option, Some, None, if◌then◌else◌}
 use Rattle.tpol_base.specs.declared.handle.HandleKind.{HandleKind}
 use Rattle.tpol_base.specs.declared.handle.HandleKind.TheVariants.{Pcr, Index, PolicySession, Permanent, Object}

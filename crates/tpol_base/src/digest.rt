@@ -16,7 +16,7 @@ impl Digest32 {
     /// 32 zero bytes: the digest that a policy and a session start from.
     pub const ZERO: Digest32 = Digest32 { bytes: [0; 32] };
 
-    /// The digest of these 32 bytes.
+    /// The digest that these 32 bytes are; nothing is hashed.
     pub fn from_slice(bytes: &[u8]) -> Digest32
         requires { length bytes.now ≡ 32 }
         ensures bytes { result.bytes ≡ bytes.now }

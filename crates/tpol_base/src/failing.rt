@@ -13,8 +13,8 @@ ghost use Rattle.tpol_base.specs.Failing.{IsCounted, calls_made, failing_calls, 
 
 use crate::{Blob, Failed, Lapse, Shelf, Sink, Source, Texts};
 
-/// A source, a sink or a shelf over another one that fails at the calls of a list, counted from 1. A call
-/// that fails does nothing but raise the count of faults.
+/// A source, a sink or a shelf that stands over another one, and fails at the calls of a list, counted from 1. Such a
+/// call does not reach the one below: it raises the counts of calls and of faults alone, which stop at 2^64 - 1.
 #[derive(Drop)]
 pub struct Failing<T> {
     inner: T,

@@ -9,7 +9,7 @@ use std::io::{ErrorKind, Read, Write};
 use std::rt::Files;
 use std::{fs, io};
 
-/// How many names of part files are tried: those of imports that run now, and of such as were ended by
+/// How many names of part files are tried. Taken are those of imports that run now, and of such as were ended by
 /// force.
 const PARTS: u32 = 65_536;
 
@@ -49,8 +49,9 @@ fn front_of<F: Read + Drop>(alloc: Global, file: F) -> io::Result<Blob> {
     Err(io::Error::from(ErrorKind::Interrupted))
 }
 
-/// Writes a file of its own beside this one, and puts it in this one's place when all of it is written. Where
-/// that fails the file of its own is taken away, and what stood there before stands there still.
+/// Writes the document into a part file of its own, in the same folder, which is made where it is not there, and puts
+/// that file in the document's place when all of it is written. Where that fails the part file is removed, if it can
+/// be, and the document that stood there before stands there still.
 pub fn write_document<R: Files + AllocGlobal>(
     rt: &R,
     folder: &str,

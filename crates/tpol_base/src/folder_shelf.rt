@@ -17,8 +17,8 @@ use std::rt::Files;
 /// followed, as a folder or a pipe, is no document, and is never opened. A folder that is not there is an
 /// empty shelf; `put` makes it.
 ///
-/// The shelf raises its count by one at each error of the file system but want of memory, and tells nothing
-/// of the content.
+/// The shelf raises its count by one at each call that an error of the file system ends, but for want of memory, and
+/// tells nothing of the content.
 #[derive(Drop)]
 pub struct FolderShelf<R: Files + AllocGlobal + Clone + Drop> {
     rt: R,

@@ -1,4 +1,4 @@
-//! Handles (TPM 2.0 Part 2, TPM_RH, TPM_RS and TPM_HT): those of the hierarchies, and the kinds of handles.
+//! Handles (TPM 2.0 Part 2, TPM_RH and TPM_HT): some that are always there, and the kinds of handles.
 
 ghost use Rattle.std.specs.Prelude.{◌≡◌};
 ghost use Rattle.tpol_base.specs.Handle.{kind_of_handle};

@@ -4,7 +4,7 @@
 //!
 //! Contracts above see a `Sequence` as a list, a `Text` as its bytes, and an object of the outside by two
 //! things: what it tells of its content, and the count of its faults, which never falls. A call of the
-//! outside answers `Failed` only where that count rose in the call.
+//! outside answers `Failed` only where that count rose in the call, or stands at its last value, 2^64 - 1.
 #![tactic(auto)]
 
 pub mod attributes;

@@ -63,7 +63,7 @@ impl Shelf for MemoryShelf {
     }
 }
 
-/// The number of bytes that a shelf hands out at most: one more than a document may have, 1,048,577.
+/// The number of bytes that a shelf hands out of a document at most, 1,048,577: one more than a document may have.
 pub fn most_handed_out() -> usize
     ensures { result ≡ most_handed_out }
 {

@@ -40,9 +40,9 @@ pub trait Source {
     /// How often the source has failed.
     ghost faults: { Self → ℕ };
 
-    /// Reads into `buf`, which is not empty: the number of bytes read, which is 0 at the end of the input
-    /// alone. `Failed` comes only where the count of faults rose in this call, and the count rises by one at
-    /// most, and in no call that is answered `Ok`.
+    /// Reads into `buf`, which is not empty: the number of bytes read, which of a source that tells its bytes is 0 at
+    /// the end of the input alone. `Failed` comes only where the count of faults rose in this call, or stands at its
+    /// last value, 2^64 - 1; the count rises by one at most, and in no call that is answered `Ok`.
     fn read(&mut self, buf: &mut [u8]) -> Result<usize, Failed>
         requires { 0 < length buf.old }
         ensures bound { ReadsAtMost result buf.new }
@@ -60,9 +60,9 @@ pub trait Sink {
     /// How often the sink has failed.
     ghost faults: { Self → ℕ };
 
-    /// Appends all of `bytes`. After `Failed`, which comes only where the count of faults rose in this
-    /// call, a first part of them was appended. The count rises by one at most, and in no call that is
-    /// answered `Ok`. What told its content before tells it afterwards.
+    /// Appends all of `bytes`. After `Failed`, which comes only where the count of faults rose in this call, or stands
+    /// at its last value, 2^64 - 1, a first part of them was appended, which may be empty. The count rises by one at
+    /// most, and in no call that is answered `Ok`. What told its content before tells it afterwards.
     fn write(&mut self, bytes: &[u8]) -> Result<(), Failed>
         ensures written { MatchResult result
             (λ _. Grows (contents self.old) (contents self.new) bytes.now)
@@ -72,8 +72,8 @@ pub trait Sink {
         ensures quiet { OnOk result (faults self.new ≡ faults self.old) };
 }
 
-/// Where documents are kept, by name. `Failed` comes only where the count of faults rose in the call; the
-/// count rises by one at most, and in no other call.
+/// Where documents are kept, by name. `Failed` comes only where the count of faults rose in the call, or stands at its
+/// last value, 2^64 - 1; the count rises by one at most, and in no call that is answered otherwise.
 pub trait Shelf {
     /// The documents, where the shelf tells them.
     ghost documents: { Self → Option (List Document) };

@@ -57,7 +57,7 @@ name_hash_member = needed hash_in (codes "nameAlg")
 unfoldable pub attributes_member : List ℕ → Data → Place → Found ℕ
 attributes_member name = needed u32_in name
 
--- no byte or 32, without it none
+-- no byte or 32; no byte where the member is left out
 unfoldable pub auth_policy_member : Data → Place → Found (List ℕ)
 auth_policy_member = optional empty_or_32 [] (codes "authPolicy")
 

@@ -93,7 +93,7 @@ counter_timer_row d place = do
   operation ← operation_member_in d place
   Ok (CounterTimer operand offset operation)
 
--- whether the object's Name counts too, without it no
+-- whether the object's Name counts too; it does not where the member is left out
 unfoldable pub include_member : Data → Place → Found Bool
 include_member = optional truth_in false (codes "includeObject")
 

@@ -46,7 +46,8 @@ pub struct Entities {
 
 /// The member `entities`: a list of at most 256 entities, without it none; one past them is `TooMany`. An item is an
 /// object with `kind`, `path`, `handle`, `auth`, and `authPolicy` or `policy`, and behind them `attributes`, `secret`
-/// and `unique` of a sealed secret or an HMAC key, and `attributes`, `size` and `content` of an NV index.
+/// and `unique` of a sealed secret or an HMAC key, and `attributes`, `size` and `content` of an NV index. Left out may
+/// be `auth`, `authPolicy`, `policy`, `unique`, `content`, and the `attributes` of a secret or a key.
 /// `Missing`, `WrongKind`, `BadHex` and `BadNumber` stand at the value at fault or missing, `UnknownKind` at a `kind`
 /// that no entity has, `Twice` at a path that a hierarchy or an entity before has, at a handle that an entity before
 /// has, and at a `policy` beside `authPolicy`; `BadState` stands at attributes, a size or a content that no index

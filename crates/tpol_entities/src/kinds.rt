@@ -46,7 +46,8 @@ impl EntityKind {
     }
 }
 
-/// The kind that a text names: `seal`, `key` or `nv`, exactly so.
+/// The kind that a text names: `seal`, `key` or `nv`, exactly so. Another text is `UnknownKind`, and a value of another
+/// JSON kind is `WrongKind`.
 pub fn kind_of(alloc: Global, value: &Value, place: &PlaceRef<'_>) -> Result<EntityKind, PartFault>
     ensures { Gives result (kind_in (view value.now) place.now) }
 {

@@ -34,7 +34,7 @@ pub fn optional_auth(
     }
 }
 
-/// The member of this name as a number of 32 bits. Without it, it is `Missing` at its place; `WrongKind` and
+/// The member of this name as a number of 32 bits. `Missing` stands at its place where it is left out; `WrongKind` and
 /// `BadNumber` come as of `tpol_json::number_of`.
 pub fn needed_u32(
     alloc: Global,
@@ -48,7 +48,7 @@ pub fn needed_u32(
     unsigned_32(alloc, number, &place).map_err(PartFault::from)
 }
 
-/// The member of this name as at most `limit` bytes. Without it, it is `Missing` at its place; more bytes are
+/// The member of this name as at most `limit` bytes. `Missing` stands at its place where it is left out; more bytes are
 /// `BadHex`; `WrongKind`, `BadHex` and `BadNumber` come as of `tpol_json::bytes_of`.
 pub fn needed_bytes(
     alloc: Global,

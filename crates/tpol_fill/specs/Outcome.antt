@@ -6,7 +6,7 @@ use Rattle.tpol_fill.specs.declared.fault.FillFault.TheVariants.{Bad, NoMemory}
 use Rattle.tpol_fill.specs.declared.fault.FillKind.{FillKind}
 use Rattle.tpol_json.specs.declared.place.Place.{Place}
 
--- a place that has no value, and why
+-- what is wrong, and at which place
 abbrev pub Fault : Type 0
 Fault = FillKind × Place
 

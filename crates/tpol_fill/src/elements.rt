@@ -34,13 +34,14 @@ use tpol_tree::{
     Elements, Policy,
 };
 
-/// The policy with every wish given (see `filled`), or the first place that has no value: places are those
-/// of the document's canonical text, `policy[k]`, then the member.
+/// The policy with every wish given, and each OR of more than eight branches as an OR of groups (see `filled`), or the
+/// first place that is at fault: places are those of the document's canonical text, `policy[k]`, then the member.
+/// `NoMemory` may come in place of either.
 ///
 /// - `NoSuchPath`: no entity of the wanted kind has the path: any entity or hierarchy for `objectPath` and
 ///   `namePaths`, an object for `keyPath` and `newParentPath`, an index for `nvPath`. Without a sight only the
 ///   hierarchies `HS`, `HE` and `LOCKOUT` are there.
-/// - `NoSuchPcr`: a PCR above 23, or a current value without a sight.
+/// - `NoSuchPcr`: a PCR above 23, or a current value that the sight does not have, as where there is no sight.
 /// - `NotKeyedHash`: a key's path or public area is not an HMAC key with the attribute sign.
 /// - `VoidPrefix`: a POLICYAUTHORIZE or POLICYAUTHORIZENV has an element before it in its list, or before a
 ///   POLICYOR that encloses it. It comes before the other kinds at that element.

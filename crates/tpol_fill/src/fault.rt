@@ -7,7 +7,7 @@ use std::alloc::{AllocFailed, Global};
 use tpol_base::NoMemory;
 use tpol_json::{Place, PlaceRef};
 
-/// What has no value at a place of a policy.
+/// What is wrong at a place of a policy: there is no value of the wanted kind, or an approval is void.
 #[derive(Clone, Copy, Debug, PartialEq, Eq)]
 pub enum FillKind {
     /// No entity of the wanted kind has the path.
@@ -23,7 +23,7 @@ pub enum FillKind {
 /// Why a policy is not filled.
 #[derive(Drop)]
 pub enum FillFault {
-    /// A place has no value of the wanted kind.
+    /// The first place in the order of the document at which something is wrong.
     Bad { kind: FillKind, place: Place },
     /// Memory ran out.
     NoMemory,

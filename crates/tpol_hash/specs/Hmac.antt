@@ -16,7 +16,7 @@ block_key key = short_key key ++ replicate (64 - length (short_key key)) 0
 abbrev pub padded_key : List ℕ → ℕ → List ℕ
 padded_key key pad = map (λ byte. bit_xor byte pad) (block_key key)
 
--- H((K0 xor opad) || H((K0 xor ipad) || text)), where ipad is the byte 36 and opad the byte 5c
+-- H((K0 xor opad) || H((K0 xor ipad) || text)), where ipad is the byte 0x36 and opad the byte 0x5c
 abbrev pub hmac_sha256 : List ℕ → List ℕ → Digest32
 hmac_sha256 key text =
     sha256_digest (padded_key key 0x5c ++ sha256 (padded_key key 0x36 ++ text))

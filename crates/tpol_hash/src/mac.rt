@@ -11,10 +11,12 @@ use tpol_base::Digest32;
 /// The block of SHA-256 in bytes.
 const BLOCK: usize = 64;
 
-/// The byte that the inner key is padded with, `ipad` in the standard.
+/// The byte that each byte of the key's block is combined with by exclusive or for the inner hash, `ipad` in the
+/// standard.
 const INNER_PAD: u8 = 0x36;
 
-/// The byte that the outer key is padded with, `opad` in the standard.
+/// The byte that each byte of the key's block is combined with by exclusive or for the outer hash, `opad` in the
+/// standard.
 const OUTER_PAD: u8 = 0x5c;
 
 /// A running HMAC over SHA-256 (FIPS 198-1).
@@ -69,7 +71,7 @@ impl Mac {
 }
 
 /// The block that an HMAC makes of its key, `K0` in the standard: the key, or its digest where it is longer
-/// than a block of 64 bytes, with zero bytes behind it. Two keys of one block give the same HMACs.
+/// than a block of 64 bytes, with zero bytes behind it. Two keys that are made into the same block give the same HMACs.
 pub fn key_block(key: &[u8]) -> [u8; BLOCK]
     ensures { result ≡ block_key key.now }
 {

@@ -27,7 +27,7 @@ abbrev pub truth_of_text : Option Bool → Option ℤ → Place → FoundValue B
 truth_of_text (Some truth) n place = Ok truth
 truth_of_text None n place = truth_of_number n place
 
--- a truth value: a JSON one, one of those words, or the number 1 or 0
+-- a truth value: a JSON one, one of those words, or the number 1 or 0, which may be a text of `0x` and digits
 abbrev pub truth_in : Data → Place → FoundValue Bool
 truth_in null place = bad WrongKind place
 truth_in (boolean b) place = Ok b

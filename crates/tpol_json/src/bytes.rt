@@ -13,10 +13,10 @@ use serde_json::Value;
 use std::alloc::Global;
 use tpol_base::Blob;
 
-/// Reads bytes: a text of an even number of hexadecimal digits of any case, with or without `0x` in
-/// front, or a list of whole numbers from 0 to 255. `place` is where the value stands. `WrongKind`
-/// stands there for a value that is neither text nor list, `BadHex` for any other text, and
-/// `BadNumber` stands at the first item that is no such number.
+/// Reads bytes: a text of an even number of hexadecimal digits of any case, with or without `0x` in front, or a list of
+/// whole numbers from 0 to 255, each a JSON number or a text as of `number_of`. `place` is where the value stands.
+/// `WrongKind` stands there for a value that is neither text nor list, `BadHex` for any other text, and `BadNumber`
+/// stands at the first item, of whatever kind, that is no such number.
 pub fn bytes_of(alloc: Global, value: &Value, place: &Place) -> Result<Blob, JsonFault>
     ensures { Gives result (bytes_in (view value.now) place.now) }
 {

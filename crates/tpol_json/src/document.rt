@@ -13,7 +13,8 @@ use thiserror::Error;
 /// Why bytes are not read as a JSON document.
 #[derive(Clone, Copy, Debug, PartialEq, Eq, Error)]
 pub enum ParseFault {
-    /// The bytes are no UTF-8, or the text is no JSON (RFC 8259).
+    /// The bytes are no UTF-8, or the text is no JSON (RFC 8259) or one that `parse` does not take, as one that is
+    /// nested past 127.
     #[error("the document is no JSON text")]
     NotJson,
     /// Memory ran out.
@@ -21,9 +22,9 @@ pub enum ParseFault {
     NoMemory,
 }
 
-/// Reads a JSON document. Of a repeated member the last value counts. NotJson comes exactly where
-/// the bytes are not the UTF-8 of a JSON text that `serde_json` reads: a byte-order mark, a lone
-/// surrogate, a number too large for a float and lists or objects nested past 127 are refused.
+/// Reads a JSON document. Of a repeated member the last value counts. `NotJson` comes where the bytes are not the
+/// UTF-8 of a JSON text that `serde_json` reads, and only there: a byte-order mark, a lone surrogate, a number too
+/// large for a float and lists or objects nested past 127 are refused. `NoMemory` may come in place of any answer.
 pub fn parse(alloc: Global, bytes: &[u8]) -> Result<Value, ParseFault>
     ensures value { IfOk result (λ v. document_of bytes.now ≡ Some (view v)) }
     ensures nests { IfOk result (λ v. depth (view v) ≤ max_depth) }

@@ -25,7 +25,8 @@ pub enum JsonKind {
     WrongKind,
     /// A text that is not an even number of hexadecimal digits.
     BadHex,
-    /// A number, or a text in place of one, that is none of those wanted.
+    /// A number, or a text in place of one, that is none of those wanted; in a list of bytes any item that is no number
+    /// from 0 to 255.
     BadNumber,
 }
 

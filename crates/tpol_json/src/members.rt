@@ -22,7 +22,8 @@ pub fn member<'a>(value: &'a Value, name: &str) -> Option<&'a Value>
     value.get(name)
 }
 
-/// A member that has to be there, with its place; without it, it is `Missing` at that place.
+/// The member of that name, which has to be there, and its place. `Missing` stands at that place where the value is
+/// no object, or one without that member.
 pub fn needed<'a>(
     alloc: Global,
     value: &'a Value,
@@ -123,7 +124,8 @@ pub fn items<'a>(
     }
 }
 
-/// An item of this position, counted from 0, is `TooMany` where a list may have at most `limit`.
+/// Whether a list that may have at most `limit` items may have one at this position, counted from 0. Where it may
+/// not, `TooMany` stands at `place`.
 pub fn check_limit(
     alloc: Global,
     index: usize,

@@ -12,9 +12,10 @@ use serde_json::Value;
 use std::alloc::Global;
 use tpol_base::Text;
 
-/// Reads a truth value: the JSON words `true` and `false`, the texts `true`, `false`, `YES` and `NO`
-/// in any case, and the numbers 1 and 0. `place` is where the value stands, and where a fault stands:
-/// `WrongKind` for `null`, a list and an object, and `BadNumber` for any other text or number.
+/// Reads a truth value: the JSON words `true` and `false`, the texts `true`, `false`, `YES` and `NO` in any case, and
+/// the numbers 1 and 0, each also as a text of `0x` and hexadecimal digits, as `number_of` reads it. `place` is where
+/// the value stands, and where a fault stands: `WrongKind` for `null`, a list and an object, and `BadNumber` for any
+/// other text or number.
 pub fn truth_at(alloc: Global, value: &Value, place: &PlaceRef<'_>) -> Result<bool, JsonFault>
     ensures { Gives result (truth_in (view value.now) place.now) }
 {

@@ -32,7 +32,8 @@ pub fn text(alloc: Global, value: &Value, place: &PlaceRef<'_>) -> Result<Text, 
 }
 
 /// A truth value: the JSON words `true` and `false`, the texts `true`, `false`, `YES` and `NO` in any case, and the
-/// numbers 1 and 0. `WrongKind` for `null`, a list and an object, and `BadNumber` for any other text or number.
+/// numbers 1 and 0, each also as a text of `0x` and hexadecimal digits, as `number_of` reads it. `WrongKind` for
+/// `null`, a list and an object, and `BadNumber` for any other text or number.
 pub fn truth(alloc: Global, value: &Value, place: &PlaceRef<'_>) -> Result<bool, MemberFault>
     ensures { Gives result (truth_in (view value.now) place.now) }
 {

@@ -47,7 +47,8 @@ fn find_word<T: Copy>(text: &str, prefix: &str, words: &[(&str, T)]) -> Option<T
     None
 }
 
-/// The same of a value that is a text; None for any other value.
+/// Of these words the first that the value is a text of, in any case and with or without the prefix: what it stands
+/// for. None for a text that is none of them, and for a value that is no text.
 pub fn word_in<T: Copy>(value: &Value, prefix: &str, words: &[(&str, T)]) -> Option<T>
     ensures { result ≡ word_in prefix.now (map (λ word. (word.0.now, word.1)) words.now)
         (view value.now) }
@@ -58,8 +59,8 @@ pub fn word_in<T: Copy>(value: &Value, prefix: &str, words: &[(&str, T)]) -> Opt
     }
 }
 
-/// What the first of these words that a text is stands for; None for a text that is none of them. A value of
-/// another JSON kind is `WrongKind`.
+/// Of these words the first that the value is a text of, in any case and with or without the prefix: what it stands
+/// for. None for a text that is none of them. A value of another JSON kind is `WrongKind`.
 pub fn word<T: Copy>(
     alloc: Global,
     value: &Value,

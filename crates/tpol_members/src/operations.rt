@@ -39,8 +39,8 @@ fn operation_number(
     }
 }
 
-/// A command, by its name or its code. `WrongKind` for a value that is neither text nor number,
-/// `BadNumber` for a name that is not known and for a number of more than 32 bits.
+/// A command, by its name or its code. `WrongKind` for a value that is neither text nor number, `BadNumber` for another
+/// text, and for a number that is not whole, is below zero or has more than 32 bits.
 pub fn code(alloc: Global, value: &Value, place: &PlaceRef<'_>) -> Result<u32, ElementFault>
     ensures { Gives result (code_in (view value.now) place.now) }
 {

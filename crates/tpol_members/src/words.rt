@@ -10,8 +10,8 @@ use serde_json::Value;
 use std::alloc::Global;
 use tpol_json::{PlaceRef, refuse, word};
 
-/// One of these words and nothing else. Another text is refused with the kind given, a value of another
-/// JSON kind with `WrongKind`.
+/// What the first of these words stands for that the value is a text of, in any case and with or without the prefix.
+/// Another text is refused with the kind given, a value of another JSON kind with `WrongKind`.
 pub fn only_word<T: Copy>(
     alloc: Global,
     value: &Value,

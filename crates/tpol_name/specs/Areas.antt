@@ -47,7 +47,7 @@ is_written attributes = has_attribute attributes nv_written
 abbrev pub with_written : NvPublic → NvPublic
 with_written public = record public { attributes = bit_or public.attributes nv_written }
 
--- whether an object is an HMAC key that may sign
+-- whether an object is an HMAC key, by its scheme, and then whether it is one that may sign, by its attribute too
 abbrev pub is_hmac : Scheme → Bool
 is_hmac Sealed = false
 is_hmac HmacKey = true

@@ -24,7 +24,7 @@ pub enum Scheme {
 }
 
 /// The public area of a keyed-hash object (TPM 2.0 Part 2, TPMT_PUBLIC): its attributes (TPMA_OBJECT), an
-/// authPolicy of 0 or 32 bytes, and a unique field of 0 or 32 bytes. The name algorithm is SHA-256.
+/// authPolicy of 0 or 32 bytes, its scheme, and a unique field of 0 or 32 bytes. The name algorithm is SHA-256.
 #[derive(Clone, Drop)]
 pub struct ObjectPublic {
     pub attributes: u32,

@@ -11,8 +11,8 @@ use tpol_base::{Blob, Digests, NoMemory};
 /// The number of sessions that a machine can keep alive.
 const SESSIONS: u32 = 64;
 
-/// What a machine shows at one moment, its secret values too: the values of a `Setup` as they are now, and
-/// how many sessions can still be started. The entities have their Names beside them.
+/// What a machine shows at one moment, its secret values too: the values of a `Setup` as they are now, but the seed of
+/// its nonces, and how many sessions can still be started. The entities have their Names beside them.
 #[derive(Drop)]
 pub struct Sight {
     pub objects: NamedObjects,

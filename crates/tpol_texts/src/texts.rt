@@ -90,8 +90,8 @@ impl Texts {
         Ok(())
     }
 
-    /// Has a text as the last one, and answers its index, counted from 0: it is added where the last one is another.
-    /// After `NoMemory` the texts are as before.
+    /// Makes this text the last one, and answers its index, counted from 0: it is added at the end, but not where the
+    /// last text is the same. After `NoMemory` the texts are as before.
     pub fn keep(&mut self, text: &[u8]) -> Result<usize, NoMemory>
         ensures kept { IfOk result (λ index. slice_get self.new index ≡ Some text.now) }
         ensures last { IfOk result (λ index. index + 1 ≡ length self.new) }
@@ -111,7 +111,7 @@ impl Texts {
         Ok(index)
     }
 
-    /// Leaves the first texts alone, so many.
+    /// Keeps the first `count` texts and drops the others.
     pub fn truncate(&mut self, count: usize)
         requires { count ≤ length self.old }
         ensures { self.new ≡ take count self.old }

@@ -49,7 +49,7 @@ ParentHasBounds (parents.Path path) = ⊤
 ParentHasBounds (parents.Public text) = ⊤
 ParentHasBounds (parents.Named name) = NameHasBounds name
 
--- a set of PCRs has 32 bits; those that there are not are refused when they are filled
+-- a set of PCRs has 32 bits; those above 23, which are not there, are refused when the policy is filled
 abbrev pub PcrsHaveBounds : PcrWish → Type 0
 PcrsHaveBounds (pcrs.Values values) = ⊤
 PcrsHaveBounds (pcrs.Current mask) = mask < 2 ^ 32

@@ -1,4 +1,4 @@
--- Facts about closed policies.
+-- What may hold of closed policies.
 use Rattle.std.specs.Prelude.{ℕ, ◌+◌, ◌≤◌, Bool, false, IsTrue, ⊤}
 use Rattle.tpol_tree.specs.declared.closed.Assertion.{Assertion}
 use Rattle.tpol_tree.specs.declared.closed.ClosedElements.{ClosedElements}
@@ -50,7 +50,7 @@ abbrev mutual
   ApprovalsLeadBranches leads EndBranches = ⊤
   ApprovalsLeadBranches leads (MoreBranches' p name elements q rest) = ApprovalsLead leads elements × ApprovalsLeadBranches leads rest
 
--- a fact of each element, at any depth
+-- P holds of each element, at any depth
 abbrev mutual
   pub EachElement : (ClosedElement → Type 0) → ClosedElements → Type 0
   EachElement P End = ⊤
@@ -64,7 +64,7 @@ abbrev mutual
   EachElementOfBranches P EndBranches = ⊤
   EachElementOfBranches P (MoreBranches' p name elements q rest) = EachElement P elements × EachElementOfBranches P rest
 
--- a fact of each assertion, at any depth
+-- P holds of each assertion, at any depth
 abbrev mutual
   pub EachAssertion : (Assertion → Type 0) → ClosedElements → Type 0
   EachAssertion P End = ⊤

@@ -1,4 +1,4 @@
--- Facts about policies as they are written.
+-- What may hold of policies as they are written.
 use Rattle.std.specs.Prelude.{ℕ, ◌+◌, ◌≤◌, ⊤}
 use Rattle.tpol_tree.specs.declared.policy.Branches.{Branches}
 use Rattle.tpol_tree.specs.declared.policy.Branches.TheVariants.{More' as MoreBranches', End as EndBranches}
@@ -7,7 +7,7 @@ use Rattle.tpol_tree.specs.declared.policy.Element.TheVariants.{Or}
 use Rattle.tpol_tree.specs.declared.policy.Elements.{Elements}
 use Rattle.tpol_tree.specs.declared.policy.Elements.TheVariants.{More', End}
 
--- a fact of each element, at any depth
+-- P holds of each element, at any depth
 abbrev mutual
   pub EachElement : (Element → Type 0) → Elements → Type 0
   EachElement P End = ⊤

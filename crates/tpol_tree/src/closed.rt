@@ -6,8 +6,8 @@ ghost use Rattle.std.proofs.Common.{rules};
 use std::alloc::Global;
 use tpol_base::{Blob, Compare, Digest32, Digests, ExactClone, Name, NoMemory, Text};
 
-/// One policy assertion with every argument given: what one policy command of TPM 2.0 Part 3 adds to a
-/// policy's digest.
+/// One policy assertion with every argument given: what one policy command of TPM 2.0 Part 3 hashes into
+/// policyDigest, and what it asks besides, as a cpHashA and an expiration.
 #[derive(Clone, Drop)]
 pub enum Assertion {
     /// PolicyPCR: the selected PCRs (bit n for PCR n), the SHA-256 of their values joined in rising order,
@@ -49,7 +49,8 @@ pub enum Assertion {
     CommandCode(u32),
     /// PolicyLocality: a set of localities, bit n for locality n.
     Locality(u8),
-    /// PolicyCpHash: the digest of the command's parameters.
+    /// PolicyCpHash: the cpHash of the one command that is allowed: the digest of its code, the Names of its handles
+    /// and its parameters.
     CpHash(Digest32),
     /// PolicyNameHash: the digest of the Names of the command's handles.
     NameHash(Digest32),

@@ -15,15 +15,15 @@ pub enum Move {
     Assert(Assertion),
     /// PolicyOR with the digests of all branches.
     Or(Digests),
-    /// PolicyAuthorize: the key's Name, policyRef, the approved policy's digest, and the signature over
-    /// both, which is 32 zero bytes in a fact and on an outside path (`approved` too is zero there).
+    /// PolicyAuthorize: the key's Name, policyRef, the approved policy's digest, and the signature over that digest and
+    /// policyRef. In a fact the signature is 32 zero bytes; on an outside path so are both it and `approved`.
     Approve {
         key: Name,
         policy_ref: Blob,
         approved: Digest32,
         signature: Digest32,
     },
-    /// PolicyAuthorizeNV: the index's Name and the approved policy's digest.
+    /// PolicyAuthorizeNV: the index's Name and the approved policy's digest, which is 32 zero bytes on an outside path.
     ApproveNv {
         index: Name,
         approved: Digest32,

@@ -40,7 +40,7 @@ pub enum Elements {
 #[derive(Drop)]
 #[cycle(policy)]
 pub enum Element {
-    /// POLICYOR: 2 to 8 branches.
+    /// POLICYOR: 2 to 64 branches; more than 8 become groups when the policy is filled.
     Or(Branches),
     /// POLICYPCR.
     Pcr(PcrWish),
