@@ -145,13 +145,14 @@ try() {
 
 # Puts the canonical text that the try has printed, without its line feed, into the folder in one step.
 put_document() {
-    local part
-    mkdir -p policies 2>/dev/null && part=$(mktemp "policies/.$1.XXXXXX" 2>/dev/null) || return
-    if head -c -1 "$room/printed" >"$part" 2>/dev/null && chmod "$(printf %o $((0666 & ~0$(umask))))" "$part" &&
-        mv -T "$part" "policies/$1.json" 2>/dev/null; then
+    mkdir -p policies 2>/dev/null && half_made=$(mktemp "policies/.$1.XXXXXX" 2>/dev/null) || return
+    if head -c -1 "$room/printed" >"$half_made" 2>/dev/null && chmod "$(printf %o $((0666 & ~0$(umask))))" "$half_made" &&
+        mv -T "$half_made" "policies/$1.json" 2>/dev/null; then
+        half_made=
         return 0
     fi
-    rm -f "$part"
+    rm -f "$half_made"
+    half_made=
     return 1
 }
 
