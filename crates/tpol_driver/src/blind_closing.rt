@@ -1,6 +1,6 @@
 //! The end of a blind run's session.
 
-ghost use Rattle.std.specs.Prelude.{◌≡◌, IfOk};
+ghost use Rattle.std.specs.Prelude.{◌≡◌, IfOk, IfErr};
 ghost use Rattle.tpol_driver.specs.Blind.{Closing, blind_hears, blind_sends};
 ghost use Rattle.tpol_driver.specs.BlindStates.{IsBlindNext, IsBlindSent};
 
@@ -46,11 +46,14 @@ impl BlindClosing {
         sent_bytes(alloc, command)
     }
 
-    /// Ends the run with the end that is known, whatever is answered. It takes no memory.
-    pub fn take(self, reply: &[u8]) -> BlindNext
-        ensures next { IsBlindNext self.plan (blind_hears self.plan self.standing reply.now) result }
+    /// Ends the run with the end that is known, whatever is answered. With `NoMemory` the state comes back unchanged;
+    /// but no memory is taken here.
+    pub fn take(self, _alloc: Global, reply: &[u8]) -> Result<BlindNext, (BlindClosing, NoMemory)>
+        ensures next { IfOk result
+            (IsBlindNext self.plan (blind_hears self.plan self.standing reply.now)) }
+        ensures back { IfErr result (λ refused. refused.0 ≡ self) }
     {
         let BlindClosing { end, .. } = self;
-        BlindNext::Over(BlindOver { end })
+        Ok(BlindNext::Over(BlindOver { end }))
     }
 }

@@ -1,6 +1,6 @@
 //! The end of a run's session.
 
-ghost use Rattle.std.specs.Prelude.{◌≡◌, ◌++◌, IfOk};
+ghost use Rattle.std.specs.Prelude.{◌≡◌, ◌++◌, IfOk, IfErr};
 ghost use Rattle.tpol_driver.specs.Driving.{Closing as StandsClosing, earned_by, hears, sends};
 ghost use Rattle.tpol_driver.specs.States.{IsNext, IsSent};
 
@@ -61,13 +61,15 @@ impl Closing {
         sent_bytes(alloc, command)
     }
 
-    /// Ends the run with the end that is known, whatever is answered. It takes no memory.
-    pub fn take(self, reply: &[u8]) -> Next
-        ensures next { IsNext self.plan
-            (self.earned ++ earned_by self.plan self.standing reply.now)
-            (hears self.plan self.standing reply.now) result }
+    /// Ends the run with the end that is known, whatever is answered. With `NoMemory` the state comes back unchanged;
+    /// but no memory is taken here.
+    pub fn take(self, _alloc: Global, reply: &[u8]) -> Result<Next, (Closing, NoMemory)>
+        ensures next { IfOk result
+            (IsNext self.plan (self.earned ++ earned_by self.plan self.standing reply.now)
+            (hears self.plan self.standing reply.now)) }
+        ensures back { IfErr result (λ refused. refused.0 ≡ self) }
     {
         let Closing { end, earned, .. } = self;
-        Next::Over(Over { end, earned })
+        Ok(Next::Over(Over { end, earned }))
     }
 }

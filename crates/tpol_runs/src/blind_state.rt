@@ -61,6 +61,9 @@ pub fn blind_take(
             Ok(next) => Ok(next),
             Err((again, no_memory)) => Err((BlindState::Again(again), no_memory)),
         },
-        BlindState::Closing(closing) => Ok(closing.take(reply)),
+        BlindState::Closing(closing) => match closing.take(alloc, reply) {
+            Ok(next) => Ok(next),
+            Err((closing, no_memory)) => Err((BlindState::Closing(closing), no_memory)),
+        },
     }
 }

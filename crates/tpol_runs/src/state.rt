@@ -52,6 +52,9 @@ pub fn take(state: State, alloc: Global, reply: &[u8]) -> Result<Next, (State, N
             Ok(next) => Ok(next),
             Err((ready, no_memory)) => Err((State::Ready(ready), no_memory)),
         },
-        State::Closing(closing) => Ok(closing.take(reply)),
+        State::Closing(closing) => match closing.take(alloc, reply) {
+            Ok(next) => Ok(next),
+            Err((closing, no_memory)) => Err((State::Closing(closing), no_memory)),
+        },
     }
 }
